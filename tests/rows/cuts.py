@@ -57,7 +57,7 @@ class Event(NamedTuple):
 
 def event_of(line):
     words = line.split(b" ", 2 if line.startswith(b"client ") else 1)
-    if words[0] not in (b"leader", b"client") or words[-1] in (b"up", b"end"):
+    if words[0] not in (b"leader", b"client") or words[-1].split(b" ")[0] in (b"up", b"end"):
         return Event(line)
     return Event(line, b" ".join(words[:-1]) + b" ", bytes.fromhex(words[-1].decode()))
 

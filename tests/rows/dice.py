@@ -6,6 +6,8 @@
     tests/rows/dice.py --script --seed S                    prints the script of a seed
     tests/rows/dice.py --show [--count N]                   prints how many scripts reach what
 
+Each of these takes `--dialect 3.8`, and draws scripts of the later dialect then.
+
 Each script is drawn from its seed alone (drawing.py), with a number of workers and the most transactions of a batch.
 Both outputs have to be the same, byte for byte, with nothing on standard error and status 0. One that differs is shrunk
 and printed. The last line is `N passed, M failed`, where each script counts as one; the exit status is 0 where none
@@ -17,6 +19,7 @@ drawing is shown to reach what it has to tell.
 import argparse
 import collections
 import concurrent.futures
+import functools
 import shutil
 import subprocess
 import sys
@@ -27,6 +30,7 @@ from run import HERE, SECONDS, first_difference  # noqa: E402
 sys.path.insert(0, str(HERE / "model"))
 import planted  # noqa: E402
 import shrink  # noqa: E402
+from dialects import Dialect  # noqa: E402
 from drawing import drawn  # noqa: E402
 from drawn_marks import marks_of  # noqa: E402
 from observer import replayed  # noqa: E402
@@ -54,40 +58,41 @@ def difference(program, script):
     return wrong or (None if wanted == got else first_difference(wanted, got))
 
 
-def of_seed(program, seed):
-    return difference(program, drawn(seed))
+def of_seed(program, dialect, seed):
+    return difference(program, drawn(seed, dialect))
 
 
-def show_failure(program, seed, found, is_shrunk):
+def show_failure(program, dialect, seed, found, is_shrunk):
     """Prints a script that differs, made small where that is wanted."""
     print(f"FAIL seed {seed}: {found}", flush=True)
     if not is_shrunk:
         return
-    script = shrink.shrunk(drawn(seed), lambda it: difference(program, it) is not None)
+    script = shrink.shrunk(drawn(seed, dialect), lambda it: difference(program, it) is not None)
     print(f"  shrunk, with --workers {script.workers} --batch {script.batch}: {difference(program, script)}")
     for line in script.text().decode().splitlines():
         print(f"    {line}")
 
 
-def compare(program, seeds):
+def compare(program, dialect, seeds):
     """Compares the scripts of the seeds. Returns how many agree, and how many don't."""
     failed = 0
     with concurrent.futures.ProcessPoolExecutor(PROCESSES) as pool:
-        told = pool.map(of_seed, [program] * len(seeds), seeds, chunksize=25)
+        told = pool.map(functools.partial(of_seed, program, dialect), seeds, chunksize=25)
         for seed, found in zip(seeds, told):
             if found:
-                show_failure(program, seed, found, failed < SHOWN)
+                show_failure(program, dialect, seed, found, failed < SHOWN)
             failed += bool(found)
     return len(seeds) - failed, failed
 
 
-def find_planted(program, seeds):
+def find_planted(program, dialect, seeds):
     """Tells each planted mistake from the program. Returns how many were told, and how many not."""
-    left = list(planted.MISTAKES)
+    mistakes = planted.mistakes_in(dialect)
+    left = list(mistakes)
     for number, seed in enumerate(seeds, 1):
         if not left:
             break
-        script = drawn(seed)
+        script = drawn(seed, dialect)
         got, wrong = printed(program, script)
         if wrong or got != replayed(script.text()):
             continue  # what differs without a mistake tells none
@@ -99,12 +104,12 @@ def find_planted(program, seeds):
                 print(f"script {number} (seed {seed}) tells: {mistake.name}")
     for mistake in left:
         print(f"FAIL no script tells: {mistake.name}")
-    return len(planted.MISTAKES) - len(left), len(left)
+    return len(mistakes) - len(left), len(left)
 
 
-def show_marks(seeds):
+def show_marks(dialect, seeds):
     """Prints of what a script can reach how many reach it."""
-    counted = collections.Counter(mark for seed in seeds for mark in marks_of(drawn(seed).text()))
+    counted = collections.Counter(mark for seed in seeds for mark in marks_of(drawn(seed, dialect).text()))
     for mark, count in sorted(counted.items()):
         print(f"{100 * count / len(seeds):5.1f} % {mark}")
 
@@ -116,20 +121,21 @@ def main():
     parser.add_argument("--planted", action="store_true", help="plant mistakes in the model, which have to be told")
     parser.add_argument("--script", action="store_true", help="print the script of the seed, and compare nothing")
     parser.add_argument("--show", action="store_true", help="print what the scripts reach, and compare nothing")
+    parser.add_argument("--dialect", type=Dialect, default=Dialect.ZK34, help="3.4 or 3.8; without it 3.4")
     parser.add_argument("program", nargs="?", help="the program")
     args = parser.parse_args()
     seeds = range(args.seed, args.seed + args.count)
     if args.script:
-        script = drawn(args.seed)
+        script = drawn(args.seed, args.dialect)
         print(f"# --workers {script.workers} --batch {script.batch}\n{script.text().decode()}", end="")
         return 0
     if args.show:
-        show_marks(seeds)
+        show_marks(args.dialect, seeds)
         return 0
     if not args.program or not shutil.which(args.program):
         print(f"no program {args.program}: no script was run\n0 passed, 1 failed")
         return 1
-    passed, failed = (find_planted if args.planted else compare)(args.program, seeds)
+    passed, failed = (find_planted if args.planted else compare)(args.program, args.dialect, seeds)
     print(f"{passed} passed, {failed} failed")
     return 1 if failed or not passed else 0
 

@@ -1,4 +1,5 @@
-"""Scripts that are drawn by chance: `drawn(seed)` makes the script of a seed, always the same one.
+"""Scripts that are drawn by chance: `drawn(seed)` makes the script of a seed, always the same one. One of a later
+dialect has what that adds, too.
 
 A drawing throws the dice, and feeds an observer of the model with what it has drawn so far. So what is drawn next can
 fit what the observer has come to: which zxid is next, which sessions live, what waits for the leader. Most scripts stay
@@ -12,6 +13,7 @@ import drawn_bodies as bodies
 import drawn_packets as packets
 import drawn_requests as requests
 from clients import signed
+from dialects import Dialect
 from learner import DOWN, HELLO, IMAGE, REPLAY, SERVING, SYNCING
 from observer import Observer, play
 
@@ -76,10 +78,12 @@ class Script(NamedTuple):
 
 
 class Drawing:
-    def __init__(self, seed):
-        self.dice = random.Random(seed)
+    def __init__(self, seed, dialect):
+        self.dice, self.dialect, self.is_later = random.Random(seed), dialect, dialect.is_later
+        self.has_digests = self.is_later and self.chance(0.7)  # whether the leader writes them
         self.atoms, self.owed = [], {}  # `owed`: of who has sent a part of something, the rest
-        self.paths = bodies.paths_of(self.dice.sample(bodies.PATHS, self.number(3, 7)))
+        paths = bodies.PATHS + bodies.LATER_PATHS if self.is_later else bodies.PATHS
+        self.paths = bodies.paths_of(self.dice.sample(paths, self.number(3, 7)))
         self.hot = self.one(self.paths)  # where clients meet
         self.numbers = self.dice.sample((1, 2, 3, 4), self.one((1, 2, 3, 3, 4)))
         if self.chance(0.1):
@@ -140,6 +144,9 @@ class Drawing:
             words = value if isinstance(value, tuple) else () if value is True else (value,)
             words = [it.hex() if isinstance(it, bytes) else str(it) for it in words]
             self.atoms.append(Atom(0, " ".join([name, *words])))
+        if self.is_later:
+            told["dialect"] = self.dialect
+            self.atoms.append(Atom(0, f"dialect {self.dialect.value}"))
         return told
 
     def happens(self, line):
@@ -195,8 +202,8 @@ class Drawing:
         return Script(self.lines(), workers, batch, self.chance(0.1))
 
 
-def drawn(seed):
-    it = Drawing(seed)
+def drawn(seed, dialect=Dialect.ZK34):
+    it = Drawing(seed, dialect)
     while it.made < it.length:
         it.draw()
     return it.script()

@@ -8,14 +8,22 @@ import struct
 from records import CREATE, CREATE_SESSION, CLOSE_SESSION, ENTRY, ERROR, OPEN_ACL, SET_DATA, buffer
 
 from clients import digest_id
-from tree import CHECK, DELETE, MULTI, SET_ACL, Node, Tree, parent_of
+from transactions import CHECK, CONTAINER, CREATE2, CREATE_CONTAINER, CREATE_TTL, DELETE, DELETE_CONTAINER, MULTI
+from transactions import RECONFIG, SET_ACL, TTL, parent_of
+from tree import Node, Tree
 
 # The paths of which a script has some, and whom a list of access rights can name.
 PATHS = (b"/a", b"/b", b"/a/b", b"/a/c", b"/ab", b"/a/b/c", b"/b/a", b"/a/b/d", b"/ab/c", b"/\xc3\xa9", b"/zookeeper/q",
          b"/zookeeper/quota/a")
+LATER_PATHS = (b"/zookeeper/config", b"/zookeeper/config")
 STANDING = (b"/", b"/zookeeper", b"/zookeeper/quota")
 USERS = (b"ann:pw", b"bob:", b"eve")
 ODD_IDS = ((b"ip", b"127.0.0.1"), (b"world", b"anyone"), (b"auth", b""), (b"world", b"ann"), (None, None))
+# In later dialects: a character past U+FFFF as Java writes it, its second half alone, and addresses.
+LATER_IDS = (
+    (b"digest", b"\xed\xa0\xbd\xed\xb8\x80"), (b"digest", b"\xed\xb8\x80"), (b"ip", b"127.0.0.1"),
+    (b"ip", b"127.255.0.0/8"), (b"ip", b"10.0.0.1/33"), (b"ip", b"0.0.0.0/0"),
+)
 # Neither a node's path nor one that a client may ask for; and two that name no node, but may be asked for.
 NO_PATHS = (None, b"", b"a", b"/a\0b", b"/\xc0\xaf", b"/\xff")
 ODD_PATHS = (b"/a/", b"//a")
@@ -23,7 +31,11 @@ CONTENTS = (None, b"", b"hi", b"hi", b"other", bytes(range(40)))
 ERRORS = (-101, -103, -110, -111, -118, -112, -5, -2, 0, 1)
 # Sessions of other servers, those with the high bit among them, and 0, which owns nothing.
 STRANGERS = (0, 7, 9, (5 << 56) + 1, (200 << 56) + 1 - 2**64, -1)
+# Owners that are no sessions, and the one above them.
+OTHER_OWNERS = (CONTAINER, TTL | 60000, TTL, TTL + 2**40, CONTAINER + 1)
 GREATEST = 2**31 - 1
+PARTS = (CREATE, CREATE, DELETE, SET_DATA, SET_DATA, CHECK)
+LATER_PARTS = (*PARTS, CREATE2, CREATE2, CREATE_CONTAINER, CREATE_TTL, DELETE_CONTAINER)
 NULL_LIST = struct.pack(">i", -1)
 
 
@@ -76,7 +88,7 @@ def user_entry(it):
 
 
 def odd_entry(it):
-    scheme, text = it.one(ODD_IDS)
+    scheme, text = it.one((*ODD_IDS, *LATER_IDS) if it.is_later else ODD_IDS)
     return struct.pack(">i", it.one((31, 30, 0, -1))) + buffer(scheme) + buffer(text)
 
 
@@ -99,27 +111,64 @@ def parent_cversion(it, at):
 def create_body(it, is_part, at=None):
     at = at or path_of_create(it)
     body = buffer(at) + buffer(it.one(CONTENTS)) + acl(it) + struct.pack(">?", it.chance(0.3))
-    if not is_part and it.chance(0.1):
+    if not (is_part or it.has_digests) and it.chance(0.1):
         return body  # as a create is written that has no parentCVersion
     return body + struct.pack(">i", parent_cversion(it, at))
 
 
+def container_body(it, kind):
+    """The body of a createContainer, or of a createTTL."""
+    at = path_of_create(it)
+    body = buffer(at) + buffer(it.one(CONTENTS)) + acl(it) + struct.pack(">i", parent_cversion(it, at))
+    return body + struct.pack(">q", it.one((1, 60000, 2**40 - 1))) if kind == CREATE_TTL else body
+
+
+def close_body(it):
+    """What a later leader writes behind a closeSession: paths, which may lie, or nothing."""
+    if it.chance(0.3):
+        return b""
+    paths = [path(it) for _ in range(it.one((0, 1, 1, 2)))]
+    return struct.pack(">i", len(paths)) + b"".join(map(buffer, paths))
+
+
+def error_part(it):
+    """An error as a part of a multi; a later leader can leave the bytes of the operation behind its type."""
+    if it.is_later and it.chance(0.3):
+        return body_of(it, it.one(LATER_PARTS), True)
+    return struct.pack(">i", it.one(ERRORS)) + (it.one((b"", b"more")) if it.is_later else b"")
+
+
+def digest(it):
+    """What a later leader writes behind a transaction."""
+    return struct.pack(">iQ", 2, it.dice.getrandbits(64)) if it.has_digests else b""
+
+
 def multi_body(it):
-    kinds = [it.one((CREATE, CREATE, DELETE, SET_DATA, SET_DATA, CHECK)) for _ in range(it.number(0, 4))]
+    kinds = [it.one(LATER_PARTS if it.is_later else PARTS) for _ in range(it.number(0, 4))]
     if it.chance(0.35):
         kinds.insert(it.number(0, len(kinds)), ERROR)
     if not kinds and it.chance(0.3):
         return struct.pack(">i", -1)
-    parts = [struct.pack(">i", kind) + buffer(body_of(it, kind, True)) for kind in kinds]
+    parts = [struct.pack(">i", kind) + buffer(part_body(it, kind)) for kind in kinds]
     return struct.pack(">i", len(parts)) + b"".join(parts)
+
+
+def part_body(it, kind):
+    return error_part(it) if kind == ERROR else body_of(it, kind, True)
 
 
 def body_of(it, kind, is_part=False):
     """The body of a transaction of this type."""
-    if kind == CREATE:
-        return create_body(it, is_part)
-    if kind == DELETE:
+    if kind in (CREATE, CREATE2):
+        return create_body(it, is_part or kind == CREATE2)
+    if kind in (CREATE_CONTAINER, CREATE_TTL):
+        return container_body(it, kind)
+    if kind in (DELETE, DELETE_CONTAINER):
         return buffer(path_of_delete(it))
+    if kind == RECONFIG:
+        return buffer(LATER_PATHS[0] if it.chance(0.9) else path(it)) + buffer(b"server") + struct.pack(">i", -1)
+    if kind == CLOSE_SESSION and it.is_later:
+        return close_body(it)
     if kind == SET_DATA:
         return buffer(path(it)) + buffer(it.one(CONTENTS)) + struct.pack(">i", version(it))
     if kind == SET_ACL:
@@ -138,7 +187,7 @@ def body_of(it, kind, is_part=False):
 
 def drawn_tree(it):
     """The tree of which a leader sends an image: the observer's own or a fresh one, and what was done to it since."""
-    tree = it.tree.copy() if it.chance(0.6) and b"/" in it.tree.nodes else Tree.fresh()
+    tree = it.tree.copy() if it.chance(0.6) and b"/" in it.tree.nodes else Tree.fresh(it.dialect)
     for each in it.paths:
         if it.chance(0.4) and parent_of(each) in tree.nodes and each not in tree.nodes:
             tree.put(each, drawn_node(it))
@@ -151,6 +200,8 @@ def drawn_tree(it):
 def drawn_node(it):
     made, changed, time = it.number(1, 2**33), it.number(1, 2**33), it.number(0, 5000)
     owner = it.one(it.sessions()) if it.chance(0.3) else 0
+    if it.is_later and it.chance(0.3):
+        owner = it.one(OTHER_OWNERS)
     rights = None if it.chance(0.5) else [(it.one((31, 1, 2)), digest_id(it.one(USERS)))]
     stat = (made, changed, time, time, version(it), version(it), version(it), owner, it.number(1, 2**33))
     return Node(it.one(CONTENTS), rights, *stat)
@@ -181,6 +232,8 @@ def image_of(it, tree):
             keys[each] = len(lists) + 1
             told = NULL_LIST if told == OPEN_ACL and it.chance(0.3) else told  # which mean the same
             lists.append(struct.pack(">q", keys[each]) + told)
+    if it.is_later and lists and it.chance(0.3):
+        lists.remove(it.one(lists))  # so that a node has none
     if it.chance(0.2):
         lists.append(struct.pack(">q", 0) + NULL_LIST)  # which no node has
     return b"".join([

@@ -8,9 +8,19 @@ import clients
 import jute
 import learner
 import tree
+import watches
 from observer import replayed
+from transactions import CLOSE_SESSION, CREATE, CREATE2, CREATE_CONTAINER, CREATE_SESSION, CREATE_TTL, DELETE
+from transactions import DELETE_CONTAINER, ERROR, MULTI, RECONFIG, SET_ACL, SET_DATA
 
-READS = {3: "exists", 4: "getData", 6: "getACL", 8: "getChildren", 12: "getChildren2"}
+READS = {
+    3: "exists", 4: "getData", 6: "getACL", 8: "getChildren", 12: "getChildren2", 104: "getAllChildrenNumber",
+}
+CHANGES = {
+    CREATE: "create", DELETE: "delete", SET_DATA: "setData", SET_ACL: "setACL", CREATE2: "create2",
+    CREATE_CONTAINER: "createContainer", CREATE_TTL: "createTTL", DELETE_CONTAINER: "deleteContainer",
+    RECONFIG: "reconfig",
+}
 
 
 def of_sync(it, found):
@@ -37,22 +47,21 @@ def of_applied(it, txn, take=None):
 
 
 def of_txn(it, txn):
-    if txn.kind == tree.MULTI:
-        return "multi with an error" if any(part.kind == tree.ERROR for part in txn.body) else "multi"
-    if txn.kind == tree.CLOSE_SESSION and any(owner == txn.session for owner, _ in it.pairs):
+    if txn.kind == MULTI:
+        return "multi with an error" if any(part.kind == ERROR for part in txn.body) else "multi"
+    if txn.kind == CLOSE_SESSION and any(owner == txn.session for owner, _ in it.pairs):
         return "ephemerals that go with their session"
-    names = {tree.CREATE: "create", tree.DELETE: "delete", tree.SET_DATA: "setData", tree.SET_ACL: "setACL"}
-    return names.get(txn.kind, "other transaction")
+    return CHANGES.get(txn.kind, "other transaction")
 
 
-def of_told(it, txn, error):
+def of_told(it, txn, outcome):
     number = it.owner(txn.session)
     write = it.open[number].oldest_write() if number is not None else None
-    if txn.kind in (tree.CREATE_SESSION, tree.CLOSE_SESSION) or not write:
+    if txn.kind in (CREATE_SESSION, CLOSE_SESSION) or not write:
         return None
-    if write.values[0] != txn.cxid or txn.kind not in (write.values[1], tree.ERROR):
+    if write.values[0] != txn.cxid or txn.kind not in (write.values[1], ERROR):
         return "transaction that answers nothing"
-    return "write answered with an error" if error else "write answered"
+    return "write answered with an error" if outcome.error else "write answered"
 
 
 def of_front(it, number, asked):
@@ -75,9 +84,9 @@ def of_frame(it, number, asked, frame):
 
 
 def of_fire(it, kind, path):
-    if any(clients.covers(at, mode, path, kind) for (at, _), mode in it.lasting.items()):
+    if any(watches.covers(at, mode, path, kind) for at, _, mode in it.watches.lasting):
         return "lasting watch told"
-    watched = [number for at, number in it.own | it.child if at == path]
+    watched = [number for at, number in it.watches.own | it.watches.child if at == path]
     return "change told to several" if len(set(watched)) > 1 else None
 
 
@@ -97,6 +106,19 @@ def of_connect(it, number, asked, frame):
 
 def of_pinged(it, found):
     return "PING answered with sessions" if it.touched else None
+
+
+def of_revalidated(it, session, is_valid):
+    if not any(each.waits_for(session, "revalidate") for each in it.open.values()):
+        return "answer for a session that nobody waits for"
+    return "session that comes is known" if is_valid else "session that comes isn't known"
+
+
+def of_answer_write(it, number, asked, kind, txn, outcome):
+    if kind == MULTI and txn.kind == MULTI:
+        return "multi answered with an error" if outcome.error else "multi answered"
+    is_moved = it.is_later and txn.kind == ERROR and txn.body == clients.SESSION_MOVED
+    return "write of a session that has moved" if is_moved else None
 
 
 def of_synced(it):
@@ -136,6 +158,15 @@ WATCHED = (
     (clients.Clients, "auth", named("auth")),
     (clients.Clients, "word", named("four-letter word")),
     (clients.Clients, "expire", named("expire")),
+    (clients.Clients, "revalidated", of_revalidated),
+    (clients.Clients, "answer_write", of_answer_write),
+    (clients.Clients, "revalidate", named("session that comes")),
+    (clients.Clients, "find_watches", named("checkWatches or removeWatches")),
+    (clients.Clients, "set_watches2", named("setWatches2")),
+    (clients.Clients, "multi_read", named("multiRead")),
+    (clients.Clients, "own_ephemerals", named("getEphemerals")),
+    (clients.Clients, "who_am_i", named("whoAmI")),
+    (clients.Clients, "sasl", named("sasl")),
 )
 
 

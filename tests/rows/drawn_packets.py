@@ -11,13 +11,16 @@ from records import (
 
 import drawn_bodies as bodies
 from learner import DOWN, HELLO, IMAGE, REPLAY, SERVING, SYNCING
-from tree import CHECK, DELETE, MULTI, SET_ACL
+from transactions import CHECK, CREATE2, CREATE_CONTAINER, CREATE_TTL, DELETE, DELETE_CONTAINER, MULTI, RECONFIG
+from transactions import SET_ACL
 
 LAST = 2**63 - 1
 NULL = struct.pack(">i", -1)
 # The transactions of a leader, and how often they come.
 KINDS = (CREATE, DELETE, SET_DATA, SET_ACL, MULTI, CREATE_SESSION, CLOSE_SESSION, ERROR, CHECK)
 KIND_WEIGHTS = (40, 14, 20, 8, 12, 3, 2, 4, 1)
+LATER_KINDS = (*KINDS, CREATE2, CREATE_CONTAINER, CREATE_TTL, DELETE_CONTAINER, RECONFIG)
+LATER_WEIGHTS = (20, 14, 18, 8, 14, 3, 2, 4, 1, 18, 8, 5, 4, 4)
 REVALIDATE, ACTIVATED, INFORM_ACTIVATED = 6, 9, 19
 
 
@@ -114,14 +117,20 @@ def session_of_txn(it):
 
 def txn(it, zxid, kind=None, session=None, cxid=None):
     """The bytes of a transaction."""
-    kind = it.dice.choices(KINDS, KIND_WEIGHTS)[0] if kind is None else kind
+    kinds = (LATER_KINDS, LATER_WEIGHTS) if it.is_later else (KINDS, KIND_WEIGHTS)
+    kind = it.dice.choices(*kinds)[0] if kind is None else kind
     session = session_of_txn(it) if session is None else session
     cxid = it.one((0, 1, 2, 3, 77)) if cxid is None else cxid
-    return transaction(zxid, kind, bodies.body_of(it, kind), session, cxid, it.number(1000, 1009))
+    content = transaction(zxid, kind, bodies.body_of(it, kind), session, cxid, it.number(1000, 1009))
+    return content + bodies.digest(it)
 
 
 def inform(it, content):
-    zxid = struct.unpack(">q", content[12:20])[0]
+    """A transaction comes; a reconfiguration, and at times another one, behind the number of the next leader."""
+    zxid, kind = struct.unpack(">q8xi", content[12:32])
+    if it.is_later and it.chance(0.9 if kind == RECONFIG else 0.03):
+        send(it, packet(INFORM_ACTIVATED, zxid, struct.pack(">q", it.number(1, 3)) + content))
+        return
     send(it, packet(INFORM, zxid if it.chance(0.95) else 0, content))
 
 
@@ -149,24 +158,34 @@ def answers(it):
             break
         session, write = it.one(owed)
         xid, kind = write.values
-        kind = it.dice.choices((kind, ERROR, it.one(KINDS)), (80, 17, 3))[0]
+        kind = it.dice.choices((kind, ERROR, it.one(LATER_KINDS if it.is_later else KINDS)), (80, 17, 3))[0]
         inform(it, txn(it, next_zxid(it), kind, session, xid if it.chance(0.95) else xid ^ 1))
         it.settle("leader")
     return False
 
 
 def sessions_made(it):
-    """The leader creates sessions that connects wait for, in any order, or with another timeout."""
+    """The leader creates sessions that connects wait for, in any order, or with another timeout; of those that a later
+    client has, it says whether they live."""
     it.settle("leader")
-    waiting = [each.waits[0].values for each in it.clients.open.values() if each.connects()]
+    waiting = [each.waits[0] for each in it.clients.open.values() if each.connects()]
     if not waiting:
         return True
-    for session, timeout, _ in it.dice.sample(waiting, it.number(1, len(waiting))):
+    for what, (session, timeout, _) in it.dice.sample(waiting, it.number(1, len(waiting))):
         it.given.append(session)
+        if what == "revalidate":
+            send(it, known(session, it.chance(0.8)))
+            it.settle("leader")
+            continue
         zxid, told = next_zxid(it), struct.pack(">i", timeout if it.chance(0.8) else 7000)
-        inform(it, transaction(zxid, CREATE_SESSION, told, session, 0, 1000))
+        inform(it, transaction(zxid, CREATE_SESSION, told, session, 0, 1000) + bodies.digest(it))
         it.settle("leader")
     return False
+
+
+def known(session, is_known):
+    """The leader says whether a session lives."""
+    return packet(REVALIDATE, -1, struct.pack(">q?", session, is_known))
 
 
 def session_closed(it):
@@ -194,7 +213,8 @@ def commits(it):
     if not it.learner.proposals:
         return True
     for _ in range(it.number(1, len(it.learner.proposals))):
-        send(it, packet(COMMIT, it.learner.proposals[0].zxid))
+        kind = ACTIVATED if it.is_later and it.chance(0.1) else COMMIT
+        send(it, packet(kind, it.learner.proposals[0].zxid, b"any" if kind == ACTIVATED else None))
         it.settle("leader")
         if not it.learner.proposals:
             break
@@ -227,8 +247,14 @@ def ping(it):
 
 
 def ignored(it):
-    """A packet that means nothing in this phase."""
+    """A packet that means nothing in this phase; in later dialects also one that tells whether a session lives."""
     it.settle("leader")
+    if it.is_later:
+        if it.chance(0.5):
+            send(it, known(it.one(it.sessions()), it.chance(0.5)))
+        else:
+            send(it, packet(it.one((DIFF, TRUNC, 99, -1)), it.learner.last, it.one((None, b"any"))))
+        return False
     kind = it.one((REVALIDATE, ACTIVATED, INFORM_ACTIVATED, DIFF, TRUNC, 99, -1))
     send(it, packet(kind, it.learner.last, it.one((None, b"any")))[:-4] + ids(it))
     return False
@@ -304,6 +330,8 @@ def torn(it):
         content = content[: -it.number(1, 12)]
     elif how == 2:
         content = transaction(zxid, it.one((0, 3, 4, 15, 16, 19, -2)), buffer(it.hot), 7, 1, 1000)
+    elif how == 3 and it.is_later:
+        content = txn(it, zxid) + bytes(it.one((1, 4, 8, 11, 12, 13)))
     else:
         content = bodies.damaged(it, content)
     return packet(INFORM, zxid, content)

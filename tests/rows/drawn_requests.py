@@ -11,12 +11,17 @@ from records import (
 
 import drawn_bodies as bodies
 import drawn_packets as packets
-from clients import ADD_WATCH, CHECK, GET_ACL, GET_CHILDREN2, MULTI, PINGED, WORDS
+from clients import ADD_WATCH, CHECK_WATCHES, PINGED, REMOVE_WATCHES, SASL, SET_WATCHES2, WHO_AM_I
 from learner import SERVING
-from tree import DELETE, SET_ACL
+from reads import GET_ACL, GET_ALL_CHILDREN_NUMBER, GET_CHILDREN2, GET_EPHEMERALS, MULTI_READ
+from transactions import CHECK, CREATE2, CREATE_CONTAINER, CREATE_TTL, DELETE, DELETE_CONTAINER, MULTI, RECONFIG
+from transactions import SET_ACL
+from words import WORDS
 
 READS = (EXISTS, GET_DATA, GET_DATA, GET_ACL, GET_CHILDREN, GET_CHILDREN2)
 WRITES = (CREATE, CREATE, CREATE, DELETE, SET_DATA, SET_DATA, SET_ACL)
+LATER_WRITES = (*WRITES, *(CREATE2,) * 3, CREATE_CONTAINER, CREATE_TTL, DELETE_CONTAINER, RECONFIG, MULTI, MULTI)
+LATER_UNKNOWN = (0, 108, 99, -1, -10, 2**31 - 1)
 UNKNOWN = (0, 15, 16, 18, 102, 105, 107, -1, -10, 99)
 SCHEMES = (b"world", b"ip", b"digest2", b"", None)
 PASSWORD = bytes(16)
@@ -47,7 +52,8 @@ def open_one(it):
     if number not in it.clients.open:
         it.owed.pop(source(number), None)
         it.xids.pop(number, None)
-    it.happens(f"{source(number)} up")
+    address = it.one(("", "", " 127.0.0.1", " 10.0.0.1")) if it.is_later else ""
+    it.happens(f"{source(number)} up{address}")
     return number
 
 
@@ -158,6 +164,8 @@ def asked(it, number):
     """A frame with a request."""
     makers = (read, write, sync, set_watches, add_watch, auth, ping, refused, leave)
     weights = (42, 24, 6, 6, 6, 4, 5, 2, 2)
+    if it.is_later:
+        makers, weights = (*makers, small_read, multi_read, find_watches), (*weights, 9, 4, 8)
     frame = it.dice.choices(makers, weights)[0](it, xid_of(it, number))
     return buffer(frame[4:] + b"more") if it.chance(0.02) else frame  # what comes behind a body is ignored
 
@@ -176,7 +184,7 @@ def read(it, xid):
 def write(it, xid):
     """A write. Its body isn't read here, so that it may be any."""
     body = buffer(bodies.path(it)) + buffer(it.one(bodies.CONTENTS)) if it.chance(0.9) else b""
-    return request(xid, it.one(WRITES), body)
+    return request(xid, it.one(LATER_WRITES if it.is_later else WRITES), body)
 
 
 def sync(it, xid):
@@ -186,12 +194,12 @@ def sync(it, xid):
 def set_watches(it, xid):
     last = it.learner.last
     since = it.one((0, last, last, last - 1, last - 2, last + 1))
-    lists = []
-    for _ in range(3):
+    lists, kind = [], it.one((SET_WATCHES, SET_WATCHES2)) if it.is_later else SET_WATCHES
+    for _ in range(5 if kind == SET_WATCHES2 else 3):
         asked_for = [client_path(it) for _ in range(it.one((0, 1, 1, 2)))]
         is_null = not asked_for and it.chance(0.2)
         lists.append(struct.pack(">i", -1 if is_null else len(asked_for)) + b"".join(map(buffer, asked_for)))
-    return request(-8, SET_WATCHES, struct.pack(">q", max(min(since, 2**63 - 1), -2**63)) + b"".join(lists))
+    return request(-8, kind, struct.pack(">q", max(min(since, 2**63 - 1), -2**63)) + b"".join(lists))
 
 
 def add_watch(it, xid):
@@ -210,8 +218,36 @@ def ping(it, xid):
     return request(-2, PINGED, b"")
 
 
+def small_read(it, xid):
+    """A read of a later client that asks for one thing."""
+    kind = it.one((GET_EPHEMERALS, GET_EPHEMERALS, GET_ALL_CHILDREN_NUMBER, GET_ALL_CHILDREN_NUMBER, WHO_AM_I, SASL))
+    if kind == WHO_AM_I:
+        return request(xid, kind, b"")
+    if kind == SASL:
+        return request(xid, kind, buffer(b"token" if it.chance(0.9) else None))
+    return request(xid, kind, buffer(it.one((client_path(it), client_path(it), b"/", b"/a", None))))
+
+
+def multi_read(it, xid):
+    """A multiRead; a few ask for what can't be read so, or have no end."""
+    body = b""
+    for _ in range(it.number(0, 4)):
+        kind = it.one((GET_DATA, GET_CHILDREN)) if it.chance(0.97) else EXISTS
+        body += struct.pack(">i?i", kind, False, -1) + buffer(client_path(it)) + bytes([it.number(0, 1)])
+    return request(xid, MULTI_READ, body + (struct.pack(">i?i", -1, True, -1) if it.chance(0.95) else b""))
+
+
+def find_watches(it, xid):
+    """A checkWatches or a removeWatches."""
+    kind = it.number(1, 5) if it.chance(0.95) else it.one((0, 6, -1))
+    at = it.hot if it.chance(0.5) else client_path(it)
+    return request(xid, it.one((CHECK_WATCHES, REMOVE_WATCHES)), buffer(at) + struct.pack(">i", kind))
+
+
 def refused(it, xid):
     """A check, a multi, or a request of a type that isn't known, by which the connection ends."""
+    if it.is_later:
+        return request(xid, CHECK if it.chance(0.8) else it.one(LATER_UNKNOWN), b"any")
     return request(xid, it.one((CHECK, MULTI, MULTI) if it.chance(0.8) else UNKNOWN), b"any")
 
 

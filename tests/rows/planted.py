@@ -4,9 +4,11 @@ import contextlib
 import struct
 from typing import Callable, NamedTuple
 
-from clients import Clients
+from clients import Clients, Connection
 from learner import Learner
-from tree import DELETED, ERROR, Tree, parent_of
+from transactions import CREATE, CREATE2, ERROR, MULTI, parent_of
+from tree import DELETED, Outcome, Tree
+from watches import Watches
 
 
 class Mistake(NamedTuple):
@@ -20,19 +22,19 @@ class Mistake(NamedTuple):
 
 def delete_leaves_watches(fire):
     def wrong(it, kind, path):
-        kept = {each for each in it.own if each[0] == path and kind == DELETED}
+        kept = {each for each in it.watches.own if each[0] == path and kind == DELETED}
         fire(it, kind, path)
-        it.own |= kept
+        it.watches.own |= kept
 
     return wrong
 
 
 def misses_first_change(set_watches):
-    def wrong(it, number, xid, body):
+    def wrong(it, number, xid, body, *more):
         if len(body) >= 8:
             since = min(struct.unpack(">q", body[:8])[0] + 1, 2**63 - 1)
             body = struct.pack(">q", since) + body[8:]
-        set_watches(it, number, xid, body)
+        set_watches(it, number, xid, body, *more)
 
     return wrong
 
@@ -130,6 +132,130 @@ MISTAKES = (
     Mistake("a TRUNC keeps the sessions that it takes back", Learner, "truncate", keeps_sessions_taken_back),
     Mistake("a transaction that an image has already lowers the last zxid", Learner, "applied", lowers_last_zxid),
 )
+
+
+# ---- in later dialects
+
+
+def pzxid_falls(delete):
+    def wrong(it, txn, path):
+        told = delete(it, txn, path)
+        parent = it.nodes.get(parent_of(path))
+        if parent:
+            parent.pzxid = txn.zxid
+        return told
+
+    return wrong
+
+
+def missing_child_tells_no_parent(delete):
+    def wrong(it, txn, path):
+        parent = it.nodes.get(parent_of(path))
+        before, is_there = parent and parent.pzxid, path in it.nodes
+        told = delete(it, txn, path)
+        if parent and not is_there:
+            parent.pzxid = before
+        return told
+
+    return wrong
+
+
+def cversion_falls(raise_cversion):
+    def wrong(it, parent, told, zxid, is_taken):
+        raise_cversion(it, parent, told, zxid, is_taken)
+        if not is_taken and told != -1:
+            parent.cversion, parent.pzxid = told, zxid
+
+    return wrong
+
+
+def list_stays_empty(mend_acl):
+    return lambda it, body: None
+
+
+def owns_all(put):
+    def wrong(it, path, node):
+        put(it, path, node)
+        if node.owner:
+            it.pairs.add((node.owner, path))
+
+    return wrong
+
+
+def stat_after_the_whole(multi):
+    def wrong(it, txn):
+        error, triggers, parts = multi(it, txn)
+        late = [each.stat and it.stat_of_part(part) or each.stat for part, each in zip(txn.body, parts)]
+        return Outcome(error, triggers, [each._replace(stat=stat) for each, stat in zip(parts, late)])
+
+    return wrong
+
+
+def forgets_create2(answer_write):
+    def wrong(it, number, each, kind, txn, outcome):
+        if txn.kind == MULTI:
+            parts = [part._replace(kind=CREATE if part.kind == CREATE2 else part.kind) for part in txn.body]
+            txn = txn._replace(body=parts)
+        answer_write(it, number, each, kind, txn, outcome)
+
+    return wrong
+
+
+def answers_moved(answer_write):
+    def wrong(it, number, each, kind, txn, outcome):
+        if txn.kind == ERROR and txn.body == -118:
+            it.reply(number, txn.cxid, -118, zxid=txn.zxid)
+            it.answer_front(number, each)
+        else:
+            answer_write(it, number, each, kind, txn, outcome)
+
+    return wrong
+
+
+def admits_by_any_news(waits_for):
+    return lambda it, session, what: it.connecting() == session
+
+
+def keeps_waiting(close_waiting):
+    return lambda it, session: None
+
+
+def removed_watch_stays(of):
+    def wrong(it, path, number, kind):
+        found = of(it, path, number, kind)
+        return [(set() if table is it.lasting else table, watch) for table, watch in found]
+
+    return wrong
+
+
+def later_mode_alone(add_lasting):
+    return lambda it, path, number, mode, has_both: add_lasting(it, path, number, mode, False)
+
+
+def tells_tree_timeouts(told_timeout):
+    return lambda it, session: it.learner.tree.sessions[session]
+
+
+LATER_MISTAKES = (
+    Mistake("a delete lowers the parent's pzxid", Tree, "delete", pzxid_falls),
+    Mistake("a delete of a node that isn't there leaves the parent", Tree, "delete", missing_child_tells_no_parent),
+    Mistake("a create lowers the parent's cversion", Tree, "raise_cversion", cversion_falls),
+    Mistake("a node without a list of rights isn't given one", Tree, "mend_acl", list_stays_empty),
+    Mistake("a container is an ephemeral of its owner", Tree, "put", owns_all),
+    Mistake("a multi's Stats are those after all parts", Tree, "multi", stat_after_the_whole),
+    Mistake("a part that is a create2 is answered as a create", Clients, "answer_write", forgets_create2),
+    Mistake("a session that has moved is answered", Clients, "answer_write", answers_moved),
+    Mistake("a connect is answered by other news of its session", Connection, "waits_for", admits_by_any_news),
+    Mistake("a connect waits on as its session ends, or comes again", Clients, "close_waiting", keeps_waiting),
+    Mistake("a lasting watch that is removed stays", Watches, "of", removed_watch_stays),
+    Mistake("a lasting watch takes the other mode's place", Watches, "add_lasting", later_mode_alone),
+    Mistake("a PING is answered with the tree's timeouts", Clients, "told_timeout", tells_tree_timeouts),
+)
+
+
+def mistakes_in(dialect):
+    """The mistakes that can be told in a dialect."""
+    return (*MISTAKES, *LATER_MISTAKES) if dialect.is_later else MISTAKES
 
 
 @contextlib.contextmanager

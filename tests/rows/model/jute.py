@@ -1,6 +1,8 @@
 """The bytes of zookeeper.jute: what is read of a leader or of a client, and what is written."""
 import struct
 
+from dialects import Dialect
+
 LENGTH_LIMIT, COUNT_LIMIT = 4_194_304, 1_048_576
 WORDS = {
     1: "Short", 2: "BadLength", 3: "BadText", 4: "BadPath", 5: "BadTxnType", 6: "TrailingBytes", 7: "OutOfOrder",
@@ -24,8 +26,10 @@ class OutOfBytes(Exception):
 
 
 class Reader:
-    def __init__(self, content, at=0):
-        self.content, self.at = content, at
+    """Reads bytes from the front. The dialect is the leader's; what clients send is read alike in all of them."""
+
+    def __init__(self, content, dialect=Dialect.ZK34):
+        self.content, self.at, self.dialect = content, 0, dialect
 
     def bytes(self, count):
         if len(self.content) - self.at < count:
@@ -57,11 +61,12 @@ class Reader:
         return None if length is None else self.bytes(length)
 
     def text(self):
-        """Reads a text as its bytes."""
+        """Reads a text as its bytes. Java writes a character past U+FFFF as two halves of three bytes, each of which a
+        later leader's text may have."""
         found = self.buffer()
         if found is not None:
             try:
-                found.decode()
+                found.decode(errors="surrogatepass" if self.dialect.is_later else "strict")
             except UnicodeDecodeError:
                 raise Fault(3) from None
         return found
@@ -84,10 +89,10 @@ class Reader:
         return self.at == len(self.content)
 
 
-def whole(content, read):
-    """Reads a record of which all bytes are there: what ends inside a field is Short."""
+def whole(content, read, dialect):
+    """Reads a record of the leader of which all bytes are there: what ends inside a field is Short."""
     try:
-        return read(Reader(content))
+        return read(Reader(content, dialect))
     except OutOfBytes:
         raise Fault(1) from None
 

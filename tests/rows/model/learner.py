@@ -1,10 +1,14 @@
 """What an observer makes of its leader's stream."""
 from typing import List, NamedTuple, Optional, Tuple
 
-from jute import Fault, OutOfBytes, Reader, int32, int64, packet
-from tree import Tree, image_in, txn_of
+from dialects import Dialect
+from images import image_in
+from jute import Fault, OutOfBytes, Reader, int32, int64, packet, whole
+from transactions import txn_of
+from tree import Outcome, Tree
 
-PROPOSAL, ACK, COMMIT, PING, SYNC, INFORM, NEW_LEADER, UP_TO_DATE = 2, 3, 4, 5, 7, 8, 10, 12
+PROPOSAL, ACK, COMMIT, PING, REVALIDATE, SYNC, INFORM, NEW_LEADER, UP_TO_DATE = 2, 3, 4, 5, 6, 7, 8, 10, 12
+COMMIT_AND_ACTIVATE, INFORM_AND_ACTIVATE = 9, 19  # in later dialects alone
 DIFF, TRUNC, SNAP, OBSERVER_INFO, LEADER_INFO, ACK_EPOCH = 13, 14, 15, 16, 17, 18
 PROTOCOL = 0x10000
 DOWN, HELLO, SYNCING, IMAGE, REPLAY, SERVING = "down", "hello", "syncing", "image", "replay", "serving"
@@ -18,15 +22,15 @@ class Packet(NamedTuple):
 
 
 class Effect(NamedTuple):
-    """What a packet brings: packets for the leader, triggers, and the transaction that was applied, with its error, the
-    PING or the SYNC, which concern clients."""
+    """What a packet brings: packets for the leader, and what concerns clients: the transaction that was applied and
+    what it came to, the PING, the SYNC, or a session and whether the leader knows it."""
 
     sent: tuple = ()
-    triggers: tuple = ()
     txn: object = None
-    error: int = 0
+    outcome: Optional[Outcome] = None
     ping: Optional[Packet] = None
     is_sync: bool = False
+    revalidated: Optional[Tuple[int, bool]] = None
 
 
 NOTHING = Effect()
@@ -36,12 +40,22 @@ def packet_in(reader):
     return Packet(reader.int(), reader.long(), reader.buffer(), reader.vector(reader.id))
 
 
+def plain(found):
+    """A packet that brings a reconfig, as the packet that brings any transaction. The long in front of an INFORM's
+    transaction, or the data of a COMMIT, names the next leader."""
+    if found.kind == INFORM_AND_ACTIVATE:
+        return found._replace(kind=INFORM, content=(found.content or b"")[8:])
+    if found.kind == COMMIT_AND_ACTIVATE:
+        return found._replace(kind=COMMIT)
+    return found
+
+
 class Learner:
-    def __init__(self, server, epochs):
-        self.server, (self.accepted, self.current) = server, epochs
+    def __init__(self, server, epochs, dialect=Dialect.ZK34):
+        self.server, (self.accepted, self.current), self.dialect = server, epochs, dialect
         self.phase, self.last, self.base_zxid = DOWN, 0, 0
         self.floor = None  # after an image the zxid of the transaction applied last
-        self.tree, self.base, self.log, self.proposals = Tree.fresh(), Tree.fresh(), [], []
+        self.tree, self.base, self.log, self.proposals = Tree.fresh(dialect), Tree.fresh(dialect), [], []
         self.stream, self.snap = b"", None  # the bytes that aren't read, and the SNAP whose image is owed
 
     # ---- the stream
@@ -62,14 +76,14 @@ class Learner:
         """Takes bytes, and yields the effect of each item that is whole."""
         self.stream += content
         while True:
-            reader = Reader(self.stream)
+            reader = Reader(self.stream, self.dialect)
             try:
                 item = image_in(reader) if self.snap else packet_in(reader)
             except OutOfBytes:
                 return
             self.stream = reader.rest()
             if isinstance(item, Packet):
-                yield self.packet(item)
+                yield self.packet(plain(item) if self.dialect.is_later else item)
             else:
                 self.image(item)
 
@@ -81,6 +95,9 @@ class Learner:
             self.last = self.base_zxid = zxid
 
     # ---- packets
+
+    def txn_of(self, found):
+        return txn_of(found.content, self.dialect)
 
     def packet(self, found):
         effect = getattr(self, f"in_{self.phase}")(found)
@@ -124,13 +141,13 @@ class Learner:
 
     def in_replay(self, found):
         if found.kind == PROPOSAL:
-            self.proposals.append(txn_of(found.content))
+            self.proposals.append(self.txn_of(found))
         elif found.kind == COMMIT:
             if not self.proposals or self.proposals[0].zxid != found.zxid:
                 raise Fault(8)
             return self.applied(self.proposals[0], self.proposals.pop)
         elif found.kind == INFORM:
-            return self.applied(txn_of(found.content))
+            return self.applied(self.txn_of(found))
         elif found.kind in (NEW_LEADER, UP_TO_DATE):
             self.current = self.accepted
             if found.kind == UP_TO_DATE:
@@ -143,9 +160,12 @@ class Learner:
             return Effect(ping=found)
         if found.kind == SYNC:
             return Effect(is_sync=True)
+        if found.kind == REVALIDATE and self.dialect.is_later:
+            answer = whole(found.content or b"", lambda reader: (reader.long(), reader.bool()), self.dialect)
+            return Effect(revalidated=answer)
         if found.kind == INFORM:
             self.floor = None
-            return self.applied(txn_of(found.content))
+            return self.applied(self.txn_of(found))
         return NOTHING
 
     def applied(self, txn, take=None):
@@ -157,8 +177,7 @@ class Learner:
             self.floor = txn.zxid
         self.last = max(self.last, txn.zxid)
         self.log.append(txn)
-        error, triggers = self.tree.apply(txn)
-        return Effect(triggers=tuple(triggers), txn=txn, error=error)
+        return Effect(txn=txn, outcome=self.tree.apply(txn))
 
     def checkpoint(self):
         if self.phase == SERVING:

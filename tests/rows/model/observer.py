@@ -1,18 +1,20 @@
 """An observer: what it sends for the events of a script, line by line as a replay prints them."""
 from clients import Clients, Connection
+from dialects import Dialect
 from jute import Fault
 from learner import DOWN, SERVING, Learner
 
 
 class Observer:
-    def __init__(self, server=1, counter=0, epochs=(0, 0), timeouts=(4000, 40000), secret=b"", primed=False):
+    def __init__(self, server=1, counter=0, epochs=(0, 0), timeouts=(4000, 40000), secret=b"", primed=False,
+                 dialect=Dialect.ZK34):
         self.out = []
-        self.learner = Learner(server, (1, 1) if primed else epochs)
+        self.learner = Learner(server, (1, 1) if primed else epochs, dialect)
         self.clients = Clients(self.learner, counter, timeouts, secret, self.out)
         if primed:
             self.learner.phase = SERVING
             it = self.clients.open[1] = Connection()
-            it.session = self.clients.new_session()
+            it.session, it.timeout = self.clients.new_session(), timeouts[1]
             for tree in (self.learner.tree, self.learner.base):
                 tree.sessions[it.session] = timeouts[1]
 
@@ -34,14 +36,16 @@ class Observer:
     def told(self, effect):
         for content in effect.sent:
             self.clients.to_leader(content)
-        for kind, path in effect.triggers:
-            self.clients.fire(kind, path)
         if effect.ping:
             self.clients.pinged(effect.ping)
         elif effect.is_sync:
             self.clients.synced()
+        elif effect.revalidated:
+            self.clients.revalidated(*effect.revalidated)
         elif effect.txn:
-            self.clients.applied(effect.txn, effect.error)
+            for kind, path in effect.outcome.triggers:
+                self.clients.fire(kind, path)
+            self.clients.applied(effect.txn, effect.outcome)
 
     def leader_end(self):
         if self.learner.phase != DOWN:
@@ -56,8 +60,10 @@ class Observer:
 
     # ---- clients
 
-    def client_up(self, number):
-        self.clients.open.setdefault(number, Connection())
+    def client_up(self, number, address=None):
+        """A connection opens, of a client with this address, where that is told. It counts in later dialects alone."""
+        is_later = self.learner.dialect.is_later
+        self.clients.open.setdefault(number, Connection(address if is_later else None))
 
     def client(self, number, content):
         self.clients.take(number, content)
@@ -88,6 +94,8 @@ def prepared(script):
             settings["secret"] = bytes.fromhex(rest)
         elif word == "primed":
             settings["primed"] = True
+        elif word == "dialect":
+            settings["dialect"] = Dialect(rest)
         else:
             events.append((word, rest))
     return Observer(**settings), events
@@ -111,8 +119,8 @@ def play(observer, word, rest):
             observer.leader(bytes.fromhex(rest))
     elif word == "client":
         number, _, rest = rest.partition(" ")
-        if rest == "up":
-            observer.client_up(int(number))
+        if rest.startswith("up"):
+            observer.client_up(int(number), rest.encode()[3:] or None)
         elif rest == "end":
             observer.client_end(int(number))
         else:

@@ -1,136 +1,26 @@
-"""A tree of nodes, the sessions in it, and the transactions that change it."""
+"""A tree of nodes, the sessions in it, and what transactions do to it."""
 import copy
-from typing import List, NamedTuple, Optional, Tuple
+from typing import NamedTuple, Optional, Tuple
 
-from jute import Fault, Reader, int32, int64, whole
+from dialects import Dialect
+from jute import int32, int64
+from transactions import CHECK, CLOSE_SESSION, CONTAINER, CREATE2, CREATES, CREATE_CONTAINER, CREATE_SESSION, CREATE_TTL
+from transactions import DELETE, DELETE_CONTAINER, ERROR, MULTI, OPEN, RECONFIG, SET_ACL, SET_DATA, TTL, TTL_BITS
+from transactions import name_of, parent_of
 
-CREATE, DELETE, SET_DATA, SET_ACL, CHECK, MULTI, CREATE_SESSION, CLOSE_SESSION, ERROR = 1, 2, 5, 7, 13, 14, -10, -11, -1
 NO_NODE, NODE_EXISTS, RUNTIME_INCONSISTENCY = -101, -110, -2
 CREATED, DELETED, CHANGED, CHILDREN = 1, 2, 3, 4  # the types of events
-OPEN = [(31, (b"world", b"anyone"))]
 
 
 def wrapped(number):
     return (number + 2**31) % 2**32 - 2**31
 
 
-def parent_of(path):
-    return path.rpartition(b"/")[0] or b"/"
-
-
-def name_of(path):
-    return path.rpartition(b"/")[2]
-
-
-def is_path(path):
-    """Whether a node other than the root may have the path."""
-    return path is not None and path[:1] == b"/" and b"\0" not in path and all(path[1:].split(b"/"))
-
-
-# ---- transactions
-
-
-class Txn(NamedTuple):
-    session: int
-    cxid: int
-    zxid: int
-    time: int
-    kind: int
-    body: object
-
-
-class Create(NamedTuple):
-    path: bytes
-    content: Optional[bytes]
-    acl: List[Tuple]
-    is_ephemeral: bool
-    cversion: int
-
-
-class Set(NamedTuple):
-    """A setData, a setACL or a check, whose value is None."""
-
-    path: bytes
-    value: object
-    version: int
-
-
-class Part(NamedTuple):
-    kind: int
-    body: object
-
-
-def path_in(reader, may_be_root):
-    path = reader.text()
-    if not (is_path(path) or may_be_root and path == b"/"):
-        raise Fault(4)
-    return path
-
-
-def create_in(reader, may_be_old):
-    path, content = path_in(reader, False), reader.buffer()
-    acl = reader.vector(reader.acl)
-    is_ephemeral = reader.bool()
-    cversion = -1 if may_be_old and reader.is_at_end() else reader.int()
-    return Create(path, content, OPEN if acl is None else acl, is_ephemeral, cversion)
-
-
-def set_acl_in(reader):
-    path, acl = path_in(reader, True), reader.vector(reader.acl)
-    return Set(path, OPEN if acl is None else acl, reader.int())
-
-
-def operation_in(reader, kind, is_part):
-    if kind == CREATE:
-        return create_in(reader, not is_part)
-    if kind == DELETE:
-        return path_in(reader, False)
-    if kind == SET_DATA:
-        return Set(path_in(reader, True), reader.buffer(), reader.int())
-    if kind == CHECK:
-        return Set(path_in(reader, True), None, reader.int())
-    return reader.int()
-
-
-def part_in(reader):
-    kind = reader.int()
-    if kind not in (CREATE, DELETE, SET_DATA, CHECK, ERROR):
-        raise Fault(5)
-    content = reader.buffer()
-    if content is None:
-        raise Fault(1)
-    inner = Reader(content)
-    body = operation_in(inner, kind, True)
-    if not inner.is_at_end():
-        raise Fault(6)
-    return Part(kind, body)
-
-
-def body_in(reader, kind):
-    if kind == SET_ACL:
-        return set_acl_in(reader)
-    if kind == MULTI:
-        return reader.vector(lambda: part_in(reader)) or []
-    if kind == CLOSE_SESSION:
-        return None
-    if kind in (CREATE, DELETE, SET_DATA, CHECK, CREATE_SESSION, ERROR):
-        return operation_in(reader, kind, False)
-    raise Fault(5)
-
-
-def txn_in(reader):
-    header = reader.numbers("qiqqi")
-    txn = Txn(*header, body_in(reader, header[4]))
-    if not reader.is_at_end():
-        raise Fault(6)
-    return txn
-
-
-def txn_of(content):
-    return whole(content or b"", txn_in)
-
-
-# ---- nodes
+def is_session(owner, dialect):
+    """Whether the owner of a node is a session, with which the node goes. The leader deletes the nodes of the other
+    owners, which later dialects have."""
+    is_other = owner == CONTAINER or owner & ~TTL_BITS == TTL
+    return owner != 0 and not (dialect.is_later and is_other)
 
 
 class Node:
@@ -139,7 +29,7 @@ class Node:
         self.content, self.acl = content, OPEN if acl is None else acl
         self.czxid, self.mzxid, self.ctime, self.mtime = czxid, mzxid, ctime, mtime
         self.version, self.cversion, self.aversion, self.owner, self.pzxid = version, cversion, aversion, owner, pzxid
-        self.children = set()
+        self.children, self.is_ephemeral = set(), owner != 0
 
     def stat(self):
         """The bytes of the Stat that is shown."""
@@ -147,7 +37,7 @@ class Node:
         return b"".join([
             int64(self.czxid, self.mzxid, self.ctime, self.mtime),
             int32(self.version, shown, self.aversion),
-            int64(self.owner),
+            int64(self.owner if self.is_ephemeral else 0),
             int32(len(self.content or b""), len(self.children)),
             int64(self.pzxid),
         ])
@@ -156,13 +46,29 @@ class Node:
         return wrapped(self.cversion + 1) if told == -1 else told
 
 
+class PartOutcome(NamedTuple):
+    """What a part of a multi came to: its error, and the Stat that its node has then, where the reply shows it."""
+
+    error: int
+    stat: Optional[bytes] = None
+
+
+class Outcome(NamedTuple):
+    """What a transaction came to: its error, its triggers, each a type of event and a path, and a multi's parts."""
+
+    error: int
+    triggers: Tuple = ()
+    parts: Tuple[PartOutcome, ...] = ()
+
+
 class Tree:
-    def __init__(self):
+    def __init__(self, dialect=Dialect.ZK34):
         self.nodes, self.pairs, self.sessions = {}, set(), {}
+        self.dialect = dialect
 
     @staticmethod
-    def fresh():
-        tree = Tree()
+    def fresh(dialect=Dialect.ZK34):
+        tree = Tree(dialect)
         for path in (b"/", b"/zookeeper", b"/zookeeper/quota"):
             tree.put(path, Node())
         return tree
@@ -171,31 +77,32 @@ class Tree:
         self.nodes[path] = node
         if path != b"/":
             self.nodes[parent_of(path)].children.add(name_of(path))
-        if node.owner:
+        node.is_ephemeral = is_session(node.owner, self.dialect)
+        if node.is_ephemeral:
             self.pairs.add((node.owner, path))
 
     def copy(self):
         return copy.deepcopy(self)
 
     def apply(self, txn):
-        """Applies a transaction. Returns its error, and the triggers, each a type of event and a path."""
+        """Applies a transaction. Returns what it came to."""
         if txn.kind == SET_ACL:
-            return self.set_acl(txn.body), []
+            return Outcome(self.set_acl(txn.body))
         if txn.kind == MULTI:
             return self.multi(txn)
         if txn.kind == CREATE_SESSION:
             self.sessions[txn.session] = txn.body
-            return 0, []
+            return Outcome(0)
         if txn.kind == CLOSE_SESSION:
-            return 0, self.close_session(txn)
-        return self.operation(txn, txn.kind, txn.body)
+            return Outcome(0, self.close_session(txn))
+        return Outcome(*self.operation(txn, txn.kind, txn.body))
 
     def operation(self, txn, kind, body):
-        if kind == CREATE:
+        if kind in CREATES:
             return self.create(txn, body)
-        if kind == DELETE:
+        if kind in (DELETE, DELETE_CONTAINER):
             return self.delete(txn, body)
-        if kind == SET_DATA:
+        if kind in (SET_DATA, RECONFIG):
             return self.set_data(txn, body)
         return (0 if kind == CHECK else body), []
 
@@ -203,24 +110,38 @@ class Tree:
         parent = self.nodes.get(parent_of(body.path))
         if parent is None:
             return NO_NODE, []
-        cversion = parent.next_cversion(body.cversion)
-        if name_of(body.path) in parent.children:
-            if cversion > parent.cversion:
-                parent.cversion, parent.pzxid = cversion, txn.zxid
+        is_taken = name_of(body.path) in parent.children
+        self.raise_cversion(parent, body.cversion, txn.zxid, is_taken)
+        if is_taken:
+            self.mend_acl(body)
             return NODE_EXISTS, []
-        parent.cversion, parent.pzxid = cversion, txn.zxid
-        owner = txn.session if body.is_ephemeral else 0
+        owner = txn.session if body.owner is None else body.owner
         stat = {"czxid": txn.zxid, "mzxid": txn.zxid, "pzxid": txn.zxid, "ctime": txn.time, "mtime": txn.time}
         self.put(body.path, Node(body.content, body.acl, owner=owner, **stat))
         return 0, [(CREATED, body.path), (CHILDREN, parent_of(body.path))]
 
+    def raise_cversion(self, parent, told, zxid, is_taken):
+        """A create raises its parent's cversion, and the pzxid with it. An image that was written while its leader went
+        on may be ahead of what the leader sends then: so in later dialects nothing falls, whether the node is new or
+        not."""
+        cversion = parent.next_cversion(told)
+        if cversion > parent.cversion or not (is_taken or self.dialect.is_later):
+            parent.cversion, parent.pzxid = cversion, zxid
+
+    def mend_acl(self, body):
+        """A node that came with an image, but without its list of rights, gets it by the create that made it."""
+        node = self.nodes.get(body.path)
+        if self.dialect.is_later and node is not None and not node.acl:
+            node.acl = body.acl
+
     def delete(self, txn, path):
-        node = self.nodes.pop(path, None)
-        parent = self.nodes.get(parent_of(path))
+        node, parent, is_later = self.nodes.pop(path, None), self.nodes.get(parent_of(path)), self.dialect.is_later
+        if parent is not None and (node is not None or is_later):
+            # An image can have been written after the delete, without the node, and with a later pzxid of the parent.
+            parent.pzxid = max(parent.pzxid, txn.zxid) if is_later else txn.zxid
         if node is None or parent is None:
             return NO_NODE, []
         parent.children.discard(name_of(path))
-        parent.pzxid = txn.zxid
         self.pairs.discard((node.owner, path))
         return 0, [(DELETED, path), (CHILDREN, parent_of(path))]
 
@@ -240,18 +161,34 @@ class Tree:
 
     def multi(self, txn):
         if any(it.kind == ERROR for it in txn.body):
-            return next((it for it in errors_of_failed(txn.body) if it), 0), []
-        error, triggers = 0, []
+            parts = [PartOutcome(it) for it in errors_of_failed(txn.body)]
+            return Outcome(first_error(parts), [], parts)
+        triggers, parts = [], []
         for part in txn.body:
-            found, told = self.operation(txn, part.kind, part.body)
-            error, triggers = error or found, triggers + told
-        return error, triggers
+            error, told = self.operation(txn, part.kind, part.body)
+            triggers += told
+            parts.append(PartOutcome(error, self.stat_of_part(part)))
+        return Outcome(first_error(parts), triggers, parts)
+
+    def stat_of_part(self, part):
+        """The Stat that a part of a multi leaves, where the reply shows one."""
+        if part.kind not in (SET_DATA, CREATE2, CREATE_CONTAINER, CREATE_TTL):
+            return None
+        node = self.nodes.get(part.body.path)
+        return node and node.stat()
 
     def close_session(self, txn):
-        paths = sorted(path for owner, path in self.pairs if owner == txn.session)
+        """The session goes, and its ephemerals: those that the tree knows and those that the leader lists. An image that
+        was written meanwhile may lack one of these, or have another node in its place, which a later create makes
+        again."""
+        paths = sorted({path for owner, path in self.pairs if owner == txn.session} | set(txn.body))
         self.pairs = {it for it in self.pairs if it[0] != txn.session}
         self.sessions.pop(txn.session, None)
         return [trigger for path in paths for trigger in self.delete(txn, path)[1]]
+
+
+def first_error(parts):
+    return next((it.error for it in parts if it.error), 0)
 
 
 def errors_of_failed(parts):
@@ -263,56 +200,3 @@ def errors_of_failed(parts):
             errors.append(RUNTIME_INCONSISTENCY if has_failed else 0)
         has_failed = has_failed or part.kind == ERROR
     return errors
-
-
-# ---- images
-
-
-def node_in(reader, path, lists, tree):
-    content, key = reader.buffer(), reader.long()
-    names = ("czxid", "mzxid", "ctime", "mtime", "version", "cversion", "aversion", "owner", "pzxid")
-    stat = dict(zip(names, reader.numbers("qqqqiiiqq")))
-    stands = path == b"" or parent_of(path) in tree.nodes
-    if not stands or (path or b"/") in tree.nodes or key not in lists or not path and tree.nodes:
-        raise Fault(10)
-    tree.put(path or b"/", Node(content, lists[key], **stat))
-
-
-def nodes_in(reader, lists, tree):
-    path = reader.text()
-    if path == b"/":
-        raise Fault(10)
-    if path is None or path and not is_path(path):
-        raise Fault(4)
-    while path != b"/":
-        node_in(reader, path, lists, tree)
-        path = reader.text()
-        if path != b"/" and not is_path(path):
-            raise Fault(4)
-
-
-def counted(reader):
-    count = reader.sized(2**20)
-    if count is None:
-        raise Fault(2)
-    return range(count)
-
-
-def image_in(reader):
-    """Reads the image of a tree."""
-    tree, lists = Tree(), {}
-    for _ in counted(reader):
-        session, timeout = reader.numbers("qi")
-        if session in tree.sessions:
-            raise Fault(10)
-        tree.sessions[session] = timeout
-    for _ in counted(reader):
-        key, acl = reader.long(), reader.vector(reader.acl)
-        if key in lists:
-            raise Fault(10)
-        lists[key] = OPEN if acl is None else acl
-    lists[-1] = OPEN
-    nodes_in(reader, lists, tree)
-    if reader.text() != b"BenWasHere":
-        raise Fault(10)
-    return tree
