@@ -10,7 +10,8 @@ What it refuses:
 - a name that definitions of two or more crates have, unless docs/GLOSSARY.md lists it under "Names in several crates",
   with the one meaning that it has in all of them;
 - an entry of these two lists whose crates are not those that define the name;
-- a crate of more than 100 functions, and a source file of more than 800 lines.
+- a crate of more than 100 functions, or of more than 125 with those that it derives, and a source file of more than 800
+  lines.
 
 Each crate counts as one, and so does the glossary. The last line is `N passed, M failed`; the exit status is 0 where
 nothing failed.
@@ -24,6 +25,7 @@ TOP = os.path.dirname(os.path.dirname(os.path.realpath(__file__)))
 CRATES = os.path.join(TOP, "crates")
 GLOSSARY = os.path.join(TOP, "docs", "GLOSSARY.md")
 MOST_FUNCTIONS = 100
+MOST_WITH_DERIVED = 125
 MOST_LINES = 800
 
 # A declaration begins its line: words like `abbrev pub`, the name, parameters, a colon. In a module it is indented.
@@ -34,6 +36,9 @@ DECLARATION = re.compile(
 NO_NAMES = {"use", "module", "--", "}", ")", "pub"}
 ONE_WORD = re.compile(r"[a-z]+")
 FUNCTION = re.compile(r"^\s*(?:pub(?:\([a-z]+\))?\s+)?(?:const\s+)?(?:unsafe\s+)?fn\s+\w+", re.M)
+DERIVES = re.compile(r"^\s*#\[derive\(([^)]*)\)\]", re.M)
+# These derive no function that runs.
+MARKERS = {"Copy", "Drop", "Eq", "Send", "Sync"}
 NAMES_OF_ONE_WORD = "Names of one word"
 NAMES_IN_SEVERAL_CRATES = "Names in several crates"
 
@@ -108,12 +113,22 @@ def wrong_names(found):
             yield GLOSSARY, f"docs/GLOSSARY.md: only one crate has `{name}`, which is under `{NAMES_IN_SEVERAL_CRATES}`"
 
 
+def derived_in(text):
+    """Returns how many functions a source file derives."""
+    traits = (it.strip() for listed in DERIVES.findall(text) for it in listed.split(","))
+    return sum(it not in MARKERS for it in traits if it)
+
+
 def wrong_sizes(crates):
     """Yields the crates of too many functions or with files of too many lines, and what is too much."""
     for crate in crates:
-        count = sum(len(FUNCTION.findall(text_of(file))) for file in files_in(crate, ["src"], ".rt"))
+        sources = [text_of(file) for file in files_in(crate, ["src"], ".rt")]
+        count = sum(len(FUNCTION.findall(it)) for it in sources)
         if count > MOST_FUNCTIONS:
             yield crate, f"{crate}: {count} functions, and a crate has at most {MOST_FUNCTIONS}"
+        count += sum(map(derived_in, sources))
+        if count > MOST_WITH_DERIVED:
+            yield crate, f"{crate}: {count} functions with derived ones, and a crate has at most {MOST_WITH_DERIVED}"
         for file in files_in(crate, ["src", "specs", "proofs"], (".rt", ".antt")):
             count = text_of(file).count("\n")
             if count > MOST_LINES:

@@ -1,18 +1,40 @@
 #!/usr/bin/env python3
-"""Reads the program's own tables, and compares docs/OPERATING.md with them, so that page and program can't part.
+"""Compares the pages, which are README.md and docs/, with the program and with each other.
 
     tools/pages.py             compares
-    tools/pages.py --print     prints the two tables as the page is to have them
+    tools/pages.py --print     prints the two tables of docs/OPERATING.md as they have to be
 
-The page's table of options has for each row of crates/serve_options/src/row.rt what `serve --help` prints of it. Its
-table of faults has for each fault of crates/values/src/fault.rt, in order, the hint of crates/serve_failures/src/hint.rt,
-word for word. Each option and each fault counts as one. The last line is `N passed, M failed`; the exit status is 0
-where nothing failed. tools/manual.py makes the man page and the completion of the same rows.
+In docs/OPERATING.md it refuses
+
+- an option whose line differs from what `serve --help` prints of its row in crates/serve_options/src/row.rt, and one
+  that is missing or that the program doesn't have;
+- a fault of crates/values/src/fault.rt whose line doesn't begin with its hint in crates/serve_failures/src/hint.rt,
+  word for word, and one that is missing, or that isn't in the program's order.
+
+In every page it refuses (tools/cited.py)
+
+- a link to a file that isn't there, or to a heading that a page doesn't have;
+- a word in backticks that looks like a file, a folder, a name of the code (`name`, `crate::Type::name`), a worked row
+  or an option, or a name of the code in a picture, and that nothing in the repository is called (words of ZooKeeper,
+  Rust and others are listed there). Indented blocks aren't read, nor is docs/measurements, an archive;
+- a name that the file beside which it stands doesn't declare: in "`name` in `file`", or in a column whose head names
+  the file or its folder;
+- a figure of README.md (a number in its text) that isn't in a page to which its paragraph leads, or in no page, if it
+  leads to none; and a second toolchain;
+- a list of crates in docs/ARCHITECTURE.md that differs from crates.txt in a heading, a crate or the order;
+- a list of proofs in docs/INDEX.md that lacks a module of a crate's `proofs` that another crate names, or has one that
+  no other crate names.
+
+Each option and each fault counts as one, and so do the links of a page, its names, and each of the last three. The last
+line is `N passed, M failed`; the exit status is 0 if nothing failed. tools/manual.py makes the man page and the
+completion of the same rows as the table of options.
 """
 import os
 import re
 import sys
 from typing import NamedTuple
+
+import cited
 
 TOP = os.path.dirname(os.path.dirname(os.path.realpath(__file__)))
 PAGE = os.path.join(TOP, "docs", "OPERATING.md")
@@ -122,6 +144,7 @@ def main():
         return 0
     try:
         found = list(wrong(text_of(PAGE)))
+        found += [("\n".join(lines) or what, bool(lines)) for what, lines in cited.checks()]
     except (OSError, ValueError, IndexError, KeyError, StopIteration) as why:
         found = [(f"{type(why).__name__}: {why}", True)]
     for what, is_wrong in found:
