@@ -1,15 +1,15 @@
 -- A hub's list agrees with its desk.
-use Rattle.std.proofs.Common.{◌≡◌, ◌≤◌, ◌+◌, ◌==◌, ℕ, zero, suc, Bool, true, false, cond, List, [], ◌∷◌, ◌++◌, length, take, Option, Some, None, Ok, refl, ap, sym, ◌∙◌, subst, inl, inr, arith}
-use Rattle.std.specs.FinMap as finmap
+use Rattle.std.proofs.Common.{◌≡◌, ◌≤◌, ◌+◌, ◌==◌, ℕ, zero, suc, Bool, true, false, cond, List, [], ◌∷◌, ◌++◌, length, take, Option, Some, None, Ok, Err, refl, ap, sym, ◌∙◌, subst, inl, inr, arith}
 use Rattle.std.proofs.lemmas.List.{take-append-le, take_all, length-append}
 use Rattle.std.proofs.lemmas.Bool.Decides.{eqb_tells, nat_tests}
 use Rattle.observer_core.specs.Machine.{Machine}
+use Rattle.observer_core.specs.declared.engine.Stop.TheVariants as stops
 use Rattle.intake.specs.declared.port.PortEnd.{PortEnd}
 use Rattle.intake.specs.Messages.{PortMessage, share_of_port}
 use Rattle.intake.specs.Links.{owed_at}
-use Rattle.intake.specs.Desk.{Desk, new_desk, AddsPort, TakesTurn, TakesNothing, AnswersTurn}
+use Rattle.intake.specs.Desk.{Desk, AddsPort, TakesTurn, TakesNothing, AnswersTurn}
 use Rattle.intake.specs.Agreement.{DeskAgrees, outputs_of, with_port}
-use Rattle.intake.specs.Hub.{Hub, number_at, taken_before, IsHubSince}
+use Rattle.intake.specs.Hub.{Hub, new_hub, without_port, number_at, taken_before, IsHubSince, HubsRun}
 use Rattle.intake.proofs.Agreeing.{desks_agree}
 
 -- The lists before the ports, given in another way.
@@ -22,19 +22,12 @@ told_so began d taken before others same a = record {
   unused = a.unused;
 }
 
-pub runs_at_first : (m : Machine) (h : Hub) → h.desk ≡ new_desk m → h.taken ≡ [] → h.since ≡ [] → IsHubSince m h
-runs_at_first m h desk taken since =
-    let first : Hub = record { desk = new_desk m; taken = []; since = [] } in
-    let is : first ≡ h =
-    ap (λ (d : Desk). let x : Hub = record { desk = d; taken = []; since = [] } in x) (sym desk)
-    ∙ ap (λ (t : List PortMessage). let x : Hub = record { desk = h.desk; taken = t; since = [] } in x) (sym taken)
-    ∙ ap (λ (s : List ℕ). let x : Hub = record { desk = h.desk; taken = h.taken; since = s } in x) (sym since) in
-    let P : Hub → Type 0 = λ x. IsHubSince m x in
-    subst P is (record {
-      agrees = desks_agree.opens m (taken_before first);
-      within = λ n. omega arith;
-      ports = refl;
-    })
+runs_at_first : (m : Machine) → IsHubSince m (new_hub m)
+runs_at_first m = record {
+  agrees = desks_agree.opens m (taken_before (new_hub m));
+  within = λ n. omega arith;
+  ports = refl;
+}
 
 -- ---- a turn
 
@@ -43,7 +36,13 @@ turned_machine : (o : Option Machine) (old new : Desk) (count : ℕ) → Answers
 turned_machine None old new count t = absurd t
 turned_machine (Some m) old new count t = (m, (refl, (t.0, t.1)))
 
-pub runs_on : (began : Machine) (old : Hub) (new left : Desk) (taken : List PortMessage) (count : ℕ)
+-- The desk was open, and is closed after the turn.
+pub closed_turn : (o : Option Machine) (old turned new : Desk) (count : ℕ) → AnswersTurn (Ok count) o old turned
+    → new.machine ≡ None → AnswersTurn (Err stops.NoMemory) o old new
+closed_turn None old turned new count t none = absurd t
+closed_turn (Some m) old turned new count t none = inl none
+
+runs_on : (began : Machine) (old : Hub) (new left : Desk) (taken : List PortMessage) (count : ℕ)
     → AnswersTurn (Ok count) old.desk.machine old.desk new → left ≡ record new { fresh = [] }
     → taken ≡ old.taken ++ new.fresh → IsHubSince began old
     → IsHubSince began (record { desk = left; taken = taken; since = old.since })
@@ -64,7 +63,7 @@ runs_on began old new left taken count t is grown r =
       ports = r.ports ∙ sym turned.1.1.1.next;
     }))
 
-pub runs_still : (began : Machine) (old : Hub) (new : Desk) → TakesNothing old.desk new → IsHubSince began old
+runs_still : (began : Machine) (old : Hub) (new : Desk) → TakesNothing old.desk new → IsHubSince began old
     → IsHubSince began (record old { desk = new })
 runs_still began old new w r = record {
   agrees = desks_agree.waits began old.desk new old.taken (taken_before old) r.agrees w;
@@ -72,16 +71,12 @@ runs_still began old new w r = record {
   ports = r.ports ∙ sym w.next;
 }
 
-pub runs_without : (began : Machine) (old : Hub) (n : ℕ) (new : Desk)
-    → new ≡ record old.desk { links = finmap.remove old.desk.links n } → IsHubSince began old
-    → IsHubSince began (record old { desk = new })
-runs_without began old n new is r =
-    let P : Desk → Type 0 = λ d. IsHubSince began (record old { desk = d }) in
-    subst P (sym is) (record {
-      agrees = desks_agree.closes began old.desk n old.taken (taken_before old) r.agrees;
-      within = r.within;
-      ports = r.ports;
-    })
+runs_without : (began : Machine) (old : Hub) (n : ℕ) → IsHubSince began old → IsHubSince began (without_port old n)
+runs_without began old n r = record {
+  agrees = desks_agree.closes began old.desk n old.taken (taken_before old) r.agrees;
+  within = r.within;
+  ports = r.ports;
+}
 
 -- ---- a port
 
@@ -107,7 +102,7 @@ within_then false most k h = h
 added_length : (xs : List ℕ) (v : ℕ) → length (xs ++ v ∷ []) ≡ length xs + 1
 added_length xs v = length-append xs (v ∷ [])
 
-pub runs_with : (began : Machine) (old : Hub) (port : PortEnd) (new : Desk) (since : List ℕ)
+runs_with : (began : Machine) (old : Hub) (port : PortEnd) (new : Desk) (since : List ℕ)
     → AddsPort old.desk port new → since ≡ old.since ++ length old.taken ∷ [] → IsHubSince began old
     → IsHubSince began (record { desk = new; taken = old.taken; since = since })
 runs_with began old port new since added is r =
@@ -124,3 +119,27 @@ runs_with began old port new since added is r =
           subst P (sym (at n)) (within_then (n == port.number) (length old.taken) (number_at old.since n) (r.within n));
       ports = ap length is ∙ added_length old.since (length old.taken) ∙ ap (λ k. k + 1) r.ports ∙ sym added.next;
     }
+
+-- ---- all of it
+
+-- A hub with this list and these lengths.
+same_hub : (began : Machine) (h : Hub) (taken : List PortMessage) (since : List ℕ) → h.taken ≡ taken → h.since ≡ since
+    → IsHubSince began (record { desk = h.desk; taken = taken; since = since }) → IsHubSince began h
+same_hub began h taken since t s r =
+    let P : List PortMessage → Type 0 = λ l. IsHubSince began (record { desk = h.desk; taken = l; since = h.since }) in
+    let Q : List ℕ → Type 0 = λ l. IsHubSince began (record { desk = h.desk; taken = taken; since = l }) in
+    subst P (sym t) (subst Q (sym s) r)
+
+pub hubs_run : HubsRun
+hubs_run = record {
+  opens = runs_at_first;
+  adds = λ began old port new gains r.
+      same_hub began new old.taken new.since gains.taken refl
+      (runs_with began old port new.desk new.since gains.desk gains.since r);
+  turns = λ began old count turned new gains r.
+      same_hub began new new.taken old.since refl gains.since
+      (runs_on began old turned new.desk new.taken count gains.turn gains.desk gains.taken r);
+  waits = λ began old new nothing taken since r.
+      same_hub began new old.taken old.since taken since (runs_still began old new.desk nothing r);
+  closes = runs_without;
+}

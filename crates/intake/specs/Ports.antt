@@ -1,6 +1,6 @@
 -- What went through a port, from its thread's end.
-use Rattle.std.specs.Prelude.{◌≡◌, List}
-use Rattle.rtrb.specs.Ring.{sent, received, known_free, known_items, SameProducer, SameConsumer}
+use Rattle.std.specs.Prelude.{◌≡◌, ℕ, List}
+use Rattle.rtrb.specs.Ring.{sent, received, known_free, known_items, producer_capacity, consumer_capacity, SameProducer, SameConsumer}
 use Rattle.client_service.specs.declared.output.Output.{Output}
 use Rattle.intake.specs.declared.message.Message.{Message}
 use Rattle.intake.specs.declared.port.PortEnd.{PortEnd}
@@ -15,6 +15,12 @@ received_through port = received port.outbox
 -- As many messages as there is room for were sent and not seen to be taken.
 abbrev pub IsFull : PortEnd → Type 0
 IsFull port = known_free port.inbox ≡ 0
+
+-- There is room for this many messages and as many outputs.
+pub record HasRoom (capacity : ℕ) (port : PortEnd) : Type 0 where
+  pub messages : known_free port.inbox ≡ capacity
+  pub inbox : producer_capacity port.inbox ≡ capacity
+  pub outbox : consumer_capacity port.outbox ≡ capacity
 
 -- The same port, except for what went through.
 pub record SamePort (old new : PortEnd) : Type 0 where

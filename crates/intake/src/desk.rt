@@ -8,7 +8,7 @@ ghost use Rattle.observer_core.specs.Play.{new_machine, primed_machine};
 ghost use Rattle.observer_core.specs.Plays.{PlaysEvents};
 ghost use Rattle.intake.specs.declared.message.AddPortError.TheVariants as errors;
 ghost use Rattle.intake.specs.Messages.{events_of};
-ghost use Rattle.intake.specs.Ports.{sent_through, received_through, unread_through, SamePort};
+ghost use Rattle.intake.specs.Ports.{sent_through, received_through, unread_through, HasRoom, SamePort};
 ghost use Rattle.intake.specs.Links.{taken_at, waiting_at, outbox_at, IsEnd, TakesNoMessage};
 ghost use Rattle.intake.specs.Desk.{new_desk, AddsPort, IsRemembered, ForgetsNone, TakesTurn, TakesNothing, AnswersTurn};
 ghost use Rattle.intake.specs.Steps.{BeginsTurn, FeedsPort, ServesPorts};
@@ -156,6 +156,7 @@ impl Desk {
     /// none is used again.
     pub fn add_port(&mut self, capacity: usize) -> Result<Port, AddPortError>
         ensures ok { IfOk result (λ port. AddsPort self.old port self.new) }
+        ensures room { IfOk result (HasRoom capacity) }
         ensures err { OnErr result (self.new ≡ self.old) }
         ensures bounds { OnOk result ((0 < capacity) × (capacity ≤ 1024)) }
         ensures out_of_bounds { result ≡ Err errors.BadCapacity → (capacity ≡ 0) ⊎ (1024 < capacity) }
@@ -172,6 +173,7 @@ impl Desk {
     fn open_port(&mut self, capacity: usize) -> Result<Port, NoMemory>
         requires { capacity ≤ 1024 }
         ensures ok { IfOk result (λ port. AddsPort self.old port self.new) }
+        ensures room { IfOk result (HasRoom capacity) }
         ensures err { OnErr result (self.new ≡ self.old) }
     {
         let number = self.next;
@@ -256,6 +258,7 @@ impl Desk {
         ensures taken { OnOk result (taken.new.items ≡ taken.old.items ++ self.old.fresh) }
         ensures desk { OnOk result (self.new ≡ record self.old { fresh = [] }) }
         ensures closed { OnErr result (self.new.machine ≡ None) }
+        ensures kept { OnErr result (taken.new.items ≡ taken.old.items) }
     {
         if taken.append(&mut self.fresh).is_err() {
             self.closed = true;

@@ -1,13 +1,12 @@
 //! The hub: a desk, and the list of all messages that it took.
 
-ghost use Rattle.std.specs.Prelude.{◌≡◌, ◌++◌, ◌+◌, length, IfOk, OnErr, OnOk, []};
-ghost use Rattle.std.specs.FinMap as finmap;
-ghost use Rattle.observer_core.specs.Machine.{Machine as TheMachine};
+ghost use Rattle.std.specs.Prelude.{◌≡◌, ◌≢◌, ◌⊎◌, ◌++◌, ◌<◌, ◌≤◌, ◌∷◌, length, IfOk, OnErr, OnOk, Err, []};
 ghost use Rattle.observer_core.specs.Play.{new_machine, primed_machine};
-ghost use Rattle.intake.specs.Messages.{part_of_port};
-ghost use Rattle.intake.specs.Ports.{sent_through, received_through, unread_through, SamePort};
-ghost use Rattle.intake.specs.Links.{waiting_at, outbox_at, IsEnd};
-ghost use Rattle.intake.specs.Hub.{IsHubSince};
+ghost use Rattle.intake.specs.declared.message.AddPortError.TheVariants as errors;
+ghost use Rattle.intake.specs.Ports.{sent_through, received_through, unread_through, HasRoom, SamePort};
+ghost use Rattle.intake.specs.Links.{taken_at, waiting_at, outbox_at, IsEnd};
+ghost use Rattle.intake.specs.Desk.{TakesNothing};
+ghost use Rattle.intake.specs.Hub.{new_hub, GainsPort, TurnsHub, without_port};
 
 use crate::desk::Desk;
 use crate::message::{AddPortError, Message};
@@ -44,7 +43,7 @@ impl Model for Hub {
 impl Hub {
     /// A hub whose observer hasn't followed a leader yet. Fails only if an allocation is refused.
     pub fn new(alloc: Global, config: Config) -> Result<Hub, NoMemory>
-        ensures { IfOk result (λ h. IsHubSince (new_machine config.settings) h) }
+        ensures { IfOk result (λ h. h ≡ new_hub (new_machine config.settings)) }
     {
         let desk = Desk::new(alloc, config)?;
         Ok(Hub::with_desk(alloc, desk))
@@ -53,14 +52,14 @@ impl Hub {
     /// A hub whose observer follows a leader in epoch 1, with connection 1 open. Fails only if an allocation is
     /// refused.
     pub fn primed(alloc: Global, config: Config) -> Result<Hub, NoMemory>
-        ensures { IfOk result (λ h. IsHubSince (primed_machine config.settings) h) }
+        ensures { IfOk result (λ h. h ≡ new_hub (primed_machine config.settings)) }
     {
         let desk = Desk::primed(alloc, config)?;
         Ok(Hub::with_desk(alloc, desk))
     }
 
     fn with_desk(alloc: Global, desk: Desk) -> Hub
-        ensures { (result.desk ≡ desk) × (result.taken ≡ []) × (result.since ≡ []) }
+        ensures { result ≡ record { desk = desk; taken = []; since = [] } }
     {
         Hub {
             desk,
@@ -69,11 +68,13 @@ impl Hub {
         }
     }
 
-    /// Adds the next port, as a desk does.
+    /// Adds the next port, as a desk does. A port that is refused changes nothing.
     pub fn add_port(&mut self, capacity: usize) -> Result<Port, AddPortError>
-        ensures ok { OnOk result ((began : TheMachine) → IsHubSince began self.old → IsHubSince began self.new) }
-        ensures end { IfOk result (λ port. IsEnd port self.new.desk.links) }
-        ensures taken { self.new.taken ≡ self.old.taken }
+        ensures ok { IfOk result (λ port. GainsPort self.old port self.new) }
+        ensures room { IfOk result (HasRoom capacity) }
+        ensures err { OnErr result (self.new ≡ self.old) }
+        ensures bounds { OnOk result ((0 < capacity) × (capacity ≤ 1024)) }
+        ensures out_of_bounds { result ≡ Err errors.BadCapacity → (capacity ≡ 0) ⊎ (1024 < capacity) }
     {
         if self.since.reserve(1).is_err() {
             return Err(AddPortError::NoMemory);
@@ -100,32 +101,36 @@ impl Hub {
         &self.desk
     }
 
-    /// Makes a turn of the desk, and appends its messages to the list.
+    /// Makes a turn of the desk, and appends its messages to the list. Returns the number of messages taken. Fails as
+    /// [`Desk::turn`] does; if the list can't grow, the desk is closed.
     pub fn turn<R: Threads + Sync, G: Gate + Sync>(
         &mut self,
         rt: &R,
         gate: &G,
     ) -> Result<usize, Stop>
-        ensures runs { OnOk result ((began : TheMachine) → IsHubSince began self.old → IsHubSince began self.new) }
-        ensures count { IfOk result (λ count. length self.new.taken ≡ length self.old.taken + count) }
+        ensures { TurnsHub result self.old self.new }
     {
-        let count = self.desk.turn(rt, gate)?;
-        let Ok(()) = self.desk.hand_over(&mut self.taken) else {
-            return Err(Stop::NoMemory);
-        };
-        Ok(count)
+        match self.desk.turn(rt, gate) {
+            Err(stop) => Err(stop),
+            Ok(count) => match self.desk.hand_over(&mut self.taken) {
+                Err(NoMemory) => Err(Stop::NoMemory),
+                Ok(()) => Ok(count),
+            },
+        }
     }
 
     /// The number of messages of a finished port that weren't taken yet. The next turn takes them.
     pub fn left(&mut self, end: &mut PortEnd) -> usize
         requires { IsEnd end.old self.old.desk.links }
         ensures count { result ≡ length (waiting_at self.new.desk.links end.old.number) }
-        ensures sent { (began : TheMachine) → IsHubSince began self.old
-            → part_of_port end.old.number self.new.taken ++ waiting_at self.new.desk.links end.old.number
+        ensures sent { taken_at self.new.desk.links end.old.number ++ waiting_at self.new.desk.links end.old.number
             ≡ sent_through end.new }
         ensures received { received_through end.new ++ unread_through end.new
             ≡ outbox_at self.new.desk.links end.old.number }
-        ensures runs { (began : TheMachine) → IsHubSince began self.old → IsHubSince began self.new }
+        ensures desk { TakesNothing self.old.desk self.new.desk }
+        ensures later { self.new.desk.later ≡ self.old.desk.later }
+        ensures taken { self.new.taken ≡ self.old.taken }
+        ensures since { self.new.since ≡ self.old.since }
         ensures end { SamePort end.old end.new }
     {
         self.desk.left(end)
@@ -133,7 +138,7 @@ impl Hub {
 
     /// Removes a finished port, with the outputs kept for it and the messages that weren't taken.
     pub fn close(&mut self, end: PortEnd)
-        ensures { (began : TheMachine) → IsHubSince began self.old → IsHubSince began self.new }
+        ensures { self.new ≡ without_port self.old end.number }
     {
         self.desk.close(end);
     }

@@ -1,10 +1,17 @@
-//! Laws of desks.
+//! Laws of desks and hubs.
 
 ghost use Rattle.intake.specs.Agreement.{DesksAgree};
+ghost use Rattle.intake.specs.Hub.{HubsRun};
 
 /// A desk agrees with all messages that it took: its machine is the one that `play` leaves after them; the messages
 /// taken of an open port are the port's part of them, in order; and the outputs put into the port's outbox, followed by
 /// those kept for it, are its share of the outputs of `play` since the port was added.
 pub fn desks_agree()
     ensures { DesksAgree }
+{}
+
+/// Whatever a hub does, its desk agrees with all messages that it took since it began: its machine is the one that
+/// `play` leaves after them, and each open port has its part of the messages and its share of the outputs.
+pub fn hubs_run()
+    ensures { HubsRun }
 {}

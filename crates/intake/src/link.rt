@@ -84,7 +84,7 @@ impl Link {
     }
 
     /// Puts kept outputs until the outbox is full or none is kept, and notes that the thread is to be told.
-    pub fn put_kept(&mut self, number: usize, notes: &mut Notes) -> Result<(), NoMemory>
+    pub(crate) fn put_kept(&mut self, number: usize, notes: &mut Notes) -> Result<(), NoMemory>
         ensures owes { outputs_owed self.new ≡ outputs_owed self.old }
         ensures outbox { SameProducer self.old.outbox self.new.outbox }
         ensures inbox { self.new.inbox ≡ self.old.inbox }

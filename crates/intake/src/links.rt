@@ -63,7 +63,7 @@ impl Links {
     }
 
     /// Puts outputs that are kept for the port.
-    pub fn put_kept(&mut self, number: usize, notes: &mut Notes) -> Result<(), NoMemory>
+    pub(crate) fn put_kept(&mut self, number: usize, notes: &mut Notes) -> Result<(), NoMemory>
         ensures rests { TakesNoMessage self.old self.new }
         ensures waits { SameWait self.old self.new }
     {
@@ -134,7 +134,7 @@ impl Links {
     }
 
     /// Whether `left` was asked of the port.
-    pub fn is_finished(&self, number: usize) -> bool {
+    pub(crate) fn is_finished(&self, number: usize) -> bool {
         match self.map.get(&number) {
             None => false,
             Some(link) => link.is_finished,
@@ -179,7 +179,11 @@ impl Links {
 
     /// Puts the outputs that are kept for these ports.
     #[tactic(auto, using(crate::proofs::Keeping::rests_same, crate::proofs::Keeping::rests_on))]
-    pub fn put_all_kept(&mut self, numbers: &[usize], notes: &mut Notes) -> Result<(), NoMemory>
+    pub(crate) fn put_all_kept(
+        &mut self,
+        numbers: &[usize],
+        notes: &mut Notes,
+    ) -> Result<(), NoMemory>
         ensures rests { TakesNoMessage self.old self.new }
         ensures waits { SameWait self.old self.new }
     {

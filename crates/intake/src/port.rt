@@ -1,6 +1,7 @@
 //! The end of a port that is with the thread of its connection.
 
 ghost use Rattle.std.specs.Prelude.{◌≡◌, ◌++◌, [], ◌∷◌, OnOk, IfErr, IfSome, IfNone};
+ghost use Rattle.rtrb.specs.Ring.{producer_capacity};
 ghost use Rattle.intake.specs.Ports.{sent_through, received_through, IsFull, SamePort};
 
 use crate::events::content_len;
@@ -67,7 +68,9 @@ impl Port {
     }
 
     /// How many messages, and how many outputs, may wait.
-    pub fn capacity(&self) -> usize {
+    pub fn capacity(&self) -> usize
+        ensures { result ≡ producer_capacity self.now.inbox }
+    {
         self.end.inbox.capacity()
     }
 

@@ -1,5 +1,5 @@
 -- The end of a finished port is still that of an open port, after messages went through it and after a turn.
-use Rattle.std.proofs.Common.{◌≡◌, ℕ, Option, Some, None, Result, Ok, Err, sym, ◌∙◌, subst}
+use Rattle.std.proofs.Common.{◌≡◌, ℕ, Option, Some, None, Result, Ok, Err, ap, sym, ◌∙◌, subst}
 use Rattle.std.specs.FinMap as finmap
 use Rattle.observer_core.specs.Machine.{Machine}
 use Rattle.observer_core.specs.declared.engine.Stop.{Stop}
@@ -8,6 +8,7 @@ use Rattle.intake.specs.declared.port.PortEnd.{PortEnd}
 use Rattle.intake.specs.Ports.{SamePort}
 use Rattle.intake.specs.Links.{Links, IsEnd, IsEndBy, StaysOpen, AllStay}
 use Rattle.intake.specs.Desk.{Desk, AnswersTurn}
+use Rattle.intake.specs.Hub.{Hub, TurnsHub}
 
 -- Both are equal to the same value.
 moved : {X : Type 0} (a b c d : X) → b ≡ a → c ≡ a → d ≡ b → d ≡ c
@@ -51,3 +52,10 @@ pub all_stay_in_a_turn : (took : ℕ) (m : Option Machine) (old new : Desk) → 
     → AllStay old.links new.links
 all_stay_in_a_turn took (Some m) old new turns = turns.1.stay
 all_stay_in_a_turn took None old new turns = elim turns [ ]
+
+pub all_stay_in_a_hubs_turn : (took : ℕ) (old new : Hub) → TurnsHub (Ok took) old new
+    → AllStay old.desk.links new.desk.links
+all_stay_in_a_hubs_turn took old new (turned, turn) =
+    let P : Links → Type 0 = λ l. AllStay old.desk.links l in
+    subst P (sym (ap (λ (d : Desk). d.links) turn.desk))
+    (all_stay_in_a_turn took old.desk.machine old.desk turned turn.turn)

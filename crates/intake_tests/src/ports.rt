@@ -1,9 +1,11 @@
 //! A port by itself, and adding and removing ports.
 //!
 //! A test makes the desk and has a function of its own do the rest, so that the desk is dropped at one place.
-use crate::helpers::{asks, blob, is_handed_back, port, primed, sends, xid_of};
+use crate::helpers::{
+    asks, blob, hub_port, is_handed_back, port, primed, primed_hub, sends, xid_of,
+};
 use apply_workers::OpenGate;
-use intake::{AddPortError, Desk, Message};
+use intake::{AddPortError, Desk, Hub, Message};
 use std::alloc::Global;
 use std::process::Abort;
 use std::test::Fail;
@@ -98,4 +100,31 @@ fn finish_when_served<R: Abort + Threads + Sync>(
 fn a_port_that_was_served_has_nothing_left(rt: HostRuntime) -> Result<(), Fail> {
     let mut desk = primed(rt.alloc())?;
     finish_when_served(&rt, rt.alloc(), &mut desk)
+}
+
+#[tactic(auto, using(crate::proofs::Ends::is_end_kept, crate::proofs::Ends::all_stay_in_a_hubs_turn))]
+fn finish_when_a_hub_has_served<R: Abort + Threads + Sync>(
+    rt: &R,
+    alloc: Global,
+    hub: &mut Hub,
+) -> Result<(), Fail> {
+    let frame = blob(alloc, &asks(1))?;
+    let _leader = hub_port(hub, 1)?;
+    let mut client = hub.add_port(2)?;
+    assert!(rt; client.send(Message::Bytes(frame)).is_ok());
+    let Ok(took) = hub.turn(rt, &OpenGate) else {
+        return Err(Fail::from("closed"));
+    };
+    let xid = client.receive().and_then(xid_of);
+    let mut end = client.finish();
+    let left = hub.left(&mut end);
+    hub.close(end);
+    assert_eq!(rt; (took, xid, left), (1, Some(1), 0));
+    Ok(())
+}
+
+#[test]
+fn a_port_that_a_hub_served_has_nothing_left(rt: HostRuntime) -> Result<(), Fail> {
+    let mut hub = primed_hub(rt.alloc())?;
+    finish_when_a_hub_has_served(&rt, rt.alloc(), &mut hub)
 }

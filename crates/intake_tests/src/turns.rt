@@ -111,3 +111,28 @@ fn a_hub_keeps_what_it_took(rt: HostRuntime) -> Result<(), Fail> {
     let mut hub = primed_hub(rt.alloc())?;
     take_three(&rt, &mut hub)
 }
+
+fn serve_a_hub_through_a_small_outbox<R: Abort + Threads + Sync>(
+    rt: &R,
+    alloc: Global,
+    hub: &mut Hub,
+) -> Result<(), Fail> {
+    let frames = asks_twice(alloc)?;
+    let _leader = hub_port(hub, 1)?;
+    let mut client = hub_port(hub, 1)?;
+    assert!(rt; client.send(Message::Bytes(frames)).is_ok());
+    assert_eq!(rt; hub_turn(rt, hub), Some(1));
+    assert_eq!(rt; receives(&mut client), Some(1));
+    assert_eq!(rt; receives(&mut client), None);
+    assert_eq!(rt; hub_turn(rt, hub), Some(0));
+    assert_eq!(rt; receives(&mut client), Some(2));
+    assert_eq!(rt; receives(&mut client), None);
+    assert_eq!(rt; taken(hub), 1);
+    Ok(())
+}
+
+#[test]
+fn a_hub_keeps_replies_in_order_for_a_small_outbox(rt: HostRuntime) -> Result<(), Fail> {
+    let mut hub = primed_hub(rt.alloc())?;
+    serve_a_hub_through_a_small_outbox(&rt, rt.alloc(), &mut hub)
+}

@@ -1,6 +1,6 @@
 //! What a turn notes about the ports.
 
-ghost use Rattle.std.specs.Prelude.{◌≡◌};
+ghost use Rattle.std.specs.Prelude.{◌≡◌, []};
 
 use std::alloc::Global;
 use std::mem;
@@ -24,7 +24,11 @@ pub struct Notes {
 }
 
 impl Notes {
-    pub fn new(alloc: Global) -> Notes {
+    pub fn new(alloc: Global) -> Notes
+        ensures told { (result.told.items ≡ []) × (result.ended.items ≡ []) × (result.closing.items ≡ []) }
+        ensures keeping { result.keeping.items ≡ [] }
+        ensures counts { (result.turn ≡ 0) × (result.answered ≡ 0) }
+    {
         Notes {
             turn: 0,
             told: Vec::new(alloc),
@@ -36,7 +40,13 @@ impl Notes {
     }
 
     /// Makes room for this many ports.
-    pub fn reserve(&mut self, ports: usize) -> Result<(), NoMemory> {
+    pub fn reserve(&mut self, ports: usize) -> Result<(), NoMemory>
+        ensures told { self.new.told.items ≡ self.old.told.items }
+        ensures ended { self.new.ended.items ≡ self.old.ended.items }
+        ensures keeping { self.new.keeping.items ≡ self.old.keeping.items }
+        ensures closing { self.new.closing.items ≡ self.old.closing.items }
+        ensures counts { (self.new.turn ≡ self.old.turn) × (self.new.answered ≡ self.old.answered) }
+    {
         reserve(&mut self.told, ports)?;
         reserve(&mut self.ended, ports)?;
         reserve(&mut self.keeping, ports)?;
@@ -44,7 +54,11 @@ impl Notes {
     }
 
     /// Begins another turn. `kept` becomes the list of the ports for which outputs are kept.
-    pub fn begin(&mut self, kept: &mut Vec<usize>) {
+    pub fn begin(&mut self, kept: &mut Vec<usize>)
+        ensures told { (self.new.told.items ≡ []) × (self.new.ended.items ≡ []) × (self.new.closing.items ≡ []) }
+        ensures keeping { (kept.new.items ≡ self.old.keeping.items) × (self.new.keeping.items ≡ []) }
+        ensures answered { self.new.answered ≡ self.old.answered }
+    {
         self.turn = self.turn.wrapping_add(1);
         self.told.clear();
         self.ended.clear();

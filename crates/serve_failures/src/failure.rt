@@ -1,6 +1,6 @@
 //! Why a server ends.
 
-ghost use Rattle.std.specs.Prelude.{◌≡◌, option_map};
+ghost use Rattle.std.specs.Prelude.{◌≡◌, ◌⊎◌, option_map};
 ghost use Rattle.serve_failures.specs.Statuses.{failure_status, last_word};
 
 use crate::hint::fault_hint;
@@ -68,8 +68,10 @@ fn text_of<D: Display>(alloc: Global, value: &D) -> Result<String, AllocError> {
 }
 
 impl Failure {
-    /// The failure that a wrong command line is.
-    pub fn of_options(alloc: Global, error: &OptionError<'_>) -> Failure {
+    /// The failure that a wrong command line is, or the want of memory.
+    pub fn of_options(alloc: Global, error: &OptionError<'_>) -> Failure
+        ensures { (failure_status result ≡ 2) ⊎ (failure_status result ≡ 4) }
+    {
         if matches!(error, OptionError::NoMemory) {
             return Failure::NoMemory;
         }
@@ -79,8 +81,10 @@ impl Failure {
         }
     }
 
-    /// The failure of a step with this address, name or file.
-    pub fn system<D: Display>(alloc: Global, step: Step, what: &D, error: io::Error) -> Failure {
+    /// The failure of a step with this address, name or file, or the want of memory.
+    pub fn system<D: Display>(alloc: Global, step: Step, what: &D, error: io::Error) -> Failure
+        ensures { (failure_status result ≡ 3) ⊎ (failure_status result ≡ 4) }
+    {
         if error.kind() == ErrorKind::OutOfMemory {
             return Failure::NoMemory;
         }
@@ -90,21 +94,20 @@ impl Failure {
         }
     }
 
-    /// What the server sent was refused.
-    pub fn refused(alloc: Global, fault: Fault, server: &Server) -> Failure {
+    /// What the server sent was refused, or the text of that had no memory.
+    pub fn refused(alloc: Global, fault: Fault, server: &Server) -> Failure
+        ensures { (failure_status result ≡ 7) ⊎ (failure_status result ≡ 4) }
+    {
         match text_of(alloc, server) {
             Ok(server) => Failure::Refused { fault, server },
             Err(_) => Failure::NoMemory,
         }
     }
 
-    /// No leader was found within these seconds among the servers.
-    pub fn no_leader(
-        alloc: Global,
-        seconds: u64,
-        servers: &[Server],
-        reasons: &[Reason],
-    ) -> Failure {
+    /// No leader was found within these seconds among the servers, or the text of that had no memory.
+    pub fn no_leader(alloc: Global, seconds: u64, servers: &[Server], reasons: &[Reason]) -> Failure
+        ensures { (failure_status result ≡ 8) ⊎ (failure_status result ≡ 4) }
+    {
         match text_of(alloc, &Tried { servers, reasons }) {
             Ok(tried) => Failure::NoLeader { seconds, tried },
             Err(_) => Failure::NoMemory,
@@ -126,7 +129,7 @@ impl Failure {
     }
 
     /// The last line of standard error, for scripts that look for it; None where the line of the failure is the last.
-    pub fn last_word(&self) -> Option<&'static str>
+    pub(crate) fn last_word(&self) -> Option<&'static str>
         ensures { option_map (λ word. word.now) result ≡ last_word self.now }
     {
         match self {

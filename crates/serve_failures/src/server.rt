@@ -1,5 +1,7 @@
 //! The servers that may lead.
 
+ghost use Rattle.std.specs.Prelude.{◌≡◌, IfOk, length, string_bytes};
+
 use serve_options::Address;
 use std::alloc::Global;
 use std::io::ErrorKind;
@@ -26,7 +28,9 @@ impl fmt::Display for Server {
 
 impl Server {
     /// The server at an address. Fails only if an allocation is refused.
-    pub fn new(alloc: Global, address: Address<'_>) -> Result<Server, NoMemory> {
+    pub fn new(alloc: Global, address: Address<'_>) -> Result<Server, NoMemory>
+        ensures { IfOk result (λ server. (string_bytes server.host ≡ address.entry.host.now) × (server.port ≡ address.entry.port)) }
+    {
         Ok(Server {
             host: String::from_str(alloc, address.host)?,
             port: address.port,
@@ -35,7 +39,9 @@ impl Server {
 }
 
 /// The servers at these addresses. Fails only if an allocation is refused.
-pub fn servers_of(alloc: Global, addresses: &[Address<'_>]) -> Result<Vec<Server>, NoMemory> {
+pub fn servers_of(alloc: Global, addresses: &[Address<'_>]) -> Result<Vec<Server>, NoMemory>
+    ensures { IfOk result (λ servers. length servers.items ≡ length addresses.now) }
+{
     let mut servers = Vec::with_capacity(alloc, addresses.len())?;
     for address in addresses {
         servers.push(Server::new(alloc, *address)?)?;

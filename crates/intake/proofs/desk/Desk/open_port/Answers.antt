@@ -1,6 +1,7 @@
 use Rattle.std.proofs.Common.{ℕ, List, ap, sym, ◌∙◌, subst, refl, rules}
 use Rattle.rtrb.specs.Ring.{sent, received, known_items}
 use Rattle.intake.specs.declared.port.PortEnd.{PortEnd}
+use Rattle.intake.specs.Ports.{HasRoom}
 use Rattle.intake.specs.Desk.{AddsPort}
 use Rattle.intake.proofs.Adding.{AreNew, seen_desk, added}
 use Rattle.intake.proofs.desk.Desk.open_port.Goals as goal
@@ -33,3 +34,12 @@ returns-clause-ok c =
     c.in-Some.next
     c.self.inside.fresh.items c.self.inside.later.items end c.new-3.result link c.args.self.now c.self.view_is c.new-3.ensures new refl
     c.in-Ok.ensures.ok (search rules))
+
+pub returns-clause-room : goal.returns-clause-room
+returns-clause-room c =
+    let P : PortEnd → Type 0 = λ e. HasRoom c.args.capacity e in
+    subst P (sym c.new-3.ensures) (record {
+      messages = c.in_ok-to_hub.ensures.producer.1;
+      inbox = c.in_ok-to_hub.ensures.producer.2;
+      outbox = c.in_ok-outbox.ensures.consumer.2;
+    })

@@ -1,17 +1,38 @@
-use Rattle.std.proofs.Common.{sym, subst}
-use Rattle.observer_core.specs.Machine.{Machine}
-use Rattle.intake.specs.Hub.{Hub, IsHubSince}
-use Rattle.intake.proofs.Hubs.{runs_on}
+use Rattle.std.proofs.Common.{ℕ, Result, refl, sym, subst}
+use Rattle.observer_core.specs.declared.engine.Stop.{Stop}
+use Rattle.intake.specs.Hub.{Hub, TurnsHub}
+use Rattle.intake.proofs.Hubs.{closed_turn}
 use Rattle.intake.proofs.hub.Hub.turn.Goals as goal
+use Rattle.intake.proofs.hub.Hub.turn.Goals.{in-Err-hand_over, in-Ok-hand_over}
 
-pub returns-clause-runs : goal.returns-clause-runs
-returns-clause-runs g c = λ (began : Machine) r.
-    let h : Hub = record {
+pub returns-after-hand_over : goal.returns-after-hand_over
+returns-after-hand_over g c =
+    let old : Hub = record {
       desk = c.self.inside.desk;
       taken = c.self.inside.taken.items;
       since = c.self.inside.since.items;
     } in
-    let P : Hub → Type 0 = λ x. IsHubSince began x in
-    let runs = subst P (sym c.self.view_is) r in
-    runs_on began h c.turn.new.self c.hand_over.new.self c.hand_over.new.taken.items c.in_ok-count.count
-    c.in_ok-count.ensures c.in-Ok.ensures.desk c.in-Ok.ensures.taken runs
+    let new : Hub = record {
+      desk = c.hand_over.new.self;
+      taken = c.hand_over.new.taken.items;
+      since = c.self.inside.since.items;
+    } in
+    let P : Hub → Type 0 = λ h. TurnsHub c.match-hand_over.result h new in
+    let Q : Result ℕ Stop → Type 0 = λ r. TurnsHub r old new in
+    subst P c.self.view_is (elim c.match-hand_over.branch [
+      | in-Err-hand_over w ↦ subst Q (sym w.result-is) (record {
+        desk = closed_turn old.desk.machine old.desk c.turn.new.self new.desk c.in-Ok.count c.in-Ok.ensures
+            w.in-Err-hand_over.ensures.closed;
+        taken = w.in-Err-hand_over.ensures.kept;
+        since = refl;
+      })
+      | in-Ok-hand_over w ↦ subst Q (sym w.result-is) (
+        c.turn.new.self,
+        record {
+          turn = c.in-Ok.ensures;
+          desk = w.in-Ok-hand_over.ensures.desk;
+          taken = w.in-Ok-hand_over.ensures.taken;
+          since = refl;
+        },
+      )
+    ])

@@ -1,9 +1,0 @@
-use Rattle.std.proofs.Common.{◌∙◌}
-use Rattle.observer_core.specs.Play.{new_machine}
-use Rattle.intake.proofs.Hubs.{runs_at_first}
-use Rattle.intake.proofs.hub.Hub.new.Goals as goal
-
-pub returns : goal.returns
-returns c =
-    runs_at_first (new_machine c.args.config.settings) c.with_desk.result (c.with_desk.ensures.0 ∙ c.in_ok-desk.ensures)
-    c.with_desk.ensures.1 c.with_desk.ensures.2
