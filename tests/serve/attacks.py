@@ -266,7 +266,7 @@ def test_requests_with_many_ids():
 
 def test_many_watches():
     """One connection leaves watch after watch, until it is closed, which gives back their memory."""
-    # By --long with the bound that there is without the option; then the C library may keep more than it gives back.
+    # By --long with the bound that there is without the option.
     words = scaled(("--max-watches", "30000"), ())
     with Attacked(*words) as server:
         for _ in range(2):

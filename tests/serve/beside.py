@@ -153,8 +153,10 @@ class Beside:
             if kind is None:
                 self.lasts(LEAST)
                 self.leave()
-                reads, pings, work = self.reader.stop(), self.pinging.stop(), self.work.stop()
-                self.judge(sorted(reads), pings, work, self.left())
+                reads, work = self.reader.stop(), self.work.stop()
+                # The leader goes on with its PINGs: at each, the program forgets which sessions it has heard of.
+                left, pings = self.left(), self.pinging.stop()
+                self.judge(sorted(reads), pings, work, left)
         finally:
             self.stopped.set()
             self.pinging.stopped.set()

@@ -57,7 +57,7 @@ impl GroupInProgress {
     }
 
     /// Whether the worker holds the group.
-    pub fn is_held_by(&self, worker: usize) -> bool
+    pub(crate) fn is_held_by(&self, worker: usize) -> bool
         ensures { result ≡ is_held_by worker self.now.holder }
     {
         match self.holder {
@@ -67,7 +67,7 @@ impl GroupInProgress {
     }
 
     /// Applies the next transaction, if the worker holds the group and one is left, and returns whether it did.
-    pub fn do_next(
+    pub(crate) fn do_next(
         &mut self,
         alloc: Global,
         worker: usize,

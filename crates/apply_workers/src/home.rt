@@ -21,7 +21,10 @@ pub struct Done {
 }
 
 /// The cells and the outcomes of all groups. Fails with `NoMemory` if one was stopped.
-pub fn all_done(alloc: Global, groups: Vec<Group<Work<'_>, Finished>>) -> Result<Done, NoMemory>
+pub(crate) fn all_done(
+    alloc: Global,
+    groups: Vec<Group<Work<'_>, Finished>>,
+) -> Result<Done, NoMemory>
     ensures homes { IfOk result (λ done.
         groups.entry.items ≡ finished_groups done.cells.items done.outcomes.items) }
     ensures count { IfOk result (λ done.

@@ -12,7 +12,11 @@ use std::alloc::Global;
 use values::NoMemory;
 
 /// Takes each group's cells, in order. A refused allocation leaves the tree unspecified, and the caller drops it.
-pub fn take_each(alloc: Global, tree: &mut Tree, groups: &[Group]) -> Result<Vec<Cells>, NoMemory>
+pub(crate) fn take_each(
+    alloc: Global,
+    tree: &mut Tree,
+    groups: &[Group],
+) -> Result<Vec<Cells>, NoMemory>
     ensures cells { IfOk result (λ v. v.items ≡ cells_of_each groups.now tree.old) }
     ensures rest { OnOk result (tree.new ≡ without_group_cells groups.now tree.old) }
 {

@@ -34,7 +34,7 @@ fn txn_len(txn: &Txn) -> usize {
 }
 
 /// Whether there are as many transactions, with as many bytes of data, as the threshold says.
-pub fn is_worth_spreading(txns: &[Txn], threshold: &SpreadThreshold) -> bool {
+pub(crate) fn is_worth_spreading(txns: &[Txn], threshold: &SpreadThreshold) -> bool {
     if txns.len() < threshold.transactions {
         return false;
     }

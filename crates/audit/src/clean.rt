@@ -30,7 +30,7 @@ fn counts_up(wanted: i32, parent: Option<&Node>) -> bool
 }
 
 /// Whether a create counts its parent's cversion up by one, and a delete is of a node without children.
-pub fn is_orderly(operation: &Operation, tree: &Tree) -> bool
+pub(crate) fn is_orderly(operation: &Operation, tree: &Tree) -> bool
     ensures { result ≡ is_orderly operation.now tree.now.nodes }
 {
     match operation {
@@ -44,7 +44,7 @@ pub fn is_orderly(operation: &Operation, tree: &Tree) -> bool
 }
 
 /// Whether a part of a multi isn't an error part.
-pub fn is_no_error(part: &Operation) -> bool
+pub(crate) fn is_no_error(part: &Operation) -> bool
     ensures { result ≡ is_none (error_of part.now) }
 {
     match part {
@@ -66,7 +66,7 @@ fn are_childless(paths: &TextSet, tree: &Tree) -> bool
 }
 
 /// Whether no ephemeral node of the session that ends has a child.
-pub fn closes_clean(header: &TxnHeader, tree: &Tree) -> bool
+pub(crate) fn closes_clean(header: &TxnHeader, tree: &Tree) -> bool
     ensures { result ≡ closes_clean header.now.client_id tree.now }
 {
     match tree.ephemerals().of(header.client_id) {

@@ -21,7 +21,7 @@ fn is_same(a: &str, b: &str) -> bool
 }
 
 // The count in the fresh tree, where / and /zookeeper have a preset child.
-pub fn first_count(path: &str) -> Count
+pub(crate) fn first_count(path: &str) -> Count
     ensures { result ≡ first_count path.now }
 {
     if is_same(path, "/") || is_same(path, "/zookeeper") {

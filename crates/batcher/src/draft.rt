@@ -183,7 +183,11 @@ impl<'a> Draft<'a> {
     }
 
     /// The transactions that may be applied together, from the front on. Fails only if an allocation is refused.
-    pub fn of_front(alloc: Global, txns: &'a [Txn], limits: &Limits) -> Result<Draft<'a>, NoMemory>
+    pub(crate) fn of_front(
+        alloc: Global,
+        txns: &'a [Txn],
+        limits: &Limits,
+    ) -> Result<Draft<'a>, NoMemory>
         ensures draft { IfOk result IsDraft }
         ensures taken { IfOk result
             (λ draft. tagged_in draft ≡ tagged_front_after limits.now [] txns.now) }

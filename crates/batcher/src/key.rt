@@ -45,7 +45,7 @@ impl<'a> PathKey<'a> {
 
 /// Replaces the keys by those of the paths. A path's bytes are mostly not in the caches yet; read one after the other,
 /// with nothing else between, the processor fetches those of many paths at once.
-pub fn read_keys<'a>(paths: &[Str<'a>], keys: &mut Vec<PathKey<'a>>) -> Result<(), NoMemory>
+pub(crate) fn read_keys<'a>(paths: &[Str<'a>], keys: &mut Vec<PathKey<'a>>) -> Result<(), NoMemory>
     ensures paths { OnOk result (paths_of keys.new.items ≡ paths.now) }
     ensures tails { OnOk result (All HasItsTail keys.new.items) }
 {

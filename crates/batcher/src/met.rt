@@ -63,7 +63,7 @@ fn meet<'p>(
 }
 
 /// The groups that own one of the paths with these keys, and the paths that none owns.
-pub fn met_by<'p>(
+pub(crate) fn met_by<'p>(
     owners: &BTreeMap<PathKey<'p>, usize>,
     keys: &[PathKey<'p>],
     unowned: &mut Vec<Str<'p>>,

@@ -1,5 +1,5 @@
 -- Lists in the records of clients: a null list is read as empty.
-use Rattle.std.specs.Prelude.{ℕ, List, Option, Some, None, nat_le, if◌then◌else◌}
+use Rattle.std.specs.Prelude.{ℕ, List}
 use Rattle.jute.specs.Format.{Format, text_or_empty, vector_of, or_null}
 use Rattle.jute.specs.Owned.{acl_format}
 use Rattle.jute.specs.declared.owned.Acl.{Acl}
@@ -10,7 +10,3 @@ names_format = or_null (vector_of text_or_empty)
 
 abbrev pub acls_format : Format (List Acl)
 acls_format = or_null (vector_of acl_format)
-
--- A length, if it is within the limit.
-abbrev pub length_within : ℕ → ℕ → Option ℕ
-length_within limit n = if nat_le n limit then Some n else None

@@ -19,7 +19,7 @@ use values::{Bytes, Listed, NoMemory, ReadError, Str};
 
 // The length in bytes of a ustring with its length prefix, or of null.
 #[tactic(auto, unfolding(jute::specs::Format::number_bytes))]
-pub fn text_len(text: &Option<Str<'_>>) -> usize
+pub(crate) fn text_len(text: &Option<Str<'_>>) -> usize
     requires { buffer.Writable text.now }
     ensures { result ≡ length (buffer.written text.now) }
 {
@@ -41,7 +41,7 @@ pub fn put_text(out: &mut Vec<u8>, text: &Option<Str<'_>>) -> Result<(), NoMemor
 
 // The length in bytes of a buffer with its length prefix, or of null.
 #[tactic(auto, unfolding(jute::specs::Format::number_bytes))]
-pub fn buffer_len(bytes: &Option<Bytes<'_>>) -> usize
+pub(crate) fn buffer_len(bytes: &Option<Bytes<'_>>) -> usize
     requires { buffer.Writable bytes.now }
     ensures { result ≡ length (buffer.written bytes.now) }
 {
@@ -51,7 +51,7 @@ pub fn buffer_len(bytes: &Option<Bytes<'_>>) -> usize
     }
 }
 
-pub fn put_buffer(out: &mut Vec<u8>, bytes: &Option<Bytes<'_>>) -> Result<(), NoMemory>
+pub(crate) fn put_buffer(out: &mut Vec<u8>, bytes: &Option<Bytes<'_>>) -> Result<(), NoMemory>
     requires { buffer.Writable bytes.now }
     ensures { Puts result out.old.items (buffer.written bytes.now) out.new.items }
 {

@@ -4,13 +4,11 @@
 //! Requests are read, and borrow their texts and data from the frame; responses and events are written from the tree.
 //! `specs/Requests.antt` and `specs/Responses.antt` define each record's format by jute's combinators, and
 //! `law::records` says of each that reading and writing follow it. Children's names are a set, and `put_names` writes
-//! them without a list in between. The tree's texts have no bound, but a length in a frame has one: `names_len` and
-//! `acls_len` say whether a list may be written.
+//! them without a list in between.
 //!
 //! ```text
 //! let request = PathAndWatch::read(alloc, &mut reader)?;    // exists, getData, getChildren, getChildren2
 //! GetDataResponse { bytes, stat }.write(&mut out)?;
-//! let Some(len) = names_len(names.iter(), limit) else { .. };
 //! put_names(&mut out, names.iter())?;                       // the body of getChildren
 //! ```
 #![tactic(auto)]
@@ -21,7 +19,6 @@ mod event;
 mod fields;
 mod kind;
 pub mod law;
-mod lengths;
 mod request;
 mod response;
 
@@ -29,7 +26,6 @@ pub use connect::{ConnectRequest, ConnectResponse};
 pub use event::WatcherEvent;
 pub use fields::{Name, put_list, put_names, read_list};
 pub use kind::{ReadKind, RequestKind};
-pub use lengths::{acls_len, names_len};
 pub use request::{AddWatch, AuthPacket, PathAlone, PathAndWatch, SetWatches};
 pub use response::{
     Acls, ExistsResponse, GetAclResponse, GetChildren2Response, GetChildrenResponse,

@@ -1,7 +1,7 @@
-//! Lists, names in a set, and the lengths of lists.
+//! Lists, and names in a set.
 
-use client_records::{Name, acls_len, names_len, put_list, put_names, read_list};
-use jute::{Acl, Id, Reader};
+use client_records::{Name, put_list, put_names, read_list};
+use jute::Reader;
 use std::alloc::Global;
 use std::collections::BTreeSet;
 use std::test::Fail;
@@ -19,12 +19,8 @@ fn two(alloc: Global) -> Result<BTreeSet<String>, Fail> {
 #[test]
 fn names_of_a_set(rt: HostRuntime) -> Result<(), Fail> {
     let names = two(rt.alloc())?;
-    assert!(rt; names_len(names.iter(), 21).is_none());
     let mut out = Vec::new(rt.alloc());
-    if let Some(len) = names_len(names.iter(), 22) {
-        assert_eq!(rt; len, 22);
-        put_names(&mut out, names.iter())?;
-    }
+    put_names(&mut out, names.iter())?;
     assert_eq!(rt;
         out.as_slice(),
         b"\x00\x00\x00\x02\x00\x00\x00\x01a\x00\x00\x00\x09zookeeper".as_slice()
@@ -81,26 +77,5 @@ fn a_list_is_written(rt: HostRuntime) -> Result<(), Fail> {
         out.as_slice(),
         b"\x00\x00\x00\x02\x00\x00\x00\x02/b\x00\x00\x00\x02/a\x00\x00\x00\x00".as_slice()
     );
-    Ok(())
-}
-
-fn open(alloc: Global) -> Result<Acl, NoMemory> {
-    Ok(Acl {
-        perms: 31,
-        id: Id {
-            scheme: Text::new(alloc, "world")?,
-            id: Text::new(alloc, "anyone")?,
-        },
-    })
-}
-
-/// The list of one ACL takes 27 bytes, and the empty list 4.
-#[test]
-fn lengths_of_acls(rt: HostRuntime) -> Result<(), Fail> {
-    let list = vec![in rt.alloc(); open(rt.alloc())?]?;
-    assert!(rt; acls_len(list.as_slice(), 27) == Some(27));
-    assert!(rt; acls_len(list.as_slice(), 26).is_none());
-    assert!(rt; acls_len(&[], 4) == Some(4));
-    assert!(rt; acls_len(&[], 3).is_none());
     Ok(())
 }

@@ -30,7 +30,7 @@ use Rattle.client_service.specs.declared.output.Output.{Output}
 use Rattle.client_service.specs.World.{OpenConnection, OpenConnections, World}
 use Rattle.client_service.specs.Steps.{StepResult, prepend_outputs, no_output, and_then}
 use Rattle.client_service.specs.Clients.{is_open, heard_in, heard_connection, is_heard, without_client}
-use Rattle.client_service.specs.Serve.{close_client, send_or_close, with_watch_if, with_watching, send_reply, answer_read, with_pending, touch_client, header_len, is_refused_frame, serve_by, serve_as, serve_frame, serve_all, wait_if_heard, wait_at, word_without_session, word_at, tell_or_serve, take_client_bytes, frames_of_client}
+use Rattle.client_service.specs.Serve.{close_client, send_or_close, with_watch_if, with_watches, send_reply, answer_read, with_pending, touch_client, header_len, is_refused_frame, serve_by, serve_as, serve_frame, serve_all, wait_if_heard, wait_at, word_without_session, word_at, tell_or_serve, take_client_bytes, frames_of_client}
 use Rattle.client_service.specs.Inner.{rest_at, with_rest, world_with_rest, close_if_heard, tell_if_heard}
 use Rattle.client_service.specs.Results.{MeetsStep, SoFar, MeetsOwing}
 use Rattle.client_service.specs.Runs.{AskedRead, answer_asked, answer_all_asked, look_asked, show_asked, show_all_asked, serve_if_heard, RunsAreReads}
@@ -80,7 +80,7 @@ module _ (stay : OtherConnectionsStay) where
           ∙ ap is_some (get-removed v.clients.connections n))
 
   sent_kept : (n : ℕ) (v w : World) (ws : WatchTables) (frame : Option (List ℕ)) → IsKept v w
-      → IsKept (send_or_close n (with_watching v ws) frame).after w
+      → IsKept (send_or_close n (with_watches v ws) frame).after w
   sent_kept n v w ws None kept = closed_kept n v w ws kept
   sent_kept n v w ws (Some bytes) kept = record {
     replica = kept.replica;
@@ -104,7 +104,7 @@ module _ (stay : OtherConnectionsStay) where
       touched = touch_client a.number v
 
       next : World
-      next = with_watching touched (with_watch_if a.number v.clients.watches (watch_of a.request seen.error))
+      next = with_watches touched (with_watch_if a.number v.clients.watches (watch_of a.request seen.error))
 
       by : (b : Bool) → IsKept (cond b (send_reply a.number next a.xid seen) (no_output v)).after w
       by true = sent_kept a.number touched w (with_watch_if a.number v.clients.watches (watch_of a.request seen.error))
@@ -123,7 +123,7 @@ module _ (stay : OtherConnectionsStay) where
     where
       show : World → Look → StepResult World
       show u seen = send_reply a.number
-          (with_watching u (with_watch_if a.number v.clients.watches (watch_of a.request seen.error))) a.xid seen
+          (with_watches u (with_watch_if a.number v.clients.watches (watch_of a.request seen.error))) a.xid seen
 
       by : (b : Bool) → is_open a.number v.clients ≡ b
           → cond b (answer_read a.number (touch_client a.number v) a.xid a.request) (no_output v)
@@ -180,7 +180,7 @@ unheard_after_one n w a unheard = by (is_open a.number w.clients)
         let seen = look_asked w a in
         ap (λ (u : World). is_heard n (answered u).after.clients) (touch_is a.number w)
         ∙ unheard_then n a.number
-        (with_watching (with_touched a.number w) (with_watch_if a.number w.clients.watches (watch_of a.request seen.error)))
+        (with_watches (with_touched a.number w) (with_watch_if a.number w.clients.watches (watch_of a.request seen.error)))
         (reply_frame a.xid w.replica.learner.last_zxid seen) unheard
     by false = unheard
 
@@ -315,7 +315,7 @@ module _ (n : ℕ) (rest : List ℕ) where
           let seen = look_asked w a in
           ap answered (touch_is a.number (world_with_rest n rest w))
           ∙ sent_rested a.number
-          (with_watching (with_touched a.number w) (with_watch_if a.number w.clients.watches (watch_of a.request seen.error)))
+          (with_watches (with_touched a.number w) (with_watch_if a.number w.clients.watches (watch_of a.request seen.error)))
           (reply_frame a.xid w.replica.learner.last_zxid seen)
           ∙ ap (λ (u : World). rested n rest (answered u)) (sym (touch_is a.number w))
 

@@ -13,7 +13,7 @@ use Rattle.forwarding.specs.Pending.{is_idle}
 use Rattle.client_service.specs.World.{World}
 use Rattle.client_service.specs.Steps.{StepResult, no_output, and_then, fold_steps}
 use Rattle.client_service.specs.Clients.{is_open, is_heard}
-use Rattle.client_service.specs.Serve.{with_watch_if, with_watching, send_reply, answer_read, touch_client, serve_frame, serve_all, wait_at}
+use Rattle.client_service.specs.Serve.{with_watch_if, with_watches, send_reply, answer_read, touch_client, serve_frame, serve_all, wait_at}
 
 -- A read that a connection asked for, with the xid of its reply.
 pub record AskedRead : Type 0 where
@@ -45,7 +45,7 @@ abbrev pub show_asked : World → AskedRead → Look → StepResult World
 show_asked w a seen =
     if is_open a.number w.clients
     then send_reply a.number
-    (with_watching (touch_client a.number w) (with_watch_if a.number w.clients.watches (watch_of a.request seen.error)))
+    (with_watches (touch_client a.number w) (with_watch_if a.number w.clients.watches (watch_of a.request seen.error)))
     a.xid seen
     else no_output w
 

@@ -82,7 +82,7 @@ send_reply_last n w xid seen = send_last n w (reply_frame xid w.replica.learner.
 -- ---- reads and watches
 
 abbrev pub with_watch : ℕ → WatchTables → Watch → WatchTables
-with_watch n w (tables.Data path) = record w { own = set.insert w.own (path, n) }
+with_watch n w (tables.Data path) = record w { data_watches = set.insert w.data_watches (path, n) }
 with_watch n w (tables.Child path) = record w { child = set.insert w.child (path, n) }
 with_watch n w (tables.Lasting path mode) = with_lasting_watch n path mode w
 
@@ -94,27 +94,27 @@ abbrev pub with_watch_if : ℕ → WatchTables → Option Watch → WatchTables
 with_watch_if n w None = w
 with_watch_if n w (Some watch) = with_watch n w watch
 
-abbrev pub with_watching : World → WatchTables → World
-with_watching w watches = record w { clients = record w.clients { watches = watches } }
+abbrev pub with_watches : World → WatchTables → World
+with_watches w watches = record w { clients = record w.clients { watches = watches } }
 
 -- A read is answered at the present state, and leaves its watch.
 abbrev pub answer_read : ℕ → World → ℤ → Request → StepResult World
 answer_read n w xid r =
     let seen = look_at_state w.replica.tree (ids_of w.clients.sessions n) r in
-    send_reply n (with_watching w (with_watch_if n w.clients.watches (watch_of r seen.error))) xid seen
+    send_reply n (with_watches w (with_watch_if n w.clients.watches (watch_of r seen.error))) xid seen
 
 -- The events that the client missed are sent first, then the reply.
 abbrev pub answer_set_watches : ℕ → World → ℤ → Option Renewal → StepResult World
 answer_set_watches n w xid None = send_reply n w xid (without_body BAD_ARGUMENTS)
 answer_set_watches n w xid (Some r) =
     prepend_outputs (notices_to n r.events)
-    (send_reply n (with_watching w (with_each_watch n w.clients.watches r.watches)) xid (without_body OK))
+    (send_reply n (with_watches w (with_each_watch n w.clients.watches r.watches)) xid (without_body OK))
 
 -- The watch to add is set, whether or not there is a node.
 abbrev pub answer_add_watch : ℕ → World → ℤ → Option Watch → StepResult World
 answer_add_watch n w xid None = send_reply n w xid (without_body BAD_ARGUMENTS)
 answer_add_watch n w xid (Some watch) =
-    send_reply n (with_watching w (with_watch n w.clients.watches watch)) xid (without_body OK)
+    send_reply n (with_watches w (with_watch n w.clients.watches watch)) xid (without_body OK)
 
 -- ---- sessions
 
@@ -286,8 +286,8 @@ serve_frame serving n w frame =
 abbrev pub watch_row_of : Sessions → Watched → WatchRow
 watch_row_of sessions watched = record {
   path = watched.path;
-  conn = watched.conn;
-  session = unwrap_or (session_of_connection sessions watched.conn) (pos 0);
+  connection = watched.connection;
+  session = unwrap_or (session_of_connection sessions watched.connection) (pos 0);
   table = watched.table;
 }
 

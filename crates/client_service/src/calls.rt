@@ -207,7 +207,7 @@ fn answer_auth(
 /// read from.
 ///
 /// Fails only if an allocation is refused; then a prefix of the outputs has been appended.
-pub fn answer_call(
+pub(crate) fn answer_call(
     alloc: Global,
     number: u64,
     session: i64,

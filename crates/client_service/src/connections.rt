@@ -99,7 +99,7 @@ impl Connections {
     }
 
     /// Replaces the waiting bytes of a connection and returns the old ones; None if it isn't open or is leaving.
-    pub fn replace_rest(&mut self, number: u64, rest: ByteQueue) -> Option<ByteQueue>
+    pub(crate) fn replace_rest(&mut self, number: u64, rest: ByteQueue) -> Option<ByteQueue>
         ensures old { result ≡ rest_at (heard_in (finmap.get self.old number)) }
         ensures new { self.new ≡ with_rest self.old number (heard_in (finmap.get self.old number)) rest }
     {

@@ -222,7 +222,7 @@ fn handle_connect(
 /// after it are held.
 ///
 /// Fails only if an allocation is refused; then a prefix of the outputs has been appended.
-pub fn connect_or_hold(
+pub(crate) fn connect_or_hold(
     alloc: Global,
     serving: bool,
     number: u64,

@@ -13,7 +13,7 @@ use values::NoMemory;
 use watch_manager::Event;
 
 // An event's frame has -1 in place of a zxid.
-const NO_ZXID: i64 = -1;
+const EVENT_ZXID: i64 = -1;
 
 fn notify(
     alloc: Global,
@@ -24,7 +24,7 @@ fn notify(
     ensures { Puts result outputs.old.items (notice_to number event.now) outputs.new.items }
 {
     let seen = Look::of_event(alloc, event)?;
-    if let Some(frame) = seen.into_frame(NOTIFICATION_XID, NO_ZXID) {
+    if let Some(frame) = seen.into_frame(NOTIFICATION_XID, EVENT_ZXID) {
         outputs.push(Output::ToClient(number, frame))?;
     }
     Ok(())
@@ -45,7 +45,7 @@ pub fn notify_each(
 }
 
 /// Sends one connection all the events, in order.
-pub fn notify_all(
+pub(crate) fn notify_all(
     alloc: Global,
     number: u64,
     events: &[Event],

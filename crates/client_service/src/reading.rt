@@ -6,7 +6,7 @@
 ghost use Rattle.std.specs.Prelude.{◌≡◌, IfOk, IfSome, OnOk, Some};
 ghost use Rattle.read_processor.specs.Renewal.{renew_watches};
 ghost use Rattle.read_processor.specs.Watch.{watch_to_add};
-ghost use Rattle.client_service.specs.Serve.{with_watch, with_each_watch, with_watch_if, with_watching, answer_read, answer_set_watches, answer_add_watch};
+ghost use Rattle.client_service.specs.Serve.{with_watch, with_each_watch, with_watch_if, with_watches, answer_read, answer_set_watches, answer_add_watch};
 ghost use Rattle.client_service.specs.Results.{MeetsStep};
 ghost use Rattle.client_service.specs.Inner.{IsReadIn};
 
@@ -47,7 +47,7 @@ fn set_watch(
 }
 
 /// Sets a watch that a read leaves; does nothing for None.
-pub fn set_watch_if(
+pub(crate) fn set_watch_if(
     alloc: Global,
     number: u64,
     watches: &mut Watches,
@@ -84,13 +84,23 @@ fn read_of_call(alloc: Global, number: u64, call: &Call<'_>) -> Result<Option<As
         CallBody::Local(LocalCall::Read(request)) => Ok(Some(AskedRead::of(
             alloc, number, call.xid, request,
         )?)),
-        _ => Ok(None),
+        CallBody::Local(
+            LocalCall::SetWatches(_)
+            | LocalCall::AddWatch(_)
+            | LocalCall::Unreadable
+            | LocalCall::Ping
+            | LocalCall::Refused
+            | LocalCall::Unknown,
+        )
+        | CallBody::Forward(_)
+        | CallBody::Sync(_)
+        | CallBody::Auth(_) => Ok(None),
     }
 }
 
 /// The read that a frame asks for; None if its connection has no session, if an earlier request of it waits for the
 /// leader, or if it asks for anything else.
-pub fn gathered_read(
+pub(crate) fn gathered_read(
     alloc: Global,
     number: u64,
     world: &World,
@@ -114,7 +124,7 @@ pub fn gathered_read(
 /// Answers a read at the present state, and leaves its watch.
 ///
 /// Fails only if an allocation is refused; then a prefix of the outputs has been appended.
-pub fn answer_request(
+pub(crate) fn answer_request(
     alloc: Global,
     number: u64,
     world: &mut World,
@@ -140,7 +150,7 @@ fn watch_each(
     asked: &[Watch<'_>],
 ) -> Result<(), NoMemory>
     ensures { let watches = world.old.clients.watches in
-        OnOk result (world.new ≡ with_watching world.old (with_each_watch number watches asked.now)) }
+        OnOk result (world.new ≡ with_watches world.old (with_each_watch number watches asked.now)) }
 {
     set_watches(alloc, number, &mut world.clients.watches, asked)
 }
@@ -167,7 +177,7 @@ fn answer_missed(
 /// Answers a SetWatches of a client that has reconnected: first the events that it missed, then the reply.
 ///
 /// Fails only if an allocation is refused; then a prefix of the outputs has been appended.
-pub fn answer_renewal(
+pub(crate) fn answer_renewal(
     alloc: Global,
     number: u64,
     world: &mut World,
@@ -204,7 +214,7 @@ fn watch_and_answer(
 /// Answers an addWatch: the watch is set, whether or not there is a node.
 ///
 /// Fails only if an allocation is refused; then a prefix of the outputs has been appended.
-pub fn answer_add_watch(
+pub(crate) fn answer_add_watch(
     alloc: Global,
     number: u64,
     world: &mut World,

@@ -103,7 +103,7 @@ pub fn send_reply(
 }
 
 /// Sends a reply without a body. `error` is ZooKeeper's error code, 0 for success.
-pub fn answer_without_body(
+pub(crate) fn answer_without_body(
     alloc: Global,
     number: u64,
     world: &mut World,
@@ -120,7 +120,7 @@ pub fn answer_without_body(
 }
 
 /// Sends a reply without a body and closes the connection. `error` is ZooKeeper's error code, 0 for success.
-pub fn answer_without_body_last(
+pub(crate) fn answer_without_body_last(
     alloc: Global,
     number: u64,
     world: &mut World,

@@ -18,11 +18,11 @@ use std::alloc::Global;
 use values::{Bytes, NoMemory, Str};
 
 // The reply to an auth packet has 0 in place of a zxid.
-const NO_ZXID: i64 = 0;
+const AUTH_REPLY_ZXID: i64 = 0;
 
 /// Touches the session of a connection, if it has one: the leader will be told that its client was heard. Fails only if
 /// an allocation is refused.
-pub fn touch_client(number: u64, world: &mut World) -> Result<(), NoMemory>
+pub(crate) fn touch_client(number: u64, world: &mut World) -> Result<(), NoMemory>
     ensures { OnOk result (world.new ≡ touch_client number world.old) }
 {
     match world.clients.sessions.session(number) {
@@ -32,7 +32,7 @@ pub fn touch_client(number: u64, world: &mut World) -> Result<(), NoMemory>
 }
 
 /// Adds an id to a connection, or closes the connection if the id is refused.
-pub fn show_id(
+pub(crate) fn show_id(
     alloc: Global,
     number: u64,
     world: &mut World,
@@ -48,15 +48,25 @@ pub fn show_id(
     let bytes = packet.auth.as_ref().map(Bytes::as_slice);
     if world.clients.sessions.auth(alloc, number, scheme, bytes)? {
         let seen = Look::without_body(alloc, OK)?;
-        send_frame(number, world, seen.into_frame(xid, NO_ZXID), outputs)
+        send_frame(
+            number,
+            world,
+            seen.into_frame(xid, AUTH_REPLY_ZXID),
+            outputs,
+        )
     } else {
         let seen = Look::without_body(alloc, AUTH_FAILED)?;
-        send_frame_last(number, world, seen.into_frame(xid, NO_ZXID), outputs)
+        send_frame_last(
+            number,
+            world,
+            seen.into_frame(xid, AUTH_REPLY_ZXID),
+            outputs,
+        )
     }
 }
 
 /// Closes a connection that has lost its session; does nothing for None.
-pub fn close_client_if_some(
+pub(crate) fn close_client_if_some(
     left: Option<u64>,
     world: &mut World,
     outputs: &mut Vec<Output>,

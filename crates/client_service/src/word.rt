@@ -32,7 +32,7 @@ fn first_four(bytes: &[u8]) -> Option<[u8; 4]>
 
 /// The four-letter word in a connection's first four bytes; None if they are none, or if the connection has a session
 /// or waits for one.
-pub fn word_at(number: u64, world: &World, bytes: &[u8]) -> Option<Word>
+pub(crate) fn word_at(number: u64, world: &World, bytes: &[u8]) -> Option<Word>
     ensures { result ≡ word_at number world.now bytes.now }
 {
     if !world.clients.pending.is_idle(number) {
@@ -54,11 +54,15 @@ pub fn word_at(number: u64, world: &World, bytes: &[u8]) -> Option<Word>
 fn row_of<'a>(sessions: &Sessions, watched: Watched<'a>) -> WatchRow<'a>
     ensures { result ≡ watch_row_of sessions.now watched.entry }
 {
-    let Watched { path, conn, table } = watched;
+    let Watched {
+        path,
+        connection,
+        table,
+    } = watched;
     WatchRow {
         path,
-        conn,
-        session: sessions.session(conn).unwrap_or(0),
+        connection,
+        session: sessions.session(connection).unwrap_or(0),
         table,
     }
 }
@@ -134,7 +138,7 @@ fn answer_of(alloc: Global, serving: bool, world: &World, word: Word) -> Result<
 /// Answers a four-letter word and closes the connection.
 ///
 /// Fails only if an allocation is refused; then a prefix of the outputs has been appended.
-pub fn tell_word(
+pub(crate) fn tell_word(
     alloc: Global,
     serving: bool,
     number: u64,

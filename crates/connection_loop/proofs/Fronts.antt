@@ -25,21 +25,21 @@ left_whole : (n : ℕ) (bytes rest f : List ℕ) → (frame_format client_frame_
 unfolding items_within
 left_whole n bytes rest f e =
     ap (λ r. (items_after_read r (λ v. items_within frames_of_client n tt)
-    (place_after_fault (frames_of_client.reading tt) tt bytes)).left.unread) e
+    (place_after_fault tt bytes)).left.unread) e
 
 left_short : (n : ℕ) (bytes : List ℕ) → (frame_format client_frame_limit).read bytes ≡ Err Short
     → left_of (suc n) bytes ≡ Ok bytes
 unfolding items_within
 left_short n bytes e =
     ap (λ r. (items_after_read r (λ v. items_within frames_of_client n tt)
-    (place_after_fault (frames_of_client.reading tt) tt bytes)).left.unread) e
+    (place_after_fault tt bytes)).left.unread) e
 
 left_refused : (n : ℕ) (bytes : List ℕ) (e : Fault) → (e ≡ Short → ⊥)
     → (frame_format client_frame_limit).read bytes ≡ Err e → left_of (suc n) bytes ≡ Err e
 unfolding items_within
 left_refused n bytes e other h =
     ap (λ r. (items_after_read r (λ v. items_within frames_of_client n tt)
-    (place_after_fault (frames_of_client.reading tt) tt bytes)).left.unread) h
+    (place_after_fault tt bytes)).left.unread) h
     ∙ refused_other e bytes other
 
 one_more : (most k : ℕ) → k < most → most - k ≡ suc (most - (k + 1))
@@ -91,7 +91,7 @@ going_all most k gate bytes h =
 abbrev pub going_read : ℕ → Gate → List ℕ → Result (List ℕ × List ℕ) Fault → ℕ
 going_read n gate bytes r =
     let items = items_after_read r (λ v. items_within frames_of_client n tt)
-    (place_after_fault (frames_of_client.reading tt) tt bytes) in
+    (place_after_fault tt bytes) in
     count_going items.found items.left.unread gate
 
 pub going_first : (n : ℕ) (gate : Gate) (bytes : List ℕ) → frames_going (suc n) gate bytes

@@ -45,7 +45,7 @@ within_more (Err e) m n le h = tt
 abbrev left_after : ℕ → List ℕ → Result (List ℕ × List ℕ) Fault → Unread
 left_after n bytes r =
     (items_after_read r (λ v. items_within frames_of_client n tt)
-    (place_after_fault (frames_of_client.reading tt) tt bytes)).left.unread
+    (place_after_fault tt bytes)).left.unread
 
 after_within : (n : ℕ) (bytes : List ℕ) (r : Result (List ℕ × List ℕ) Fault) → LeavesFewer r (length bytes)
     → ((rest : List ℕ) → IsWithin (left_of n rest) (length rest)) → IsWithin (left_after n bytes r) (length bytes)

@@ -77,7 +77,7 @@ impl OwnReadsAhead {
 
     /// While so many frames of the connection aren't answered, no more of those that went ahead are: gives the other
     /// places back.
-    pub fn give_back(&mut self, owed: usize)
+    pub(crate) fn give_back(&mut self, owed: usize)
         ensures used { self.new.used ≡ min self.old.used owed }
         ensures held { self.new.held ≡ self.new.used }
     {

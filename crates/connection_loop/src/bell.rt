@@ -43,7 +43,7 @@ impl Bell {
     }
 
     /// Begins a wait. Returns false if the bell was rung since the last wait; then the thread mustn't wait.
-    pub fn begin_wait(&self) -> bool {
+    pub(crate) fn begin_wait(&self) -> bool {
         let state = &self.state;
         state
             .compare_exchange(EMPTY, WAITING, Ordering::SeqCst, Ordering::SeqCst)
@@ -51,7 +51,7 @@ impl Bell {
     }
 
     /// Ends a wait, and clears the ring that ended it.
-    pub fn end_wait(&self) {
+    pub(crate) fn end_wait(&self) {
         self.state.store(EMPTY, Ordering::SeqCst);
     }
 
@@ -77,11 +77,11 @@ impl Bell {
         self.stopped.load(Ordering::SeqCst)
     }
 
-    pub fn is_hurried(&self) -> bool {
+    pub(crate) fn is_hurried(&self) -> bool {
         self.hurried.load(Ordering::SeqCst)
     }
 
-    pub fn is_abandoned(&self) -> bool {
+    pub(crate) fn is_abandoned(&self) -> bool {
         self.abandoned.load(Ordering::SeqCst)
     }
 }

@@ -28,7 +28,7 @@ pub fn whole_frames(bytes: &[u8], most: usize) -> usize
 }
 
 /// Whether a frame of this kind may be sent on.
-pub fn goes_with(kind: FrameKind, gate: Gate) -> bool
+pub(crate) fn goes_with(kind: FrameKind, gate: Gate) -> bool
     ensures { result ≡ goes_with kind gate }
 {
     match kind {
@@ -101,7 +101,7 @@ pub fn frames_going(bytes: &[u8], most: usize, gate: Gate) -> usize
 }
 
 /// Whether the last frame that begins in these bytes is of unbounded cost. It is a hint for the hub.
-pub fn ends_heavy(bytes: &[u8]) -> bool {
+pub(crate) fn ends_heavy(bytes: &[u8]) -> bool {
     let mut ahead = Reader::new(bytes);
     let mut last = bytes;
     for _ in 0..MOST_AT_ONCE {

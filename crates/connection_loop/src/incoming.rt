@@ -16,7 +16,7 @@ use std::marker::Model;
 use values::{Blob, NoMemory};
 
 /// The most bytes that are read at once and wait to be sent on.
-pub const READ_LEN: usize = 16_384;
+pub(crate) const READ_LEN: usize = 16_384;
 
 /// How a connection's bytes are cut into messages.
 #[derive(Clone, Copy, Debug, PartialEq, Eq)]
@@ -204,7 +204,7 @@ impl Incoming {
 
     /// Reads as much as there is room for, which mustn't be none, and adds it at the end. Returns the number of bytes,
     /// which is 0 at the end of the stream. An error leaves the bytes as they were.
-    pub fn read_from<R: Read>(&mut self, reader: &mut R) -> io::Result<usize>
+    pub(crate) fn read_from<R: Read>(&mut self, reader: &mut R) -> io::Result<usize>
         requires { length self.old.bytes < buffer_length }
         ensures kept { OnOk result (StartsWith self.new.bytes self.old.bytes) }
         ensures count { IfOk result (λ n. length self.new.bytes ≡ length self.old.bytes + n) }

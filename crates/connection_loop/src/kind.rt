@@ -70,7 +70,7 @@ fn kind_of_request(kind: Option<RequestKind>, len: usize) -> FrameKind
 
 /// What comes after an int, which takes four bytes; nothing where there are fewer.
 #[tactic(auto, using(crate::proofs::Ints::slice_after))]
-pub fn after_int(bytes: &[u8]) -> &[u8]
+pub(crate) fn after_int(bytes: &[u8]) -> &[u8]
     ensures { result.now ≡ drop 4 bytes.now }
 {
     match bytes.get(4..) {
@@ -91,7 +91,7 @@ fn request_at(bytes: &[u8]) -> Option<RequestKind>
 
 /// The kind of a frame, without its length: its xid takes the first four bytes, and its type the next four. A frame that
 /// is too short for a type closes its connection.
-pub fn kind_of_frame(frame: &[u8]) -> FrameKind
+pub(crate) fn kind_of_frame(frame: &[u8]) -> FrameKind
     ensures { result ≡ kind_of_frame frame.now }
 {
     kind_of_request(request_at(after_int(frame)), frame.len())

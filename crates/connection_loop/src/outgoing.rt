@@ -60,14 +60,14 @@ impl Outgoing {
     }
 
     /// Whether everything gathered is written.
-    pub fn is_written(&self) -> bool
+    pub(crate) fn is_written(&self) -> bool
         ensures { IsTrue result ↔ (self.now.bytes ≡ []) }
     {
         self.bytes[self.at..].is_empty()
     }
 
     /// Whether the connection is to be closed after what was gathered.
-    pub fn is_closing(&self) -> bool
+    pub(crate) fn is_closing(&self) -> bool
         ensures { result ≡ self.now.closing }
     {
         self.closing
@@ -135,7 +135,7 @@ impl Outgoing {
 
     /// Adds the last bytes for the connection, which aren't an output's: it closes after them. Fails only if an
     /// allocation is refused, and changes nothing then.
-    pub fn put_last(&mut self, bytes: &[u8]) -> Result<(), NoMemory>
+    pub(crate) fn put_last(&mut self, bytes: &[u8]) -> Result<(), NoMemory>
         ensures ok { OnOk result (self.new ≡ record self.old { bytes = self.old.bytes ++ bytes.now; closing = true }) }
         ensures err { OnErr result (self.new ≡ self.old) }
     {
@@ -145,7 +145,7 @@ impl Outgoing {
     }
 
     /// Writes the rest, as far as the writer takes it, and returns the number of bytes.
-    pub fn write_to<W: Write>(&mut self, writer: &mut W) -> io::Result<usize>
+    pub(crate) fn write_to<W: Write>(&mut self, writer: &mut W) -> io::Result<usize>
         ensures written { WriteAppends (W.contents writer.old) (W.contents writer.new) result self.old.bytes }
         ensures rest { IfOk result (λ n. self.new ≡ record self.old { bytes = drop n self.old.bytes }) }
         ensures bound { IfOk result (λ n. n ≤ length self.old.bytes) }

@@ -45,7 +45,7 @@ fn limit_end(counts: bool, since: u64, limit: u64) -> Option<u64>
 
 impl Waits {
     /// When the session ends if nothing changes until then; `None` if it waits for good.
-    pub fn deadline(self, limits: SessionLimits) -> Option<u64>
+    pub(crate) fn deadline(self, limits: SessionLimits) -> Option<u64>
         ensures { result ≡ deadline_of self limits }
     {
         let unread = if self.closing {

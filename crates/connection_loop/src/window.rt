@@ -9,10 +9,10 @@ use std::marker::Model;
 
 /// The most whole frames that are sent on at once. So a client gets at most this many answers in one turn of the hub,
 /// however much it sends.
-pub const MOST_AT_ONCE: usize = 16;
+pub(crate) const MOST_AT_ONCE: usize = 16;
 
 /// The most frames that wait for their answers. The engine closes a connection that sends more.
-pub const MOST_OWED: usize = 1024;
+pub(crate) const MOST_OWED: usize = 1024;
 
 /// An answer of more bytes is large.
 const SMALL: usize = 65_536;
@@ -90,7 +90,7 @@ impl Window {
     }
 
     /// Whether no answer has come yet.
-    pub fn is_connecting(&self) -> bool
+    pub(crate) fn is_connecting(&self) -> bool
         ensures { result ≡ not self.now.connected }
     {
         !self.connected
@@ -123,7 +123,7 @@ impl Window {
     }
 
     /// Counts an output for the client, if it answers a frame.
-    pub fn note(&mut self, output: &Output)
+    pub(crate) fn note(&mut self, output: &Output)
         ensures { self.new ≡ with_output_noted self.old output.now }
     {
         if let Output::ToClient(_, frame) = output {

@@ -12,7 +12,7 @@ use txn_codec::Operation;
 use values::{Listed, NoMemory};
 
 /// The first error that isn't 0, or 0 if there is none.
-pub fn first_error(errors: &[i32]) -> i32
+pub(crate) fn first_error(errors: &[i32]) -> i32
     ensures { result ≡ first_error errors.now }
 {
     for error in errors {
@@ -46,7 +46,7 @@ pub fn has_error(parts: &[Operation]) -> bool
 }
 
 /// The outcome of a multi that has an error part. Fails only if an allocation is refused.
-pub fn failed_outcome(alloc: Global, parts: &[Operation]) -> Result<Outcome, NoMemory>
+pub(crate) fn failed_outcome(alloc: Global, parts: &[Operation]) -> Result<Outcome, NoMemory>
     ensures { IfOk result (λ o. o ≡ failed_outcome parts.now) }
 {
     let mut otherwise = 0;

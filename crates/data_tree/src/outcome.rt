@@ -30,7 +30,7 @@ pub struct Outcome {
 }
 
 /// Adds the triggers of a create or a delete: at the path, and at its parent.
-pub fn fire_with_parent(
+pub(crate) fn fire_with_parent(
     triggers: &mut Vec<Trigger>,
     alloc: Global,
     at_path: Trigger,
@@ -46,7 +46,7 @@ pub fn fire_with_parent(
 }
 
 /// Adds the trigger of a setData.
-pub fn fire_data_changed(
+pub(crate) fn fire_data_changed(
     triggers: &mut Vec<Trigger>,
     alloc: Global,
     path: &str,

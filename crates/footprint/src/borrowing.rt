@@ -1,34 +1,12 @@
 //! The paths of a transaction, borrowed from it.
 
-ghost use Rattle.std.specs.Prelude.{◌≡◌, ◌++◌, ◌∷◌, [], OnOk, is_some};
+ghost use Rattle.std.specs.Prelude.{◌≡◌, ◌++◌, ◌∷◌, [], OnOk};
 ghost use Rattle.txn_codec.specs.Paths.{parent_of};
-ghost use Rattle.data_tree.specs.Meaning.{error_of, has_error};
 ghost use Rattle.data_tree.specs.Footprint.{footprint_of_operation, footprint_of_parts, footprint};
 
+use data_tree::has_error;
 use txn_codec::{Body, Operation, Path, Txn};
 use values::{NoMemory, Str};
-
-fn is_error(part: &Operation) -> bool
-    ensures { result ≡ is_some (error_of part.now) }
-{
-    match part {
-        Operation::Error(_) => true,
-        Operation::Create(_) | Operation::Delete(_) | Operation::SetData(_) | Operation::Check(_) =>
-            false,
-    }
-}
-
-// Whether some part of a multi is an error part, so that none of it is applied.
-fn has_error(parts: &[Operation]) -> bool
-    ensures { result ≡ has_error parts.now }
-{
-    for part in parts {
-        if is_error(part) {
-            return true;
-        }
-    }
-    false
-}
 
 fn add<'a>(path: &'a str, paths: &mut Vec<Str<'a>>) -> Result<(), NoMemory>
     ensures { OnOk result (paths.new.items ≡ paths.old.items ++ path.now ∷ []) }

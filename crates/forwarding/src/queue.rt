@@ -140,7 +140,7 @@ impl Queue {
     }
 
     /// Whether a sync isn't settled.
-    pub fn has_unsettled(&self) -> bool
+    pub(crate) fn has_unsettled(&self) -> bool
         ensures { result ≡ list_any is_unsettled self.now }
     {
         self.requests.iter().any(|request| request.is_unsettled())
@@ -163,7 +163,7 @@ impl Queue {
         match self.requests.front() {
             Some(PendingRequest::Sync(sync)) => sync.is_settled,
             Some(PendingRequest::Held(_)) => true,
-            _ => false,
+            None | Some(PendingRequest::Connect(_) | PendingRequest::Write(_)) => false,
         }
     }
 
@@ -181,7 +181,7 @@ impl Queue {
                 path: sync.path,
             }),
             Some(PendingRequest::Held(frame)) => Some(Ready::HeldFrame(frame)),
-            _ => None,
+            None | Some(PendingRequest::Connect(_) | PendingRequest::Write(_)) => None,
         }
     }
 
@@ -191,12 +191,14 @@ impl Queue {
     {
         match self.requests.front() {
             Some(PendingRequest::Connect(connect)) => Some(*connect),
-            _ => None,
+            None
+            | Some(PendingRequest::Write(_) | PendingRequest::Sync(_) | PendingRequest::Held(_)) =>
+                None,
         }
     }
 
     /// The frames that are held, in order. Fails only if an allocation is refused.
-    pub fn into_held(self, alloc: Global) -> Result<Listed<Blob>, NoMemory>
+    pub(crate) fn into_held(self, alloc: Global) -> Result<Listed<Blob>, NoMemory>
         ensures { IfOk result (λ frames. frames ≡ held_frames self) }
     {
         let mut frames = Vec::new(alloc);

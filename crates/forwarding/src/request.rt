@@ -111,7 +111,7 @@ impl PendingRequest {
     {
         match self {
             PendingRequest::Write(write) => Some(*write),
-            _ => None,
+            PendingRequest::Connect(_) | PendingRequest::Sync(_) | PendingRequest::Held(_) => None,
         }
     }
 
@@ -120,7 +120,7 @@ impl PendingRequest {
     {
         match self {
             PendingRequest::Write(write) => matches!(write.kind, WriteKind::CloseSession),
-            _ => false,
+            PendingRequest::Connect(_) | PendingRequest::Sync(_) | PendingRequest::Held(_) => false,
         }
     }
 
@@ -130,7 +130,8 @@ impl PendingRequest {
     {
         match self {
             PendingRequest::Sync(sync) => !sync.is_settled,
-            _ => false,
+            PendingRequest::Connect(_) | PendingRequest::Write(_) | PendingRequest::Held(_) =>
+                false,
         }
     }
 

@@ -47,14 +47,14 @@ impl Syncs {
     }
 
     /// Removes the newest sync.
-    pub fn pop_newest(&mut self)
+    pub(crate) fn pop_newest(&mut self)
         ensures { self.new ≡ without_newest self.old }
     {
         self.places.pop_back();
     }
 
     /// Removes the oldest sync and returns it. The outer None means that there was none.
-    pub fn take_oldest(&mut self) -> Option<Option<u64>>
+    pub(crate) fn take_oldest(&mut self) -> Option<Option<u64>>
         ensures oldest { result ≡ first_sync self.old }
         ensures rest { self.new ≡ drop 1 self.old }
     {
@@ -62,7 +62,7 @@ impl Syncs {
     }
 
     /// Makes the syncs of the connection nobody's.
-    pub fn disown(&mut self, number: u64)
+    pub(crate) fn disown(&mut self, number: u64)
         ensures { self.new ≡ map (without_owner number) self.old }
     {
         for place in 0..self.places.len() {

@@ -68,7 +68,11 @@ impl Touched {
     }
 
     /// The sessions that have a timeout, each with it, in ascending order. Fails only if an allocation is refused.
-    pub fn live_rows(&self, alloc: Global, timeouts: &Timeouts) -> Result<Vec<(i64, i32)>, NoMemory>
+    pub(crate) fn live_rows(
+        &self,
+        alloc: Global,
+        timeouts: &Timeouts,
+    ) -> Result<Vec<(i64, i32)>, NoMemory>
         ensures { IfOk result (λ rows. rows.items ≡ live_rows timeouts.now (sorted_touched self.now)) }
     {
         let mut rows = Vec::new(alloc);
@@ -81,7 +85,7 @@ impl Touched {
     }
 
     /// The sessions of these rows.
-    pub fn of_rows(alloc: Global, rows: &[(i64, i32)]) -> Result<Touched, NoMemory>
+    pub(crate) fn of_rows(alloc: Global, rows: &[(i64, i32)]) -> Result<Touched, NoMemory>
         ensures { IfOk result (λ touched. touched ≡ set.from_list (map (λ (row : ℤ × ℤ). row.0) rows.now)) }
     {
         let mut touched = Touched::new(alloc);

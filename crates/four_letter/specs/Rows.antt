@@ -28,7 +28,8 @@ abbrev pub leaderless_figures : Figures
 leaderless_figures = record primed_figures { serving = false }
 
 abbrev pub watch_row : Bytes → ℕ → ℤ → Table → WatchRow
-watch_row path conn session table = record { path = path; conn = conn; session = session; table = table }
+watch_row path connection session table = record
+    { path = path; connection = connection; session = session; table = table }
 
 -- The first session of server 3, 0x300000000000001.
 abbrev pub first_session : ℤ

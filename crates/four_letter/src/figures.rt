@@ -7,7 +7,7 @@ use watch_manager::{Table, WatchCounts};
 #[derive(Drop)]
 pub struct WatchRow<'a> {
     pub path: Str<'a>,
-    pub conn: u64,
+    pub connection: u64,
     pub session: i64,
     pub table: Table,
 }

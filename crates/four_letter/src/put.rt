@@ -36,7 +36,11 @@ pub fn put_hex(out: &mut Vec<u8>, name: &str, number: i64) -> Result<(), NoMemor
 }
 
 /// Appends the line with the number of connections that watch and of paths that are watched.
-pub fn put_watching(out: &mut Vec<u8>, connections: u128, paths: u128) -> Result<(), NoMemory>
+pub(crate) fn put_watching(
+    out: &mut Vec<u8>,
+    connections: u128,
+    paths: u128,
+) -> Result<(), NoMemory>
     ensures { OnOk result (out.new.items ≡ out.old.items ++ (decimal connections
         ++ codes " connections watching " ++ decimal paths ++ codes " paths\n")) }
 {

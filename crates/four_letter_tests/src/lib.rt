@@ -12,8 +12,8 @@ use values::{Listed, NoMemory};
 use watch_manager::{Table, Watched, Watches};
 
 // The first session of server 255 for connection 2, that of server 3 for any other.
-fn session_of(conn: u64) -> i64 {
-    if conn == 2 {
+fn session_of(connection: u64) -> i64 {
+    if connection == 2 {
         -72_057_594_037_927_935
     } else {
         216_172_782_113_783_809
@@ -29,11 +29,15 @@ pub fn answered(
 ) -> Result<(bool, Vec<u8>), NoMemory> {
     let mut rows = Vec::new(alloc);
     for watched in watches.summary(alloc)? {
-        let Watched { path, conn, table } = watched;
-        let session = session_of(conn);
+        let Watched {
+            path,
+            connection,
+            table,
+        } = watched;
+        let session = session_of(connection);
         rows.push(WatchRow {
             path,
-            conn,
+            connection,
             session,
             table,
         })?;
@@ -59,8 +63,8 @@ pub fn listed(alloc: Global, watches: &Watches) -> Result<Vec<u8>, NoMemory> {
     for row in &watches.summary(alloc)? {
         text.extend_from_slice(row.path.as_str().as_bytes())?;
         text.push(b' ')?;
-        text.push(if row.conn < 10 {
-            b'0' + row.conn as u8
+        text.push(if row.connection < 10 {
+            b'0' + row.connection as u8
         } else {
             b'?'
         })?;

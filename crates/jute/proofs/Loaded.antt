@@ -1,53 +1,50 @@
 -- What is read in parts is what the relation says, and so is what is refused.
 use Rattle.std.proofs.Common.{◌≡◌, ℕ, zero, suc, ◌<◌, Bool, true, false, List, [], ◌∷◌, ◌++◌, length, Result, Ok, Err, refl, sym, ap, subst, ◌∙◌, append_assoc, arith, ◌⊎◌, inl, inr}
 use Rattle.values.specs.declared.fault.Fault.{Fault}
-use Rattle.jute.specs.Format.{◌>>=◌}
-use Rattle.jute.specs.Laws.{IsBytes}
-use Rattle.jute.specs.Relation.{SpellsIn, SpellsItems, IsLawfulIn, AreLawful}
-use Rattle.jute.specs.Stream.{Reading, values, PhasedStream, IsStreamableIn, IsStream, read_in}
-use Rattle.jute.specs.Loading.{LoadRules, unless_last, load_from, made_of, EndsAt, EndsOnce, NoneIsLast, IsLoaded, AgainstIn, SpellsNext, IsRefused, IsSoundIn, AreSound}
+use Rattle.jute.specs.Format.{Format, ◌>>=◌}
+use Rattle.jute.specs.Laws.{IsBytes, IsSound}
+use Rattle.jute.specs.Relation.{SpellsItems, AreLawful}
+use Rattle.jute.specs.Stream.{PhasedStream, IsStreamable, IsStream}
+use Rattle.jute.specs.Loading.{LoadRules, unless_last, load_from, made_of, EndsAt, EndsOnce, NoneIsLast, IsLoaded, SpellsNext, IsRefused, AreSound}
 use Rattle.jute.proofs.Steps.{bind_ok, bind_err, ok_is, not_refused}
 use Rattle.jute.proofs.Streaming.{shorter_rest}
 use Rattle.jute.proofs.Loading.{load_read, load_refused}
 
--- ---- one reading
+-- ---- one format
 
-streamed_in : {A : Type 0} (f : Reading A) → IsSoundIn f → IsStreamableIn f
-streamed_in (values f) s = record { pieced = s.pieced; some = s.some }
-
-lawful_in : {A : Type 0} (f : Reading A) → IsSoundIn f → IsLawfulIn f
-lawful_in (values f) s = s.lawful
+streamed_in : {A : Type 0} (f : Format A) → IsSound f → IsStreamable f
+streamed_in f s = record { pieced = s.pieced; some = s.some }
 
 pub sound_streamed : {S A : Type 0} (stream : PhasedStream S A) → AreSound stream → IsStream stream
-sound_streamed stream s = record { streamed = λ phase. streamed_in (stream.reading phase) (s.sound phase) }
+sound_streamed stream s = record { streamed = λ phase. streamed_in (stream.format phase) (s.sound phase) }
 
 pub sound_lawful : {S A : Type 0} (stream : PhasedStream S A) → AreSound stream → AreLawful stream
-sound_lawful stream s = record { lawful = λ phase. lawful_in (stream.reading phase) (s.sound phase) }
+sound_lawful stream s = record { lawful = λ phase. (s.sound phase).lawful }
 
 -- The value that was read is spelled at the front.
-record Front {A : Type 0} (f : Reading A) (bytes : List ℕ) (v : A) (rest : List ℕ) : Type 0 where
+record Front {A : Type 0} (f : Format A) (bytes : List ℕ) (v : A) (rest : List ℕ) : Type 0 where
   text : List ℕ
   parts : bytes ≡ text ++ rest
-  spells : SpellsIn f v text
+  spells : f.Spells v text
   rest_fits : IsBytes rest
 
-front_in : {A : Type 0} (f : Reading A) → IsSoundIn f → (bytes rest : List ℕ) (v : A) → IsBytes bytes
-    → read_in f bytes ≡ Ok (v, rest) → Front f bytes v rest
-front_in (values f) s bytes rest v fits e =
+front_in : {A : Type 0} (f : Format A) → IsSound f → (bytes rest : List ℕ) (v : A) → IsBytes bytes
+    → f.read bytes ≡ Ok (v, rest) → Front f bytes v rest
+front_in f s bytes rest v fits e =
     let t = s.lawful.takes bytes v rest fits e in
     record { text = t.text; parts = t.parts; spells = t.spells; rest_fits = t.rest_fits }
 
-again_in : {A : Type 0} (f : Reading A) → IsSoundIn f → (v : A) (text rest : List ℕ) → SpellsIn f v text
-    → read_in f (text ++ rest) ≡ Ok (v, rest)
-again_in (values f) s v text rest h = s.lawful.again v text rest h
+again_in : {A : Type 0} (f : Format A) → IsSound f → (v : A) (text rest : List ℕ) → f.Spells v text
+    → f.read (text ++ rest) ≡ Ok (v, rest)
+again_in f s v text rest h = s.lawful.again v text rest h
 
-names_in : {A : Type 0} (f : Reading A) → IsSoundIn f → (bytes : List ℕ) (e : Fault) → IsBytes bytes
-    → read_in f bytes ≡ Err e → AgainstIn f e bytes
-names_in (values f) s bytes e fits h = s.named.names bytes e fits h
+names_in : {A : Type 0} (f : Format A) → IsSound f → (bytes : List ℕ) (e : Fault) → IsBytes bytes
+    → f.read bytes ≡ Err e → f.against e bytes
+names_in f s bytes e fits h = s.named.names bytes e fits h
 
-answers_in : {A : Type 0} (f : Reading A) → IsSoundIn f → (bytes : List ℕ) (e : Fault) → AgainstIn f e bytes
-    → read_in f bytes ≡ Err e
-answers_in (values f) s bytes e h = s.named.answers bytes e h
+answers_in : {A : Type 0} (f : Format A) → IsSound f → (bytes : List ℕ) (e : Fault) → f.against e bytes
+    → f.read bytes ≡ Err e
+answers_in f s bytes e h = s.named.answers bytes e h
 
 -- ---- bytes, and those that follow
 
@@ -82,14 +79,14 @@ module _ {S A L : Type 0} (load : LoadRules S A L) (sound : AreSound load.stream
   left phase v next rest = unless_last (load.is_last v) next rest (load_from load (load.stream.after phase v) next rest)
 
   read_of : (phase : S) (v : A) (bytes text rest : List ℕ) → bytes ≡ text ++ rest
-      → SpellsIn (load.stream.reading phase) v text → read_in (load.stream.reading phase) bytes ≡ Ok (v, rest)
+      → (load.stream.format phase).Spells v text → (load.stream.format phase).read bytes ≡ Ok (v, rest)
   read_of phase v bytes text rest is spells =
-      ap (read_in (load.stream.reading phase)) is
-      ∙ again_in (load.stream.reading phase) (sound.sound phase) v text rest spells
+      ap (load.stream.format phase).read is
+      ∙ again_in (load.stream.format phase) (sound.sound phase) v text rest spells
 
   -- One value is spelled at the front and taken.
   step_on : (phase : S) (v : A) (old next : L) (bytes text rest : List ℕ) → bytes ≡ text ++ rest
-      → SpellsIn (load.stream.reading phase) v text → load.takes old v ≡ Ok next
+      → (load.stream.format phase).Spells v text → load.takes old v ≡ Ok next
       → load_from load phase old bytes ≡ left phase v next rest
   step_on phase v old next bytes text rest is spells took =
       load_read load streamed phase old bytes rest v (read_of phase v bytes text rest is spells)
@@ -132,7 +129,7 @@ module _ {S A L : Type 0} (load : LoadRules S A L) (sound : AreSound load.stream
   Loaded phase old bytes new rest = IsLoaded load phase old bytes new rest × IsBytes rest
 
   loaded_step : (phase : S) (old new : L) (bytes rest : List ℕ) (r : Result (A × List ℕ) Fault) → IsBytes bytes
-      → read_in (load.stream.reading phase) bytes ≡ r → load_from load phase old bytes ≡ Ok (new, rest)
+      → (load.stream.format phase).read bytes ≡ r → load_from load phase old bytes ≡ Ok (new, rest)
       → ((p : S) (next : L) (b : List ℕ) → length b < length bytes → IsBytes b
       → load_from load p next b ≡ Ok (new, rest) → Loaded p next b new rest)
       → Loaded phase old bytes new rest
@@ -140,8 +137,8 @@ module _ {S A L : Type 0} (load : LoadRules S A L) (sound : AreSound load.stream
       absurd (not_refused (new, rest) e (sym loads ∙ load_refused load streamed phase old bytes e h))
   loaded_step phase old new bytes rest (Ok x) fits h loads others = by (load.is_last x.0) refl behind_it.2
     where
-      front : Front (load.stream.reading phase) bytes x.0 x.1
-      front = front_in (load.stream.reading phase) (sound.sound phase) bytes x.1 x.0 fits h
+      front : Front (load.stream.format phase) bytes x.0 x.1
+      front = front_in (load.stream.format phase) (sound.sound phase) bytes x.1 x.0 fits h
 
       behind_it : (next : L) × (load.takes old x.0 ≡ Ok next) × (left phase x.0 next x.1 ≡ Ok (new, rest))
       behind_it = bind_ok (load.takes old x.0) (λ next. left phase x.0 next x.1) (new, rest)
@@ -186,7 +183,7 @@ module _ {S A L : Type 0} (load : LoadRules S A L) (sound : AreSound load.stream
       → load_from load phase old bytes ≡ Ok (new, rest) → Loaded phase old bytes new rest
   loaded_within zero phase old new bytes rest lt fits loads = absurd (omega (arith, lt))
   loaded_within (suc n) phase old new bytes rest lt fits loads =
-      loaded_step phase old new bytes rest (read_in (load.stream.reading phase) bytes) fits refl loads
+      loaded_step phase old new bytes rest ((load.stream.format phase).read bytes) fits refl loads
       (λ p next b shorter fit k. loaded_within n p next new b rest (omega (arith, shorter, lt)) fit k)
 
   pub load_takes : (phase : S) (old new : L) (bytes rest : List ℕ) → IsBytes bytes
@@ -215,7 +212,7 @@ module _ {S A L : Type 0} (load : LoadRules S A L) (sound : AreSound load.stream
       ∙ elim r.next [
         | inl field ↦
             load_refused load streamed r.end r.so_far r.rest e
-            (answers_in (load.stream.reading r.end) (sound.sound r.end) r.rest e field)
+            (answers_in (load.stream.format r.end) (sound.sound r.end) r.rest e field)
         | inr value ↦
             load_read load streamed r.end r.so_far r.rest value.2 value.0
             (read_of r.end value.0 r.rest value.1 value.2 value.3 value.4)
@@ -223,7 +220,7 @@ module _ {S A L : Type 0} (load : LoadRules S A L) (sound : AreSound load.stream
       ]
 
   at_once : (phase : S) (old : L) (bytes : List ℕ) (e : Fault)
-      → AgainstIn (load.stream.reading phase) e bytes ⊎ SpellsNext (load.stream.reading phase) (λ v. load.takes old v
+      → (load.stream.format phase).against e bytes ⊎ SpellsNext (load.stream.format phase) (λ v. load.takes old v
       ≡ Err e) bytes
       → IsRefused load phase old bytes e
   at_once phase old bytes e h =
@@ -240,7 +237,7 @@ module _ {S A L : Type 0} (load : LoadRules S A L) (sound : AreSound load.stream
       }
 
   later_refused : (phase : S) (old next : L) (bytes rest : List ℕ) (v : A) (e : Fault)
-      → Front (load.stream.reading phase) bytes v rest → load.takes old v ≡ Ok next → load.is_last v ≡ false
+      → Front (load.stream.format phase) bytes v rest → load.takes old v ≡ Ok next → load.is_last v ≡ false
       → IsRefused load (load.stream.after phase v) next rest e → IsRefused load phase old bytes e
   later_refused phase old next bytes rest v e front took going r = record {
     found = v ∷ r.found;
@@ -254,7 +251,7 @@ module _ {S A L : Type 0} (load : LoadRules S A L) (sound : AreSound load.stream
   }
 
   refused_step : (phase : S) (old : L) (bytes : List ℕ) (e : Fault) (r : Result (A × List ℕ) Fault) → IsBytes bytes
-      → read_in (load.stream.reading phase) bytes ≡ r → load_from load phase old bytes ≡ Err e
+      → (load.stream.format phase).read bytes ≡ r → load_from load phase old bytes ≡ Err e
       → ((p : S) (next : L) (b : List ℕ) → length b < length bytes → IsBytes b → load_from load p next b ≡ Err e
       → IsRefused load p next b e)
       → IsRefused load phase old bytes e
@@ -262,7 +259,7 @@ module _ {S A L : Type 0} (load : LoadRules S A L) (sound : AreSound load.stream
       let same : (let q : Result (L × List ℕ) Fault = Err d in q ≡ Err e) =
       sym (load_refused load streamed phase old bytes d h) ∙ loads in
       let is : d ≡ e = cc in
-      at_once phase old bytes e (inl (names_in (load.stream.reading phase) (sound.sound phase) bytes e fits
+      at_once phase old bytes e (inl (names_in (load.stream.format phase) (sound.sound phase) bytes e fits
       (h ∙ ap (λ x. Err x) is)))
   refused_step phase old bytes e (Ok x) fits h loads others =
       elim (bind_err (load.takes old x.0) (λ next. left phase x.0 next x.1) e
@@ -271,8 +268,8 @@ module _ {S A L : Type 0} (load : LoadRules S A L) (sound : AreSound load.stream
         | inr took ↦ goes_on took.0 took.1 (load.is_last x.0) refl took.2
       ]
     where
-      front : Front (load.stream.reading phase) bytes x.0 x.1
-      front = front_in (load.stream.reading phase) (sound.sound phase) bytes x.1 x.0 fits h
+      front : Front (load.stream.format phase) bytes x.0 x.1
+      front = front_in (load.stream.format phase) (sound.sound phase) bytes x.1 x.0 fits h
 
       goes_on : (next : L) → load.takes old x.0 ≡ Ok next → (last : Bool) → load.is_last x.0 ≡ last
           → left phase x.0 next x.1 ≡ Err e → IsRefused load phase old bytes e
@@ -289,7 +286,7 @@ module _ {S A L : Type 0} (load : LoadRules S A L) (sound : AreSound load.stream
       → load_from load phase old bytes ≡ Err e → IsRefused load phase old bytes e
   refused_within zero phase old bytes e lt fits loads = absurd (omega (arith, lt))
   refused_within (suc n) phase old bytes e lt fits loads =
-      refused_step phase old bytes e (read_in (load.stream.reading phase) bytes) fits refl loads
+      refused_step phase old bytes e ((load.stream.format phase).read bytes) fits refl loads
       (λ p next b shorter fit k. refused_within n p next b e (omega (arith, shorter, lt)) fit k)
 
   pub load_names : (phase : S) (old : L) (bytes : List ℕ) (e : Fault) → IsBytes bytes

@@ -1,16 +1,16 @@
 -- A value that is read in parts, step by step, and however the bytes are cut.
 use Rattle.std.proofs.Common.{◌≡◌, ℕ, zero, suc, ◌<◌, Bool, true, false, List, ◌++◌, length, Result, Ok, Err, refl, ap, subst, ◌∙◌, arith, inl, inr}
 use Rattle.values.specs.declared.fault.Fault.{Fault}
-use Rattle.jute.specs.Format.{◌>>=◌}
+use Rattle.jute.specs.Format.{Format, ◌>>=◌}
 use Rattle.jute.specs.Pieces.{IsStable, LeavesAtMost, LeavesFewer}
-use Rattle.jute.specs.Stream.{Reading, values, IsStreamableIn, IsStream, read_in}
+use Rattle.jute.specs.Stream.{IsStreamable, IsStream}
 use Rattle.jute.specs.Loading.{LoadRules, unless_last, load_within, load_from}
 use Rattle.jute.proofs.Streaming.{shorter_rest}
 
 -- A value that was read in a phase is read again.
-stands_in : {A : Type 0} (f : Reading A) → IsStreamableIn f → (bytes more : List ℕ)
-    → IsStable (read_in f bytes) more (read_in f (bytes ++ more))
-stands_in (values f) s bytes more = s.pieced.stands bytes more
+stands_in : {A : Type 0} (f : Format A) → IsStreamable f → (bytes more : List ℕ)
+    → IsStable (f.read bytes) more (f.read (bytes ++ more))
+stands_in f s bytes more = s.pieced.stands bytes more
 
 pub at_most : {A : Type 0} (r : Result (A × List ℕ) Fault) (n : ℕ) → LeavesFewer r n → LeavesAtMost r n
 at_most (Ok x) n h = omega (arith, h)
@@ -36,7 +36,7 @@ module _ {S A L : Type 0} (load : LoadRules S A L) (s : IsStream load.stream) wh
   taken_same (Err e) last rest g h same = refl
 
   one_same : (phase : S) (bytes : List ℕ) (made : L) (r : Result (A × List ℕ) Fault)
-      (g h : A → L → List ℕ → Result (L × List ℕ) Fault) → read_in (load.stream.reading phase) bytes ≡ r
+      (g h : A → L → List ℕ → Result (L × List ℕ) Fault) → (load.stream.format phase).read bytes ≡ r
       → ((v : A) (next : L) (rest : List ℕ) → length rest < length bytes → g v next rest ≡ h v next rest)
       → one r made g ≡ one r made h
   one_same phase bytes made (Ok x) g h e same =
@@ -50,40 +50,40 @@ module _ {S A L : Type 0} (load : LoadRules S A L) (s : IsStream load.stream) wh
   enough zero m phase made bytes ln lm = absurd (omega (arith, ln))
   enough (suc n) zero phase made bytes ln lm = absurd (omega (arith, lm))
   enough (suc n) (suc m) phase made bytes ln lm =
-      one_same phase bytes made (read_in (load.stream.reading phase) bytes)
+      one_same phase bytes made ((load.stream.format phase).read bytes)
       (λ v. load_within load n (load.stream.after phase v)) (λ v. load_within load m (load.stream.after phase v)) refl
       (λ v next rest lt.
       enough n m (load.stream.after phase v) next rest (omega (arith, lt, ln)) (omega (arith, lt, lm)))
 
   -- One step, without the bound.
   pub load_step : (phase : S) (made : L) (bytes : List ℕ)
-      → load_from load phase made bytes ≡ one (read_in (load.stream.reading phase) bytes) made (behind phase)
+      → load_from load phase made bytes ≡ one ((load.stream.format phase).read bytes) made (behind phase)
   unfolding load_within
   load_step phase made bytes =
-      one_same phase bytes made (read_in (load.stream.reading phase) bytes)
+      one_same phase bytes made ((load.stream.format phase).read bytes)
       (λ v. load_within load (length bytes) (load.stream.after phase v)) (behind phase) refl
       (λ v next rest lt. enough (length bytes) (suc (length rest)) (load.stream.after phase v) next rest lt
       (omega arith))
 
   -- The step for each result of the reading.
   pub load_refused : (phase : S) (made : L) (bytes : List ℕ) (e : Fault)
-      → read_in (load.stream.reading phase) bytes ≡ Err e → load_from load phase made bytes ≡ Err e
+      → (load.stream.format phase).read bytes ≡ Err e → load_from load phase made bytes ≡ Err e
   load_refused phase made bytes e h = load_step phase made bytes ∙ ap (λ r. one r made (behind phase)) h
 
   pub load_read : (phase : S) (made : L) (bytes rest : List ℕ) (v : A)
-      → read_in (load.stream.reading phase) bytes ≡ Ok (v, rest)
+      → (load.stream.format phase).read bytes ≡ Ok (v, rest)
       → load_from load phase made bytes ≡ made_with made (behind phase) (v, rest)
   load_read phase made bytes rest v h = load_step phase made bytes ∙ ap (λ r. one r made (behind phase)) h
 
   -- It stays the same whatever follows.
   pub load_read_on : (phase : S) (made : L) (bytes rest more : List ℕ) (v : A)
-      → read_in (load.stream.reading phase) bytes ≡ Ok (v, rest)
+      → (load.stream.format phase).read bytes ≡ Ok (v, rest)
       → load_from load phase made (bytes ++ more) ≡ made_with made (behind phase) (v, rest ++ more)
   load_read_on phase made bytes rest more v h =
       load_read phase made (bytes ++ more) (rest ++ more) v
-      (subst (λ (r : Result (A × List ℕ) Fault). IsStable r more (read_in (load.stream.reading phase) (bytes ++ more)))
+      (subst (λ (r : Result (A × List ℕ) Fault). IsStable r more ((load.stream.format phase).read (bytes ++ more)))
       h
-      (stands_in (load.stream.reading phase) (s.streamed phase) bytes more))
+      (stands_in (load.stream.format phase) (s.streamed phase) bytes more))
 
   -- ---- more bytes
 
@@ -96,7 +96,7 @@ module _ {S A L : Type 0} (load : LoadRules S A L) (s : IsStream load.stream) wh
   taken_stands (Err e) last rest more g h others = inr refl
 
   one_stands : (phase : S) (made : L) (bytes more : List ℕ) (r after : Result (A × List ℕ) Fault)
-      → read_in (load.stream.reading phase) bytes ≡ r → IsStable r more after
+      → (load.stream.format phase).read bytes ≡ r → IsStable r more after
       → ((p : S) (next : L) (b : List ℕ) → length b < length bytes
       → IsStable (load_from load p next b) more (load_from load p next (b ++ more)))
       → IsStable (one r made (behind phase)) more (one after made (behind phase))
@@ -112,9 +112,9 @@ module _ {S A L : Type 0} (load : LoadRules S A L) (s : IsStream load.stream) wh
   stands_within zero phase made bytes more lt = absurd (omega (arith, lt))
   stands_within (suc n) phase made bytes more lt =
       rw (load_step phase made bytes, load_step phase made (bytes ++ more))
-      (one_stands phase made bytes more (read_in (load.stream.reading phase) bytes)
-      (read_in (load.stream.reading phase) (bytes ++ more)) refl
-      (stands_in (load.stream.reading phase) (s.streamed phase) bytes more)
+      (one_stands phase made bytes more ((load.stream.format phase).read bytes)
+      ((load.stream.format phase).read (bytes ++ more)) refl
+      (stands_in (load.stream.format phase) (s.streamed phase) bytes more)
       (λ p next b shorter. stands_within n p next b more (omega (arith, shorter, lt))))
 
   pub load_stands : (phase : S) (made : L) (bytes more : List ℕ)
@@ -135,7 +135,7 @@ module _ {S A L : Type 0} (load : LoadRules S A L) (s : IsStream load.stream) wh
   taken_eats (Err e) last rest n g lt others = tt
 
   one_eats : (phase : S) (made : L) (bytes : List ℕ) (r : Result (A × List ℕ) Fault)
-      → read_in (load.stream.reading phase) bytes ≡ r
+      → (load.stream.format phase).read bytes ≡ r
       → ((p : S) (next : L) (b : List ℕ) → length b < length bytes → LeavesFewer (load_from load p next b) (length b))
       → LeavesFewer (one r made (behind phase)) (length bytes)
   one_eats phase made bytes (Ok x) e others =
@@ -149,7 +149,7 @@ module _ {S A L : Type 0} (load : LoadRules S A L) (s : IsStream load.stream) wh
   eats_within zero phase made bytes lt = absurd (omega (arith, lt))
   eats_within (suc n) phase made bytes lt =
       rw (load_step phase made bytes)
-      (one_eats phase made bytes (read_in (load.stream.reading phase) bytes) refl
+      (one_eats phase made bytes ((load.stream.format phase).read bytes) refl
       (λ p next b shorter. eats_within n p next b (omega (arith, shorter, lt))))
 
   pub load_eats : (phase : S) (made : L) (bytes : List ℕ) → LeavesFewer (load_from load phase made bytes) (length bytes)

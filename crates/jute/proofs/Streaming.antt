@@ -4,11 +4,11 @@ use Rattle.values.specs.declared.fault.Fault.{Fault}
 use Rattle.values.specs.declared.fault.Fault.TheVariants.{Short}
 use Rattle.jute.specs.Format.{Format}
 use Rattle.jute.specs.Pieces.{IsStable, LeavesFewer}
-use Rattle.jute.specs.Stream.{Reading, values, PhasedStream, Unread, Place, place_at, Items, with_more_bytes, no_items, with_first, joined_items, read_in, kept_in, unread_after_fault, place_after_fault, items_after_read, items_within, items_in, stream_of, IsStreamable, IsStreamableIn, IsStream, ComesInPieces}
+use Rattle.jute.specs.Stream.{PhasedStream, Unread, Place, place_at, Items, with_more_bytes, no_items, with_first, joined_items, unread_after_fault, place_after_fault, items_after_read, items_within, items_in, stream_of, IsStreamable, IsStream, ComesInPieces}
 
-eats_in : {A : Type 0} (f : Reading A) (bytes : List ℕ) → IsStreamableIn f
-    → LeavesFewer (read_in f bytes) (length bytes)
-eats_in (values f) bytes s = s.some.eats bytes
+eats_in : {A : Type 0} (f : Format A) (bytes : List ℕ) → IsStreamable f
+    → LeavesFewer (f.read bytes) (length bytes)
+eats_in f bytes s = s.some.eats bytes
 
 go_same : {S A : Type 0} (r : Result (A × List ℕ) Fault) (n : ℕ) (g h : A → List ℕ → Items S A) (stop : Fault → Place S)
     → LeavesFewer r n → ((v : A) (b : List ℕ) → length b < n → g v b ≡ h v b)
@@ -23,9 +23,9 @@ module _ {S A : Type 0} (stream : PhasedStream S A) (s : IsStream stream) where
   enough zero m phase bytes ln lm = absurd (omega (arith, ln))
   enough (suc n) zero phase bytes ln lm = absurd (omega (arith, lm))
   enough (suc n) (suc m) phase bytes ln lm =
-      go_same (read_in (stream.reading phase) bytes) (length bytes) (λ v. items_within stream n (stream.after phase v))
-      (λ v. items_within stream m (stream.after phase v)) (place_after_fault (stream.reading phase) phase bytes)
-      (eats_in (stream.reading phase) bytes (s.streamed phase))
+      go_same ((stream.format phase).read bytes) (length bytes) (λ v. items_within stream n (stream.after phase v))
+      (λ v. items_within stream m (stream.after phase v)) (place_after_fault phase bytes)
+      (eats_in (stream.format phase) bytes (s.streamed phase))
       (λ v b lt. enough n m (stream.after phase v) b (omega (arith, lt, ln)) (omega (arith, lt, lm)))
 
   -- The values after one.
@@ -34,36 +34,36 @@ module _ {S A : Type 0} (stream : PhasedStream S A) (s : IsStream stream) where
 
   -- One step, without the bound.
   pub unrolled : (phase : S) (bytes : List ℕ)
-      → items_in stream (place_at phase bytes) ≡ items_after_read (read_in (stream.reading phase) bytes) (behind phase)
-      (place_after_fault (stream.reading phase) phase bytes)
+      → items_in stream (place_at phase bytes) ≡ items_after_read ((stream.format phase).read bytes) (behind phase)
+      (place_after_fault phase bytes)
   unfolding items_within
   unrolled phase bytes =
-      go_same (read_in (stream.reading phase) bytes) (length bytes)
+      go_same ((stream.format phase).read bytes) (length bytes)
       (λ v. items_within stream (length bytes) (stream.after phase v)) (behind phase)
-      (place_after_fault (stream.reading phase) phase bytes)
-      (eats_in (stream.reading phase) bytes (s.streamed phase))
+      (place_after_fault phase bytes)
+      (eats_in (stream.format phase) bytes (s.streamed phase))
       (λ v b lt. enough (length bytes) (suc (length b)) (stream.after phase v) b lt (omega arith))
 
-  pub items_whole : (phase : S) (bytes rest : List ℕ) (v : A) → read_in (stream.reading phase) bytes ≡ Ok (v, rest)
+  pub items_whole : (phase : S) (bytes rest : List ℕ) (v : A) → (stream.format phase).read bytes ≡ Ok (v, rest)
       → items_in stream (place_at phase bytes) ≡ with_first v (items_in stream (place_at (stream.after phase v) rest))
   items_whole phase bytes rest v h =
       unrolled phase bytes ∙ ap (λ r. items_after_read r (behind phase)
-      (place_after_fault (stream.reading phase) phase bytes)) h
+      (place_after_fault phase bytes)) h
 
-  pub items_refused : (phase : S) (bytes : List ℕ) (e : Fault) → read_in (stream.reading phase) bytes ≡ Err e
-      → items_in stream (place_at phase bytes) ≡ no_items (place_after_fault (stream.reading phase) phase bytes e)
+  pub items_refused : (phase : S) (bytes : List ℕ) (e : Fault) → (stream.format phase).read bytes ≡ Err e
+      → items_in stream (place_at phase bytes) ≡ no_items (place_after_fault phase bytes e)
   items_refused phase bytes e h =
       unrolled phase bytes ∙ ap (λ r. items_after_read r (behind phase)
-      (place_after_fault (stream.reading phase) phase bytes)) h
+      (place_after_fault phase bytes)) h
 
-  pub items_short : (phase : S) (bytes : List ℕ) → read_in (stream.reading phase) bytes ≡ Err Short
-      → items_in stream (place_at phase bytes) ≡ no_items (place_at phase (kept_in (stream.reading phase) bytes))
+  pub items_short : (phase : S) (bytes : List ℕ) → (stream.format phase).read bytes ≡ Err Short
+      → items_in stream (place_at phase bytes) ≡ no_items (place_at phase bytes)
   items_short phase bytes h = items_refused phase bytes Short h
 
-  pub shorter_rest : (phase : S) (bytes rest : List ℕ) (v : A) → read_in (stream.reading phase) bytes ≡ Ok (v, rest)
+  pub shorter_rest : (phase : S) (bytes rest : List ℕ) (v : A) → (stream.format phase).read bytes ≡ Ok (v, rest)
       → length rest < length bytes
   shorter_rest phase bytes rest v h = subst (λ (r : Result (A × List ℕ) Fault). LeavesFewer r (length bytes)) h
-      (eats_in (stream.reading phase) bytes (s.streamed phase))
+      (eats_in (stream.format phase) bytes (s.streamed phase))
 
   -- The law at a phase and bytes.
   abbrev Pieces : S → List ℕ → List ℕ → Type 0
@@ -72,10 +72,10 @@ module _ {S A : Type 0} (stream : PhasedStream S A) (s : IsStream stream) where
       (items_in stream (with_more_bytes (items_in stream (place_at phase bytes)).left more))
 
   -- This reading is the one that is used.
-  abbrev IsReadBy : S → Reading A → Type 0
+  abbrev IsReadBy : S → Format A → Type 0
   IsReadBy phase f = (bytes : List ℕ)
-      → items_in stream (place_at phase bytes) ≡ items_after_read (read_in f bytes) (behind phase)
-      (place_after_fault f phase bytes)
+      → items_in stream (place_at phase bytes) ≡ items_after_read (f.read bytes) (behind phase)
+      (place_after_fault phase bytes)
 
   -- No value is complete at the end of the first piece.
   ended : (phase : S) (e : Fault) (bytes more : List ℕ) (after : Result (A × List ℕ) Fault)
@@ -103,16 +103,16 @@ module _ {S A : Type 0} (stream : PhasedStream S A) (s : IsStream stream) where
       whole ∙ rw h (ap (with_first x.0) (others (stream.after phase x.0) x.1 e))
   step phase (Err e) after bytes more h _ whole others = ended phase e bytes more after h whole
 
-  in_pieces_by : (f : Reading A) (phase : S) (bytes more : List ℕ) → IsStreamableIn f → IsReadBy phase f
+  in_pieces_by : (f : Format A) (phase : S) (bytes more : List ℕ) → IsStreamable f → IsReadBy phase f
       → ((p : S) (b : List ℕ) → length b < length bytes → Pieces p b more) → Pieces phase bytes more
-  in_pieces_by (values f) phase bytes more t is others =
+  in_pieces_by f phase bytes more t is others =
       rw (is bytes) (step phase (f.read bytes) (f.read (bytes ++ more)) bytes more (t.pieced.stands bytes more)
       (t.some.eats bytes) (is (bytes ++ more)) others)
 
   in_pieces : (n : ℕ) (phase : S) (bytes more : List ℕ) → length bytes < n → Pieces phase bytes more
   in_pieces zero phase bytes more lt = absurd (omega (arith, lt))
   in_pieces (suc n) phase bytes more lt =
-      in_pieces_by (stream.reading phase) phase bytes more (s.streamed phase) (unrolled phase)
+      in_pieces_by (stream.format phase) phase bytes more (s.streamed phase) (unrolled phase)
       (λ p b shorter. in_pieces n p b more (omega (arith, shorter, lt)))
 
   comes_from : (phase : S) (u : Unread) (more : List ℕ)

@@ -3,10 +3,10 @@
 use Rattle.std.specs.Prelude.{◌≡◌, ℕ, zero, suc, Bool, true, false, List, [], ◌∷◌, ◌++◌, length, Result, Ok, Err, ◌⊎◌, if◌then◌else◌}
 use Rattle.values.specs.declared.fault.Fault.{Fault}
 use Rattle.values.specs.declared.fault.Fault.TheVariants.{Short}
-use Rattle.jute.specs.Format.{◌>>=◌}
+use Rattle.jute.specs.Format.{Format, ◌>>=◌}
 use Rattle.jute.specs.Laws.{IsSound}
-use Rattle.jute.specs.Relation.{SpellsIn, SpellsItems}
-use Rattle.jute.specs.Stream.{Reading, values, PhasedStream, read_in}
+use Rattle.jute.specs.Relation.{SpellsItems}
+use Rattle.jute.specs.Stream.{PhasedStream}
 
 pub record LoadRules (S A L : Type 0) : Type 1 where
   pub stream : PhasedStream S A
@@ -24,7 +24,7 @@ unless_last last made rest others = if last then Ok (made, rest) else others
 unfoldable pub load_within : {S A L : Type 0} → LoadRules S A L → ℕ → S → L → List ℕ → Result (L × List ℕ) Fault
 load_within load zero phase made bytes = Err Short
 load_within load (suc n) phase made bytes =
-    read_in (load.stream.reading phase) bytes >>= λ x. load.takes made x.0 >>= λ next.
+    (load.stream.format phase).read bytes >>= λ x. load.takes made x.0 >>= λ next.
     unless_last (load.is_last x.0) next x.1 (load_within load n (load.stream.after phase x.0) next x.1)
 
 -- What the values make of what was made before them, and the bytes after the last one. Each value takes at least one
@@ -61,14 +61,10 @@ pub record IsLoaded {S A L : Type 0} (load : LoadRules S A L) (phase : S) (old :
   pub ends : EndsOnce load found
   pub made : made_of load old found ≡ Ok new
 
--- The field that a refusal of the reading names.
-abbrev pub AgainstIn : {A : Type 0} → Reading A → Fault → List ℕ → Type 0
-AgainstIn (values f) e bytes = f.against e bytes
-
 -- A value with this property is spelled at the front.
-abbrev pub SpellsNext : {A : Type 0} → Reading A → (A → Type 0) → List ℕ → Type 0
-SpellsNext {A = A} reading P bytes =
-    (v : A) × (text rest : List ℕ) × (bytes ≡ text ++ rest) × SpellsIn reading v text × P v
+abbrev pub SpellsNext : {A : Type 0} → Format A → (A → Type 0) → List ℕ → Type 0
+SpellsNext {A = A} f P bytes =
+    (v : A) × (text rest : List ℕ) × (bytes ≡ text ++ rest) × f.Spells v text × P v
 
 -- Some values at the front were taken, none of them the last. Then the next field isn't spelled, or the next value is
 -- spelled and refused.
@@ -81,17 +77,14 @@ pub record IsRefused {S A L : Type 0} (load : LoadRules S A L) (phase : S) (old 
   pub none_last : NoneIsLast load found
   pub so_far : L
   pub made : made_of load old found ≡ Ok so_far
-  pub next : AgainstIn (load.stream.reading end) e rest
-      ⊎ SpellsNext (load.stream.reading end) (λ v. load.takes so_far v ≡ Err e) rest
+  pub next : (load.stream.format end).against e rest
+      ⊎ SpellsNext (load.stream.format end) (λ v. load.takes so_far v ≡ Err e) rest
 
 -- ---- the requirements
 
-abbrev pub IsSoundIn : {A : Type 0} → Reading A → Type 0
-IsSoundIn (values f) = IsSound f
-
 -- Each format of the stream is sound.
 pub record AreSound {S A : Type 0} (stream : PhasedStream S A) : Type 0 where
-  pub sound : (phase : S) → IsSoundIn (stream.reading phase)
+  pub sound : (phase : S) → IsSound (stream.format phase)
 
 -- No value is refused for want of bytes.
 pub record NeverWaits {S A L : Type 0} (load : LoadRules S A L) : Type 0 where

@@ -122,7 +122,7 @@ fn admit(
 /// were held until then.
 ///
 /// Fails only if an allocation is refused; then a prefix of the outputs has been appended.
-pub fn admit_client(
+pub(crate) fn admit_client(
     alloc: Global,
     number: u64,
     world: &mut World,

@@ -17,7 +17,7 @@ use values::NoMemory;
 /// connection.
 ///
 /// Fails only if an allocation is refused; then a prefix of the outputs has been appended.
-pub fn close_ended(
+pub(crate) fn close_ended(
     alloc: Global,
     number: u64,
     world: &mut World,

@@ -74,7 +74,7 @@ fn take_ready(number: u64, world: &mut World) -> Option<Ready>
 /// Answers the connection's requests whose turn has come.
 ///
 /// Fails only if an allocation is refused; then a prefix of the outputs has been appended.
-pub fn answer_front(
+pub(crate) fn answer_front(
     alloc: Global,
     number: u64,
     world: &mut World,

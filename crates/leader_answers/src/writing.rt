@@ -30,7 +30,7 @@ fn take_write(number: u64, world: &mut World, xid: i32, txn_kind: i32)
 }
 
 /// What the reply to the transaction's write shows.
-pub fn reply_to_write(
+pub(crate) fn reply_to_write(
     alloc: Global,
     world: &World,
     kind: WriteKind,

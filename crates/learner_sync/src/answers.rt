@@ -19,14 +19,14 @@ use values::{Blob, Listed, NoMemory};
 const PROTOCOL_VERSION: i32 = 0x1_0000;
 
 // A list of one act. Fails only if an allocation is refused.
-pub fn act_list(alloc: Global, act: Act) -> Result<Listed<Act>, NoMemory>
+pub(crate) fn act_list(alloc: Global, act: Act) -> Result<Listed<Act>, NoMemory>
     ensures { IfOk result (λ acts. acts ≡ act ∷ []) }
 {
     Ok(Listed::from_vec(vec![in alloc; act]?))
 }
 
 // A list of no act. Allocates nothing.
-pub fn empty_act_list(alloc: Global) -> Listed<Act>
+pub(crate) fn empty_act_list(alloc: Global) -> Listed<Act>
     ensures { result ≡ [] }
 {
     Listed::from_vec(Vec::new(alloc))

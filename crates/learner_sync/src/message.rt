@@ -51,7 +51,7 @@ fn carried_bytes(alloc: Global, bytes: Option<Blob>) -> Blob
 }
 
 /// Reads what a packet means; from here on nothing looks at its kind. Allocates nothing.
-pub fn message_of_packet(alloc: Global, packet: QuorumPacket) -> Message
+pub(crate) fn message_of_packet(alloc: Global, packet: QuorumPacket) -> Message
     ensures { result ≡ message_of_packet packet }
 {
     match PacketKind::from_code(packet.kind) {

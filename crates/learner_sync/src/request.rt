@@ -13,7 +13,7 @@ use std::alloc::Global;
 use values::{Blob, Listed, NoMemory};
 
 // The zxid of a request, which has none.
-const NO_ZXID: i64 = -1;
+const REQUEST_ZXID: i64 = -1;
 
 // The type of a request for a session.
 const CREATE_SESSION: i32 = -10;
@@ -43,7 +43,7 @@ pub fn request_of(
     bytes.extend_from_slice(frame)?;
     Ok(QuorumPacket {
         kind: PacketKind::Request.code(),
-        zxid: NO_ZXID,
+        zxid: REQUEST_ZXID,
         bytes: Some(Blob::from_vec(bytes)),
         authinfo: Some(copied_ids(alloc, ids)?),
     })
@@ -61,7 +61,7 @@ pub fn session_request(alloc: Global, session: i64, time_out: i32) -> Result<Quo
     put_int(&mut bytes, time_out)?;
     Ok(QuorumPacket {
         kind: PacketKind::Request.code(),
-        zxid: NO_ZXID,
+        zxid: REQUEST_ZXID,
         bytes: Some(Blob::from_vec(bytes)),
         authinfo: None,
     })

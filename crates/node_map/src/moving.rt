@@ -7,7 +7,6 @@ ghost use Rattle.std.specs.FinMap as finmap;
 ghost use Rattle.std.specs.FinSet as set;
 ghost use Rattle.ephemerals.specs.Orders.{Bytes};
 ghost use Rattle.node_map.specs.Agreement.{has_node};
-ghost use Rattle.node_map.specs.Updates.{update_node};
 ghost use Rattle.node_map.specs.Inner.Moving.{IsRoomFor, with_replaced_node};
 ghost use Rattle.node_map.specs.declared.node.Node.{Node};
 
@@ -40,16 +39,6 @@ impl NodeMap {
         Ok(room)
     }
 
-    // Replaces the node at the path, if there is one.
-    fn fill(&mut self, path: &str, node: Node)
-        ensures { self.new ≡ update_node self.old path.now (λ (n : Node). node) }
-    {
-        match self.get_mut(path) {
-            None => return,
-            Some(place) => *place = node,
-        }
-    }
-
     // Moves the node at the path, if there is one, in place of the node at the same path of `room`.
     fn move_node(&mut self, path: &str, room: &mut NodeMap)
         ensures gone { self.new ≡ finmap.remove self.old path.now }
@@ -57,7 +46,7 @@ impl NodeMap {
     {
         match self.remove(path) {
             None => return,
-            Some(node) => room.fill(path, node),
+            Some(node) => room.replace(path, node),
         }
     }
 

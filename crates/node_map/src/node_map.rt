@@ -142,7 +142,7 @@ impl NodeMap {
     }
 
     // Replaces the node at the path, if there is one.
-    fn replace(&mut self, path: &str, node: Node)
+    pub(crate) fn replace(&mut self, path: &str, node: Node)
         ensures { self.new ≡ update_node self.old path.now (λ _. node) }
     {
         match self.get_mut(path) {

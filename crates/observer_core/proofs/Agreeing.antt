@@ -26,7 +26,7 @@ use Rattle.watch_manager.specs.Watching.{WatchTables}
 use Rattle.watch_manager.specs.Laws.{WatchersPass, OnlyWatchersAreTold, DroppedWatchesNothing}
 use Rattle.client_service.specs.World.{OpenConnection, Clients, World}
 use Rattle.client_service.specs.Clients.{is_open, with_connection, without_client, without_clients}
-use Rattle.client_service.specs.Serve.{with_watching, with_watch, with_sessions, with_pending, close_client_if_some}
+use Rattle.client_service.specs.Serve.{with_watches, with_watch, with_sessions, with_pending, close_client_if_some}
 use Rattle.observer_core.specs.Agreement.{ClientsAgree, OneSessionEach}
 use Rattle.observer_core.proofs.Walking.{IsOpen, HasNone, NoConnect, IsGround, given, asked_for}
 use Rattle.observer_core.proofs.Answered.{unqueued}
@@ -144,7 +144,7 @@ open_but n c m e =
     by false o e = ap (λ x. x || false) e
 
 pub watches_agree : (w : World) (watches : WatchTables) → WatchersPass (λ m. is_open m w.clients) watches → Agreeing w
-    → Agreeing (with_watching w watches)
+    → Agreeing (with_watches w watches)
 watches_agree w watches pass a = record {
   sessions = a.sessions;
   joined = a.joined;

@@ -23,7 +23,7 @@ use Rattle.client_service.specs.declared.output.Output.TheVariants.{ToLeader, To
 use Rattle.client_service.specs.World.{OpenConnection, Clients, World}
 use Rattle.client_service.specs.Steps.{StepResult, no_output, and_then}
 use Rattle.client_service.specs.Clients.{idle_connection, is_open, with_connection, without_client}
-use Rattle.client_service.specs.Serve.{close_client, with_watch, with_watching, with_sessions, touched_as, close_client_if_some, send_connect_response, with_pending, forward_frame, serve_as, with_waiting_bytes, wait_if_heard, open_client, end_client}
+use Rattle.client_service.specs.Serve.{close_client, with_watch, with_watches, with_sessions, touched_as, close_client_if_some, send_connect_response, with_pending, forward_frame, serve_as, with_waiting_bytes, wait_if_heard, open_client, end_client}
 use Rattle.observer_core.specs.Apart.{ConcernsOnly, IsUntouched, IsApart}
 use Rattle.client_service.proofs.NatMaps.{get-kept, get-beside}
 use Rattle.observer_core.proofs.Walking.{HoldsOfReplies, HoldsOfCalls, given, asked_for, serve_as_makes, greet_makes}
@@ -55,7 +55,7 @@ untouched : (k : ℕ) (c : Clients) → IsUntouched k c c
 untouched k c = record {
   rest = refl;
   session = refl;
-  own = λ path. refl;
+  data_watches = λ path. refl;
   child = λ path. refl;
   lasting = λ path. refl;
   waits = waits_on k c.pending;
@@ -65,7 +65,7 @@ untouched_on : (k : ℕ) (c d e : Clients) → IsUntouched k c d → IsUntouched
 untouched_on k c d e first second = record {
   rest = second.rest ∙ first.rest;
   session = second.session ∙ first.session;
-  own = λ path. second.own path ∙ first.own path;
+  data_watches = λ path. second.data_watches path ∙ first.data_watches path;
   child = λ path. second.child path ∙ first.child path;
   lasting = λ path. second.lasting path ∙ first.lasting path;
   waits = record {
@@ -79,7 +79,7 @@ pub waits_alone : (k : ℕ) (w : World) (p : PendingTable) → Stays k w.clients
 waits_alone k w p waits = record {
   rest = refl;
   session = refl;
-  own = λ path. refl;
+  data_watches = λ path. refl;
   child = λ path. refl;
   lasting = λ path. refl;
   waits = waits;
@@ -91,7 +91,7 @@ connection_alone n w connection k other =
     record {
       rest = get-beside w.clients.connections n k connection other;
       session = refl;
-      own = λ path. refl;
+      data_watches = λ path. refl;
       child = λ path. refl;
       lasting = λ path. refl;
       waits = waits_on k w.clients.pending;
@@ -102,7 +102,7 @@ without_alone : (stay : OtherConnectionsStay) (keep_watches : OthersKeepWatches)
 without_alone stay keep_watches queues n c k other = record {
   rest = get-kept c.connections n k other;
   session = stay.closes c.sessions n k other;
-  own = λ path. keep_watches.drops c.watches.own n path k other;
+  data_watches = λ path. keep_watches.drops c.watches.data_watches n path k other;
   child = λ path. keep_watches.drops c.watches.child n path k other;
   lasting = λ path. keep_watches.drops_lasting c.watches.lasting n path k other;
   waits = queues.drops c.pending n k other;
@@ -145,12 +145,12 @@ module _ (own : ℤ → Type 0) (left : ℕ → Type 0) where
 
     abbrev SameWatches : ℕ → WatchTables → WatchTables → Type 0
     SameWatches k before after = (path : List ℕ)
-        → (set.contains after.own (path, k) ≡ set.contains before.own (path, k))
+        → (set.contains after.data_watches (path, k) ≡ set.contains before.data_watches (path, k))
         × (set.contains after.child (path, k) ≡ set.contains before.child (path, k))
         × (finmap.get after.lasting (path, k) ≡ finmap.get before.lasting (path, k))
 
     watched_same : (n k : ℕ) → k ≢ n → (w : WatchTables) (watch : Watch) → SameWatches k w (with_watch n w watch)
-    watched_same n k other w (tables.Data p) path = (keep_watches.sets w.own p n path k other, refl, refl)
+    watched_same n k other w (tables.Data p) path = (keep_watches.sets w.data_watches p n path k other, refl, refl)
     watched_same n k other w (tables.Child p) path =
         (refl, keep_watches.sets w.child p n path k other, refl)
     watched_same n k other w (tables.Lasting p mode) path =
@@ -158,11 +158,11 @@ module _ (own : ℤ → Type 0) (left : ℕ → Type 0) where
 
     watching_apart : (n : ℕ) (w : World) (watches : WatchTables)
         → ((k : ℕ) → k ≢ n → SameWatches k w.clients.watches watches)
-        → IsApart n own left w (no_output (with_watching w watches))
-    watching_apart n w watches same = changes n w (with_watching w watches).clients (λ k other. record {
+        → IsApart n own left w (no_output (with_watches w watches))
+    watching_apart n w watches same = changes n w (with_watches w watches).clients (λ k other. record {
       rest = refl;
       session = refl;
-      own = λ path. (same k other path).0;
+      data_watches = λ path. (same k other path).0;
       child = λ path. (same k other path).1;
       lasting = λ path. (same k other path).2;
       waits = waits_on k w.clients.pending;
@@ -176,7 +176,7 @@ module _ (own : ℤ → Type 0) (left : ℕ → Type 0) where
     sessions_apart n w s same = changes n w (with_sessions w s).clients (λ k other. record {
       rest = refl;
       session = same k other;
-      own = λ path. refl;
+      data_watches = λ path. refl;
       child = λ path. refl;
       lasting = λ path. refl;
       waits = waits_on k w.clients.pending;
@@ -255,7 +255,7 @@ module _ (own : ℤ → Type 0) (left : ℕ → Type 0) where
       drops = λ w a. changes n w (unqueued n w).clients (λ k other. record {
         rest = refl;
         session = stay.closes w.clients.sessions n k other;
-        own = λ path. refl;
+        data_watches = λ path. refl;
         child = λ path. refl;
         lasting = λ path. refl;
         waits = queues.drops w.clients.pending n k other;
@@ -289,7 +289,7 @@ module _ (own : ℤ → Type 0) (left : ℕ → Type 0) where
         alone k other older = record {
           rest = refl;
           session = stay.admits w.clients.sessions n session time_out k other older;
-          own = λ path. refl;
+          data_watches = λ path. refl;
           child = λ path. refl;
           lasting = λ path. refl;
           waits = waits_on k w.clients.pending;

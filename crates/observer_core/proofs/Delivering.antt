@@ -22,7 +22,7 @@ use Rattle.observer_core.specs.Machine.{Leader, Machine}
 use Rattle.client_service.specs.Steps.{StepResult, prepend_outputs, no_output, and_then, fold_steps}
 use Rattle.client_service.specs.Clients.{without_client, close_clients, close_all_clients, notices_of}
 use Rattle.observer_core.specs.Leader.{WorldAndLoading, step_with_loading, send_effect, item_step, Delivery, delivery_of, deliver_item, is_refused, place_or_fault, place_after, StreamProgress, take_items, WorldAndLeader, leader_at, part_reader, with_leader, disconnect_all, with_leader_or_fault, take_leader_bytes}
-use Rattle.client_service.specs.Serve.{with_watching, to_leader}
+use Rattle.client_service.specs.Serve.{with_watches, to_leader}
 use Rattle.forwarding.specs.Pending.{nothing_pending}
 use Rattle.data_tree.specs.declared.outcome.Trigger.{Trigger}
 use Rattle.quorum_packet.specs.declared.packet.QuorumPacket.{QuorumPacket}
@@ -136,7 +136,7 @@ told_first (Err e) old mid new sent told is gains = gains_behind old sent is gai
 pub told_meets : (r : Result (Unit {0}) NoMemory) (old mid new : List Output) (w after : World)
     (packets : List QuorumPacket) (triggers : List Trigger) (events : List (ℕ × Event))
     → events ≡ (fire w.clients.watches triggers).events
-    → after ≡ with_watching w (fire w.clients.watches triggers).left
+    → after ≡ with_watches w (fire w.clients.watches triggers).left
     → mid ≡ old ++ map to_leader packets → Puts r mid (notices_of events) new
     → MeetsStep r old (tell_all w packets triggers) new after
 told_meets (Ok u) old mid new w after packets triggers events fired rest sent put =

@@ -219,6 +219,6 @@ module _ (test : ℕ → Bool) (n : ℕ) (here : test n ≡ true) where
       (sym (ap is_some (finmap.get-insert watch_total lasting (path, n) mode (at, k))) ∙ has)
 
   pub watched_passes : (w : WatchTables) (watch : Watch) → WatchersPass test w → WatchersPass test (with_watch n w watch)
-  watched_passes w (tables.Data path) all = (pair_passes w.own path all.0, all.1, all.2)
+  watched_passes w (tables.Data path) all = (pair_passes w.data_watches path all.0, all.1, all.2)
   watched_passes w (tables.Child path) all = (all.0, pair_passes w.child path all.1, all.2)
   watched_passes w (tables.Lasting path mode) all = (all.0, all.1, lasting_passes w.lasting path mode all.2)

@@ -89,7 +89,7 @@ use Rattle.learner_sync.specs.declared.phase.Phase.TheVariants.{Serving}
 use Rattle.observer_core.specs.Leader.{WorldAndLoading, step_with_loading, send_effect, item_step, delivery_of, deliver_item, is_refused, part_reader, leader_at, with_leader_or_fault, place_after, with_leader, take_leader_bytes}
 use Rattle.four_letter.specs.Words.{word_of}
 use Rattle.four_letter.specs.declared.word.Word.{Word}
-use Rattle.client_service.specs.Serve.{close_client, send_or_close, send_reply, with_watch_if, with_watching, handle_local, with_pending, handle_or_hold, touched_as, serve_as, serve_by, header_len, is_refused_frame, serve_frame, word_without_session, is_unheard, with_waiting_bytes, wait_if_heard, wait_at, frames_of_client, serve_all, tell_or_serve, take_client_bytes}
+use Rattle.client_service.specs.Serve.{close_client, send_or_close, send_reply, with_watch_if, with_watches, handle_local, with_pending, handle_or_hold, touched_as, serve_as, serve_by, header_len, is_refused_frame, serve_frame, word_without_session, is_unheard, with_waiting_bytes, wait_if_heard, wait_at, frames_of_client, serve_all, tell_or_serve, take_client_bytes}
 use Rattle.observer_core.specs.Play.{play_event, primed_session, first_client}
 use Rattle.client_service.proofs.NatMaps.{get-inserted, insert-insert, insert-same, entries-empty}
 
@@ -360,7 +360,7 @@ module _ (header : TxnHeader) (operation : Operation) where
 
 -- A reply is sent, and its watch is set.
 abbrev shown_by : World → Look → StepResult World
-shown_by w seen = send_reply 1 (with_watching w (with_watch_if 1 w.clients.watches (watch_of wanted seen.error)))
+shown_by w seen = send_reply 1 (with_watches w (with_watch_if 1 w.clients.watches (watch_of wanted seen.error)))
     (pos 1) seen
 
 -- The reply in a world whose tree has the node.
@@ -528,9 +528,6 @@ after_create settings touched rest =
 abbrev pub after_set : Settings → TouchedSessions → Machine
 after_set settings touched =
     following settings (pos 4294967298) (create_txn ∷ set_txn ∷ []) (written settings) touched []
-
-abbrev pub with_watches : World → WatchTables → World
-with_watches w watches = record w { clients = record w.clients { watches = watches } }
 
 -- Events are sent, and then answers.
 abbrev pub told : List Output → StepResult World → Result (StepResult WorldAndLoading) Fault

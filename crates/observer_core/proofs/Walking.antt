@@ -41,7 +41,7 @@ use Rattle.client_service.specs.declared.output.Output.TheVariants.{ToClient}
 use Rattle.client_service.specs.World.{OpenConnection, World}
 use Rattle.client_service.specs.Steps.{StepResult, no_output, and_then, fold_steps}
 use Rattle.client_service.specs.Clients.{is_open, heard_in, heard_connection, with_connection, sent_to, notice_to, notices_to}
-use Rattle.client_service.specs.Serve.{to_leader, close_client, send_or_close, send_last, with_watching, with_watch, with_watch_if, with_each_watch, answer_set_watches, answer_add_watch, answer_auth, with_sessions, with_pending, touched_as, touch_client, send_auth_result, close_client_if_some, send_connect_response, ask_for_session, is_new_session, finish_connect, may_connect, is_live, handle_connect, handle_local, forward_frame, with_leaving, handle_call, serve_as, serve_by, header_len, is_refused_frame, serve_frame, figures_of, word_at, is_unheard, with_waiting_bytes, wait_if_heard, wait_at, frames_of_client, tell_or_serve, take_client_bytes}
+use Rattle.client_service.specs.Serve.{to_leader, close_client, send_or_close, send_last, with_watches, with_watch, with_watch_if, with_each_watch, answer_set_watches, answer_add_watch, answer_auth, with_sessions, with_pending, touched_as, touch_client, send_auth_result, close_client_if_some, send_connect_response, ask_for_session, is_new_session, finish_connect, may_connect, is_live, handle_connect, handle_local, forward_frame, with_leaving, handle_call, serve_as, serve_by, header_len, is_refused_frame, serve_frame, figures_of, word_at, is_unheard, with_waiting_bytes, wait_if_heard, wait_at, frames_of_client, tell_or_serve, take_client_bytes}
 use Rattle.client_service.proofs.NatMaps.{get-inserted}
 
 abbrev pub IsOpen : ℕ → World → Type 0
@@ -85,7 +85,7 @@ asked_for n w session time_out has_byte = record {
 pub record IsGround (n : ℕ) (Strict : Type 0) (A : World → Type 0) : Type 0 where
   pub closes : (w : World) → A w → A (close_client n w).after
   pub watches : (w : World) (watch : Watch) → (Strict → IsOpen n w) → A w
-      → A (with_watching w (with_watch n w.clients.watches watch))
+      → A (with_watches w (with_watch n w.clients.watches watch))
   pub auths : (w : World) (scheme bytes : Option (List ℕ)) → (Strict → IsOpen n w) → A w
       → A (with_sessions w (add_auth w.clients.sessions n scheme bytes).after)
   pub touches : (w : World) (session : ℤ) → A w → A (with_pending w (touch_session w.clients.pending session))
@@ -112,7 +112,7 @@ pub record HoldsOfReplies (n : ℕ) (A : World → Type 0) (Q : Steps) : Type 0 
   pub closes : (w : World) → A w → Q w (close_client n w)
   pub sends : (w : World) (bytes : List ℕ) → Q w (record { outputs = ToClient n bytes ∷ []; after = w })
   pub watches : (w : World) (watch : Watch) → A w
-      → Q w (no_output (with_watching w (with_watch n w.clients.watches watch)))
+      → Q w (no_output (with_watches w (with_watch n w.clients.watches watch)))
   pub auths : (w : World) (scheme bytes : Option (List ℕ)) → A w
       → Q w (no_output (with_sessions w (add_auth w.clients.sessions n scheme bytes).after))
 
@@ -217,20 +217,20 @@ module _ (n : ℕ) (Strict : Type 0) (A : World → Type 0) (Q : Steps) (ground 
   -- ---- watches
 
   watch_makes : (w : World) (watch : Watch) → (Strict → IsOpen n w) → A w
-      → Makes A Q w (no_output (with_watching w (with_watch n w.clients.watches watch)))
+      → Makes A Q w (no_output (with_watches w (with_watch n w.clients.watches watch)))
   watch_makes w watch here a = record { keeps = ground.watches w watch here a; is = r.watches w watch a }
 
   watch_each_makes : (w : World) (watches : List Watch) → (Strict → IsOpen n w) → A w
-      → Makes A Q w (no_output (with_watching w (with_each_watch n w.clients.watches watches)))
+      → Makes A Q w (no_output (with_watches w (with_each_watch n w.clients.watches watches)))
   watch_each_makes w [] here a = stay_makes w a
   watch_each_makes w (watch ∷ others) here a =
-      let v = with_watching w (with_watch n w.clients.watches watch) in
+      let v = with_watches w (with_watch n w.clients.watches watch) in
       then_makes w (no_output v)
-      (λ u. no_output (with_watching u (with_each_watch n u.clients.watches others))) (watch_makes w watch here a)
+      (λ u. no_output (with_watches u (with_each_watch n u.clients.watches others))) (watch_makes w watch here a)
       (watch_each_makes v others here)
 
   watch_if_makes : (w : World) (watch : Option Watch) → (Strict → IsOpen n w) → A w
-      → Makes A Q w (no_output (with_watching w (with_watch_if n w.clients.watches watch)))
+      → Makes A Q w (no_output (with_watches w (with_watch_if n w.clients.watches watch)))
   watch_if_makes w None here a = stay_makes w a
   watch_if_makes w (Some watch) here a = watch_makes w watch here a
 
@@ -254,9 +254,9 @@ module _ (n : ℕ) (Strict : Type 0) (A : World → Type 0) (Q : Steps) (ground 
       send_makes w (reply_frame xid w.replica.learner.last_zxid (without_body BAD_ARGUMENTS)) a
   renewed_makes w xid (Some r) here a =
       let frame = reply_frame xid w.replica.learner.last_zxid (without_body OK) in
-      let v = with_watching w (with_each_watch n w.clients.watches r.watches) in
+      let v = with_watches w (with_each_watch n w.clients.watches r.watches) in
       then_makes w (record { outputs = notices_to n r.events; after = w })
-      (λ u. and_then (no_output (with_watching u (with_each_watch n u.clients.watches r.watches)))
+      (λ u. and_then (no_output (with_watches u (with_each_watch n u.clients.watches r.watches)))
       (λ x. send_or_close n x frame))
       (notices_make w r.events a)
       (λ b. then_makes w (no_output v) (λ x. send_or_close n x frame) (watch_each_makes w r.watches here b)
@@ -268,13 +268,13 @@ module _ (n : ℕ) (Strict : Type 0) (A : World → Type 0) (Q : Steps) (ground 
       send_makes w (reply_frame xid w.replica.learner.last_zxid (without_body BAD_ARGUMENTS)) a
   added_makes w xid (Some watch) here a =
       let frame = reply_frame xid w.replica.learner.last_zxid (without_body OK) in
-      let v = with_watching w (with_watch n w.clients.watches watch) in
+      let v = with_watches w (with_watch n w.clients.watches watch) in
       then_makes w (no_output v) (λ u. send_or_close n u frame) (watch_makes w watch here a) (send_makes v frame)
 
   read_makes : (w : World) (xid : ℤ) (watch : Option Watch) (frame : Option (List ℕ)) → (Strict → IsOpen n w) → A w
-      → Makes A Q w (send_or_close n (with_watching w (with_watch_if n w.clients.watches watch)) frame)
+      → Makes A Q w (send_or_close n (with_watches w (with_watch_if n w.clients.watches watch)) frame)
   read_makes w xid watch frame here a =
-      let v = with_watching w (with_watch_if n w.clients.watches watch) in
+      let v = with_watches w (with_watch_if n w.clients.watches watch) in
       then_makes w (no_output v) (λ u. send_or_close n u frame) (watch_if_makes w watch here a) (send_makes v frame)
 
   -- ---- ids

@@ -50,10 +50,10 @@ use Rattle.client_frames.specs.Call.{call_in, call_after_header, call_body, read
 use Rattle.client_service.specs.Steps.{StepResult, prepend_outputs, no_output}
 use Rattle.client_service.specs.Clients.{heard_in, sent_to, notices_of}
 use Rattle.observer_core.specs.Leader.{with_leader}
-use Rattle.client_service.specs.Serve.{send_or_close, send_reply, with_watch_if, with_watching, serve_as, serve_frame, frames_of_client, take_client_bytes}
+use Rattle.client_service.specs.Serve.{send_or_close, send_reply, with_watch_if, with_watches, serve_as, serve_frame, frames_of_client, take_client_bytes}
 use Rattle.observer_core.specs.Play.{play_event, play, primed_session, new_machine, primed_machine}
 use Rattle.client_service.proofs.NatMaps.{get-removed}
-use Rattle.observer_core.proofs.Rows.{path_is_text, create_header, create_body, create_txn, create_fits, root, root_there, name_free, start, made-is, create_found, one_frame, get_found, heard_in_world, served_at, handled_at, unasked, NobodyTold, ReadAgain, at_first, heard, joined_first, no_ids_first, world_at, beginning, following, one_delivered, inform_comes, after_create, after_set, with_watches, told, told_by, meant_create, create_error, create_comes, set_comes, closed, refusing, create_comes_again, replying, in_hand, frame_served, first_open, front_comes, get_after_create, get_after_set}
+use Rattle.observer_core.proofs.Rows.{path_is_text, create_header, create_body, create_txn, create_fits, root, root_there, name_free, start, made-is, create_found, one_frame, get_found, heard_in_world, served_at, handled_at, unasked, NobodyTold, ReadAgain, at_first, heard, joined_first, no_ids_first, world_at, beginning, following, one_delivered, inform_comes, after_create, after_set, told, told_by, meant_create, create_error, create_comes, set_comes, closed, refusing, create_comes_again, replying, in_hand, frame_served, first_open, front_comes, get_after_create, get_after_set}
 
 -- ---- a watch
 
@@ -102,7 +102,7 @@ one_watch = watches_on ((codes "/a", 1) ∷ []) []
 
 abbrev waiting : Settings → World
 waiting settings =
-    with_watching (world_at settings (pos 0) [] (start settings) (heard settings set.empty) []) one_watch
+    with_watches (world_at settings (pos 0) [] (start settings) (heard settings set.empty) []) one_watch
 
 exists_served : (settings : Settings)
     → serve_frame true 1 (world_at settings (pos 0) [] (start settings) set.empty []) exists_frame
@@ -125,7 +125,7 @@ exists_served settings =
     v = heard_in_world w set.empty session
 
     looked : Look → StepResult World
-    looked seen = send_reply 1 (with_watching v (with_watch_if 1 v.clients.watches (watch_of watch_wanted seen.error)))
+    looked seen = send_reply 1 (with_watches v (with_watch_if 1 v.clients.watches (watch_of watch_wanted seen.error)))
         (pos 2) seen
 
 abbrev awaiting : Settings → Machine

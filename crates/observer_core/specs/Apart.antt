@@ -78,7 +78,8 @@ IsNotClosed k outputs = AllByRecursion (λ output. output ≢ CloseClient k) out
 pub record IsUntouched (k : ℕ) (before after : Clients) : Type 0 where
   pub rest : finmap.get after.connections k ≡ finmap.get before.connections k
   pub session : finmap.get after.sessions.connections k ≡ finmap.get before.sessions.connections k
-  pub own : (path : List ℕ) → set.contains after.watches.own (path, k) ≡ set.contains before.watches.own (path, k)
+  pub data_watches : (path : List ℕ)
+      → set.contains after.watches.data_watches (path, k) ≡ set.contains before.watches.data_watches (path, k)
   pub child : (path : List ℕ) → set.contains after.watches.child (path, k) ≡ set.contains before.watches.child (path, k)
   pub lasting : (path : List ℕ)
       → finmap.get after.watches.lasting (path, k) ≡ finmap.get before.watches.lasting (path, k)

@@ -55,7 +55,7 @@ fn tell_each(
 /// Applies the log's transactions after the first `done`, and tells the watchers of each, in order.
 ///
 /// Fails only if an allocation is refused; then a prefix of the outputs has been appended.
-pub fn settle_txns<D: Fn(&mut Tree, &[Txn]) -> Result<Vec<Outcome>, NoMemory>>(
+pub(crate) fn settle_txns<D: Fn(&mut Tree, &[Txn]) -> Result<Vec<Outcome>, NoMemory>>(
     alloc: Global,
     doer: &D,
     done: usize,
@@ -198,7 +198,7 @@ const SHORTEST_READ: usize = 17;
 
 /// Whether the clients' bytes in these events are as many as so many reads have at least. This is an estimate, on which
 /// no answer depends: frames that began in earlier events aren't counted, and longer ones count as several.
-pub fn may_hold_reads(events: &[Event<'_>], reads: usize) -> bool {
+pub(crate) fn may_hold_reads(events: &[Event<'_>], reads: usize) -> bool {
     let mut missing = reads.saturating_mul(SHORTEST_READ);
     for event in events {
         if let Event::ClientBytes(_, bytes) = event {

@@ -15,7 +15,7 @@ ghost use Rattle.client_service.specs.Clients.{close_all_clients};
 ghost use Rattle.client_service.specs.Steps.{prepend_outputs};
 ghost use Rattle.client_service.specs.declared.output.Output.TheVariants.{CloseLeader};
 ghost use Rattle.watch_manager.specs.Watches.{fire};
-ghost use Rattle.client_service.specs.Serve.{with_watching, to_leader};
+ghost use Rattle.client_service.specs.Serve.{with_watches, to_leader};
 ghost use Rattle.observer_core.specs.Leader.{part_reader, take_items, item_step, answer_news, meet_leader, disconnect_all, take_leader_bytes, end_leader};
 ghost use Rattle.observer_core.specs.Inner.{tell_all, send_outcome, ReceivesItem, DeliversItems, FollowsStream};
 ghost use Rattle.client_service.specs.Results.{MeetsStep};
@@ -56,7 +56,7 @@ fn fire(
 ) -> Result<Vec<(u64, Event)>, NoMemory>
     ensures events { IfOk result (λ events. events.items ≡ (fire world.old.clients.watches triggers.now).events) }
     ensures left { OnOk result
-        (world.new ≡ with_watching world.old (fire world.old.clients.watches triggers.now).left) }
+        (world.new ≡ with_watches world.old (fire world.old.clients.watches triggers.now).left) }
 {
     world.clients.watches.fire(alloc, triggers)
 }
@@ -246,7 +246,7 @@ fn close_on_fault(
 /// A leader has connected, and the observer introduces itself. While it has a leader, another one is ignored.
 ///
 /// Fails only if an allocation is refused; then a prefix of the outputs has been appended.
-pub fn meet_leader(
+pub(crate) fn meet_leader(
     alloc: Global,
     machine: &mut Machine,
     outputs: &mut Vec<Output>,
@@ -296,7 +296,7 @@ fn follow<D: Fn(&mut Tree, &[Txn]) -> Result<Vec<Outcome>, NoMemory>>(
 /// applied as soon as it is read.
 ///
 /// Fails only if an allocation is refused; then a prefix of the outputs has been appended.
-pub fn take_leader_bytes<D: Fn(&mut Tree, &[Txn]) -> Result<Vec<Outcome>, NoMemory>>(
+pub(crate) fn take_leader_bytes<D: Fn(&mut Tree, &[Txn]) -> Result<Vec<Outcome>, NoMemory>>(
     alloc: Global,
     doer: &D,
     gather_from: usize,
@@ -332,7 +332,7 @@ pub fn take_leader_bytes<D: Fn(&mut Tree, &[Txn]) -> Result<Vec<Outcome>, NoMemo
 /// The leader is gone, and all clients are closed. A stream that ends inside a packet or an image is a fault.
 ///
 /// Fails only if an allocation is refused; then a prefix of the outputs has been appended.
-pub fn end_leader(
+pub(crate) fn end_leader(
     alloc: Global,
     machine: &mut Machine,
     outputs: &mut Vec<Output>,

@@ -6,7 +6,7 @@ use Rattle.values.specs.declared.fault.Fault.{Fault}
 use Rattle.values.specs.declared.fault.Fault.TheVariants.{Short}
 use Rattle.jute.specs.Format.{◌>>=◌, Format, judged_at, case_of}
 use Rattle.jute.specs.Loading.{load_from}
-use Rattle.jute.specs.Stream.{Unread, Items, values, place_at, with_more_bytes, with_first, no_items, place_after_fault, items_in, IsStream}
+use Rattle.jute.specs.Stream.{Unread, Items, place_at, with_more_bytes, with_first, no_items, place_after_fault, items_in, IsStream}
 use Rattle.jute.proofs.Public.{items_whole, items_refused, shorter_rest, refused_other, sound_streamed, load_refused, load_read, load_read_on}
 use Rattle.data_tree.specs.State.{State}
 use Rattle.snapshot_codec.specs.Image.{image_read, image_format}
@@ -113,15 +113,15 @@ end_first l i k s =
 
 stopped_packet : (e : Fault) (u : List ℕ)
     → AreWholeItems empty_loading (shown_items
-    (no_items (place_after_fault (values (found_format Packets)) Packets u e)))
-    (no_items (place_after_fault (values (whole_format false)) false u e))
+    (no_items (place_after_fault Packets u e)))
+    (no_items (place_after_fault false u e))
 stopped_packet Short u = record { found = refl; rest = (refl, (refl, refl)) }
 stopped_packet e u = record { found = refl; rest = (refl, refl) }
 
 stopped_image : (e : Fault) (phase : PartPhase) (l : Loading) (u v : List ℕ) → IsRestOfImage phase l.made u v
     → AreWholeItems l (shown_items (no_items
-    (place_after_fault (values (found_format (Image phase))) (Image phase) u e)))
-    (no_items (place_after_fault (values (whole_format true)) true v e))
+    (place_after_fault (Image phase) u e)))
+    (no_items (place_after_fault true v e))
 stopped_image Short phase l u v left = record { found = refl; rest = (refl, left) }
 stopped_image e phase l u v left = record { found = refl; rest = (refl, refl) }
 
@@ -132,10 +132,10 @@ refused_grouped l p e others refuses = rw refuses refl
 
 refused_first : (l : Loading) (p : ImagePart) (e : Fault) (i : Items Phase Item) (v : List ℕ)
     → with_part l.made p ≡ Err e → (e ≡ Short → ⊥)
-    → AreWholeItems l (with_first (item.Part p) i) (no_items (place_after_fault (values (whole_format true)) true v e))
+    → AreWholeItems l (with_first (item.Part p) i) (no_items (place_after_fault true v e))
 refused_first l p e i v refuses other =
     grouped_as (record { found = []; loaded = Err e }) l (with_first (item.Part p) i)
-    (no_items (place_after_fault (values (whole_format true)) true v e)) (refused_grouped l p e i.found refuses) refl
+    (no_items (place_after_fault true v e)) (refused_grouped l p e i.found refuses) refl
     (refused_other e v other)
 
 -- ---- the claims
@@ -224,7 +224,7 @@ module _ (u rest : List ℕ) (x : Value) (phase : PartPhase) (made : LoadedParts
 
   -- The value is refused.
   whole_refused : (e : Fault) → with_value made x ≡ Err e
-      → items_in whole_items (place_at true v) ≡ no_items (place_after_fault (values (whole_format true)) true v e)
+      → items_in whole_items (place_at true v) ≡ no_items (place_after_fault true v e)
   whole_refused e p =
       let loads : load_from image_load phase made u ≡ Err e =
       load_read image_load parts_streamed phase made u rest x read ∙ rw p refl in

@@ -1,7 +1,7 @@
 -- Parts come where an image is owed, and packets where none is.
 use Rattle.std.proofs.Common.{◌≡◌, ℕ, zero, suc, ◌<◌, Bool, true, false, cond, List, length, Result, Ok, Err, refl, sym, subst, arith}
 use Rattle.values.specs.declared.fault.Fault.{Fault}
-use Rattle.jute.specs.Stream.{Unread, Items, values, place_at, with_first, no_items, place_after_fault, items_in}
+use Rattle.jute.specs.Stream.{Unread, Items, place_at, with_first, no_items, place_after_fault, items_in}
 use Rattle.jute.proofs.Public.{items_whole, items_refused, shorter_rest}
 use Rattle.snapshot_codec.specs.Parts.{Value, Count, Path, Close, Part, part_format, part_after}
 use Rattle.snapshot_codec.specs.declared.part.ImagePart.TheVariants as part
@@ -25,7 +25,7 @@ in_order_by owed i j same h = subst (InOrder owed) (sym same) h
 
 stopped_in_order : (phase : Phase) (u : List ℕ) (e : Fault)
     → items_in stream_of_leader (place_at phase u)
-    ≡ no_items (place_after_fault (values (found_format phase)) phase u e)
+    ≡ no_items (place_after_fault phase u e)
     → InOrder (is_owed phase) (items_in stream_of_leader (place_at phase u))
 stopped_in_order phase u e stops = in_order_by (is_owed phase) _ _ stops refl
 

@@ -4,7 +4,7 @@ use Rattle.std.specs.Prelude.{List, [], ◌∷◌, Option, Some, None, Bool, if�
 use Rattle.std.specs.Ordering.{int_eq}
 use Rattle.std.specs.List.{flat_map}
 use Rattle.jute.specs.Format.{Format, case_of}
-use Rattle.jute.specs.Stream.{values, PhasedStream, Place, Items, items_in}
+use Rattle.jute.specs.Stream.{PhasedStream, Place, Items, items_in}
 use Rattle.snapshot_codec.specs.Parts.{Value, Part, part_format, part_after, is_end}
 use Rattle.snapshot_codec.specs.declared.part.PartPhase.{PartPhase}
 use Rattle.snapshot_codec.specs.declared.part.PartPhase.TheVariants.{SessionCount}
@@ -51,7 +51,7 @@ phase_after Packets (OfImage v) = Packets
 phase_after (Image phase) (OfImage v) = phase_after_value phase v
 
 abbrev pub stream_of_leader : PhasedStream Phase FoundValue
-stream_of_leader = record { reading = λ phase. values (found_format phase); after = phase_after }
+stream_of_leader = record { format = λ phase. found_format phase; after = phase_after }
 
 -- Packets and parts are items. A value that only advances an image isn't.
 abbrev pub shown_in : FoundValue → List Item

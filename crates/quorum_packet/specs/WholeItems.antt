@@ -2,7 +2,7 @@
 -- SNAP packet.
 use Rattle.std.specs.Prelude.{Bool, true, false, Option, Some, None}
 use Rattle.jute.specs.Format.{Format, case_of}
-use Rattle.jute.specs.Stream.{values, PhasedStream}
+use Rattle.jute.specs.Stream.{PhasedStream}
 use Rattle.data_tree.specs.State.{State}
 use Rattle.snapshot_codec.specs.Image.{image_format}
 use Rattle.quorum_packet.specs.declared.packet.QuorumPacket.{QuorumPacket}
@@ -37,4 +37,4 @@ owed_after owed (OneImage s) = false
 
 -- The phase says whether an image is owed.
 abbrev pub whole_items : PhasedStream Bool WholeItem
-whole_items = record { reading = λ owed. values (whole_format owed); after = owed_after }
+whole_items = record { format = λ owed. whole_format owed; after = owed_after }

@@ -16,7 +16,7 @@ pub enum Phase {
 
 impl Phase {
     /// The number of bytes kept of an incomplete part: those of a node's path.
-    pub fn kept_len(&self) -> usize
+    pub(crate) fn kept_len(&self) -> usize
         ensures len { result ≡ kept_len self.now }
         ensures fits { result < 2 ^ 63 }
     {

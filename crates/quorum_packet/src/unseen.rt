@@ -178,7 +178,11 @@ fn scan_list(bytes: &[u8], unseen: &mut Unseen) -> Result<(), Fault>
 /// Scans the new bytes of the value at the front, if it was looked at before, and notes up to where. Returns its
 /// refusal, if there is one.
 #[tactic(auto, unfolding(jute::specs::Format::judged_at))]
-pub fn scan_new_bytes(phase: &Phase, bytes: &[u8], unseen: &mut Option<Unseen>) -> Result<(), Fault>
+pub(crate) fn scan_new_bytes(
+    phase: &Phase,
+    bytes: &[u8],
+    unseen: &mut Option<Unseen>,
+) -> Result<(), Fault>
     requires { MayBeUnseen bytes.now unseen.old }
     ensures kept { MayBeUnseen bytes.now unseen.new }
     ensures noted { is_some unseen.new ≡ is_some unseen.old }

@@ -20,7 +20,7 @@ use values::{Blob, NoMemory};
 const ROOM: usize = 20;
 
 // The longest body in bytes: what a frame holds after the header.
-pub const BODY_LIMIT: usize = 2_147_483_631;
+pub(crate) const BODY_LIMIT: usize = 2_147_483_631;
 
 /// The body of a reply. There is room before it for the frame's length and the header, so the frame is made without a
 /// copy.

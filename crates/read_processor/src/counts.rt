@@ -13,7 +13,7 @@ use jute::Acl;
 use std::collections::btree_set::Iter;
 
 // Adds this many bytes.
-pub fn with_bytes(count: usize, more: usize) -> Option<usize>
+pub(crate) fn with_bytes(count: usize, more: usize) -> Option<usize>
     requires { count ≤ body_limit }
     ensures { CountsBytes result (count + more) }
 {
@@ -44,7 +44,7 @@ fn with_acl(count: usize, entry: &Acl) -> Option<usize>
 }
 
 // The length of an access control list in bytes, with its count; None if it exceeds `BODY_LIMIT`.
-pub fn acls_len(entries: &[Acl]) -> Option<usize>
+pub(crate) fn acls_len(entries: &[Acl]) -> Option<usize>
     ensures { CountsBytes result (length ((vector_of acl_format).written (Some entries.now))) }
 {
     let mut count = 4;
@@ -55,7 +55,7 @@ pub fn acls_len(entries: &[Acl]) -> Option<usize>
 }
 
 // The length of names in bytes, with their count; None if it exceeds `BODY_LIMIT`.
-pub fn names_len(texts: Iter<'_, String>) -> Option<usize>
+pub(crate) fn names_len(texts: Iter<'_, String>) -> Option<usize>
     ensures { CountsBytes result (length (names_format.written (map string_bytes texts.entry))) }
 {
     let mut count = 4;

@@ -169,7 +169,7 @@ fn get_children2(alloc: Global, node: &Node) -> Result<Option<Body>, NoMemory>
 
 /// The body of the reply that shows the node; None if it is too long for a frame. Fails only if an allocation is
 /// refused.
-pub fn body_of(alloc: Global, kind: ReadKind, node: &Node) -> Result<Option<Body>, NoMemory>
+pub(crate) fn body_of(alloc: Global, kind: ReadKind, node: &Node) -> Result<Option<Body>, NoMemory>
     ensures { IfOk result (λ body. body ≡ fitting_body (reply_body kind node.now)) }
 {
     match kind {

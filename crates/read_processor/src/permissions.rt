@@ -48,7 +48,7 @@ fn any_grants_read(ids: &[Id], acls: &[Acl]) -> bool
 }
 
 /// Whether a client with these ids may read a node with this access control list. The open list lets every client read.
-pub fn may_read(ids: &[Id], acl: &AclList) -> bool
+pub(crate) fn may_read(ids: &[Id], acl: &AclList) -> bool
     ensures { result ≡ may_read ids.now acl.now }
 {
     match acl.listed() {

@@ -212,7 +212,7 @@ fn play_script<T: Threads + Sync, W: Write>(
 }
 
 /// Replays a text, and prints the outputs.
-pub fn replay_text<T: Threads + Sync, W: Write>(
+pub(crate) fn replay_text<T: Threads + Sync, W: Write>(
     rt: &T,
     alloc: Global,
     limits: Limits,

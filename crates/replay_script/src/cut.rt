@@ -21,7 +21,7 @@ fn place_of(byte: u8, text: &[u8]) -> Option<usize>
 }
 
 /// Cuts a text at the first occurrence of a byte.
-pub fn cut_at(byte: u8, text: &[u8]) -> Cut<'_>
+pub(crate) fn cut_at(byte: u8, text: &[u8]) -> Cut<'_>
     ensures { result ≡ cut_at byte text.now }
 {
     match place_of(byte, text) {

@@ -99,7 +99,7 @@ impl Draft {
 
     /// Takes the next line, and returns whether it is a valid line that is allowed here. After a refused allocation the
     /// draft is unspecified, and the caller drops it.
-    pub fn take_line(&mut self, alloc: Global, text: &[u8]) -> Result<bool, NoMemory>
+    pub(crate) fn take_line(&mut self, alloc: Global, text: &[u8]) -> Result<bool, NoMemory>
         ensures { IfOk result
             (λ taken. with_text self.old text.now ≡ (if taken then Some self.new else None)) }
     {

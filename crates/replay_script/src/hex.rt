@@ -21,7 +21,7 @@ fn digit_of(byte: u8) -> Option<u8>
 
 /// The bytes that a text spells, two hexadecimal digits for each; None if it spells none. Digits are of either case,
 /// and blanks are ignored. Fails only if an allocation is refused.
-pub fn read_hex(alloc: Global, text: &[u8]) -> Result<Option<Blob>, NoMemory>
+pub(crate) fn read_hex(alloc: Global, text: &[u8]) -> Result<Option<Blob>, NoMemory>
     ensures { IfOk result (λ found. found ≡ bytes_of_hex text.now) }
 {
     let mut bytes = Vec::with_capacity(alloc, text.len() / 2)?;

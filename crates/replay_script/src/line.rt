@@ -189,7 +189,7 @@ fn is_text(bytes: &[u8]) -> bool
 }
 
 /// The meaning of a line, or None if it isn't valid. Fails only if an allocation is refused.
-pub fn line_of(alloc: Global, text: &[u8]) -> Result<Option<Line>, NoMemory>
+pub(crate) fn line_of(alloc: Global, text: &[u8]) -> Result<Option<Line>, NoMemory>
     ensures { IfOk result (λ line. line ≡ line_of text.now) }
 {
     if text.is_empty() {

@@ -30,7 +30,7 @@ pub fn number_up_to(limit: u64, text: &[u8]) -> Option<u64>
 }
 
 /// The number that a text spells, if it fits an int.
-pub fn int_of(text: &[u8]) -> Option<i32>
+pub(crate) fn int_of(text: &[u8]) -> Option<i32>
     ensures { result ≡ int_of text.now }
 {
     let number = number_up_to(INT_MAX, text)?;
@@ -38,7 +38,7 @@ pub fn int_of(text: &[u8]) -> Option<i32>
 }
 
 /// Two ints with one blank between them.
-pub fn ints_of(text: &[u8]) -> Option<(i32, i32)>
+pub(crate) fn ints_of(text: &[u8]) -> Option<(i32, i32)>
     ensures { result ≡ ints_of text.now }
 {
     let words = cut_at(b' ', text);

@@ -16,7 +16,7 @@ use crate::replica::Replica;
 use data_tree::{Tree, Trigger};
 use learner_sync::Act;
 use quorum_packet::{Item, QuorumPacket};
-use snapshot_codec::{ImagePart, Loader};
+use snapshot_codec::Loader;
 use std::alloc::Global;
 use std::mem;
 use values::{Listed, NoMemory, ReadError};
@@ -54,18 +54,12 @@ impl Replica {
             (self.new ≡ record self.old { base = loader.old.made.state; tree = loader.old.made.state }) }
         ensures loader { OnOk result (loader.new ≡ nothing_loaded) }
     {
-        match loader.part(alloc, ImagePart::End) {
-            Ok(()) => {
-                let loaded = mem::replace(loader, Loader::new(alloc));
-                // Tree and base are dropped before the new base is made, so that no more than two trees take memory.
-                self.base = Tree::empty(alloc);
-                self.tree = loaded.finish();
-                self.base = self.tree.copy()?;
-                return Ok(());
-            }
-            // The end of an image fits all parts before it, so only an allocation can be refused.
-            Err(_) => return Err(NoMemory),
-        }
+        let loaded = mem::replace(loader, Loader::new(alloc));
+        // Tree and base are dropped before the new base is made, so that no more than two trees take memory.
+        self.base = Tree::empty(alloc);
+        self.tree = loaded.finish();
+        self.base = self.tree.copy()?;
+        Ok(())
     }
 
     // Rebuilds the tree from the base and the log.

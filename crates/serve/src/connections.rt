@@ -34,7 +34,7 @@ pub struct Leader {
 pub type Handed = Arc<Mutex<Option<Port>>, Global>;
 
 /// Starts the thread of the leader's connection.
-pub fn start_leader<R: Threads + Wait + Net + Clock + Copy + Send + 'static>(
+pub(crate) fn start_leader<R: Threads + Wait + Net + Clock + Copy + Send + 'static>(
     rt: &R,
     alloc: Global,
     stream: net::TcpStream,
@@ -59,7 +59,7 @@ pub fn start_leader<R: Threads + Wait + Net + Clock + Copy + Send + 'static>(
 }
 
 /// Starts the thread of a client's connection.
-pub fn start_client<R: Threads + Wait + Net + Clock + Copy + Send + 'static>(
+pub(crate) fn start_client<R: Threads + Wait + Net + Clock + Copy + Send + 'static>(
     rt: &R,
     alloc: Global,
     sides: Sides,

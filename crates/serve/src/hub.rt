@@ -25,7 +25,7 @@ use std::time::{Clock, Duration};
 use values::NoMemory;
 
 /// How many messages, and how many outputs, of a connection may wait.
-pub const CAPACITY: usize = 64;
+pub(crate) const CAPACITY: usize = 64;
 
 // The hub's longest wait, in milliseconds; a wake that is lost costs no more than this.
 const LONGEST_WAIT: u64 = 1000;

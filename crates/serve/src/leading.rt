@@ -83,7 +83,7 @@ impl Leading {
     }
 
     /// Whether a leader is followed.
-    pub fn is_following(&self) -> bool {
+    pub(crate) fn is_following(&self) -> bool {
         self.thread.is_some()
     }
 
@@ -94,7 +94,7 @@ impl Leading {
     }
 
     /// Ends the search for a leader.
-    pub fn stop_search(&self) {
+    pub(crate) fn stop_search(&self) {
         if let Source::Search(search) = &self.source {
             search.stop();
         }
@@ -240,7 +240,7 @@ impl<L: Log, W: Write + Drop> Hub<L, W> {
     }
 
     /// Opens port 0, before any other.
-    pub fn open_leader_port(&mut self) -> Result<(), Failure> {
+    pub(crate) fn open_leader_port(&mut self) -> Result<(), Failure> {
         match self.desk.add_port(CAPACITY) {
             Ok(port) => {
                 self.leading.resting = Some(port);

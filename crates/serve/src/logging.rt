@@ -24,11 +24,9 @@ pub struct Logging<R> {
 }
 
 /// Opens the log, and starts the thread that writes it.
-pub fn start_logging<R: Threads + Wait + Clock + Env + Eprint + Copy + Send + Sync + 'static>(
-    rt: &R,
-    alloc: Global,
-    options: &Options<'_>,
-) -> Result<Logging<R>, Failure> {
+pub(crate) fn start_logging<
+    R: Threads + Wait + Clock + Env + Eprint + Copy + Send + Sync + 'static,
+>(rt: &R, alloc: Global, options: &Options<'_>) -> Result<Logging<R>, Failure> {
     let OpenLog {
         logger,
         writer,

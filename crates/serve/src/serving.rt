@@ -261,7 +261,7 @@ fn serve_with<
 }
 
 /// The same as `serve_on`, with the reason why it ended.
-pub fn try_serve_on<
+pub(crate) fn try_serve_on<
     R: Threads
         + Wait
         + Net<Stream = TcpStream, Listener = net::TcpListener>

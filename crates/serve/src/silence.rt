@@ -5,7 +5,7 @@ use learner_sync::Phase;
 use observer_core::Engine;
 
 /// How long the last look at a silent leader waits for its bytes, in milliseconds.
-pub const SECOND_LOOK: u64 = 200;
+pub(crate) const SECOND_LOOK: u64 = 200;
 
 // The timeouts of sessions are looked through at most once in so many milliseconds.
 const BETWEEN_LOOKS: u64 = 250;

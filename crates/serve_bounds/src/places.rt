@@ -19,7 +19,11 @@ pub fn has_place(taken: u64, most: Option<u64>) -> bool
 
 /// Takes a place of an address, where fewer than so many are taken; else it changes nothing. Returns whether it took one.
 /// Memory is wanted, and may be refused, for an address that has none yet.
-pub fn take_place<K: Ord + Drop>(counts: &mut BTreeMap<K, u64>, address: K, most: u64) -> bool
+pub(crate) fn take_place<K: Ord + Drop>(
+    counts: &mut BTreeMap<K, u64>,
+    address: K,
+    most: u64,
+) -> bool
     ensures taken { IsTrue result → (open_of K.cmp counts.old address < most)
         × (open_of K.cmp counts.new address ≡ open_of K.cmp counts.old address + 1) }
     ensures others { OtherAddressesStay K.cmp address counts.old counts.new }
@@ -34,7 +38,7 @@ pub fn take_place<K: Ord + Drop>(counts: &mut BTreeMap<K, u64>, address: K, most
 }
 
 /// Gives a place of an address back, if one is taken. An address that has none any more isn't kept.
-pub fn give_back_place<K: Ord + Drop>(counts: &mut BTreeMap<K, u64>, address: K)
+pub(crate) fn give_back_place<K: Ord + Drop>(counts: &mut BTreeMap<K, u64>, address: K)
     ensures given { open_of K.cmp counts.new address ≡ open_of K.cmp counts.old address - 1 }
     ensures gone { open_of K.cmp counts.old address ≤ 1 → get K.cmp counts.new address ≡ None }
     ensures others { OtherAddressesStay K.cmp address counts.old counts.new }

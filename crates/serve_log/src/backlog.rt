@@ -65,7 +65,7 @@ impl Backlog {
     }
 
     /// Whether no line is put any more: what waits then is all that is left.
-    pub fn is_closed(&self) -> bool {
+    pub(crate) fn is_closed(&self) -> bool {
         self.is_closed.load(Ordering::SeqCst)
     }
 

@@ -9,7 +9,7 @@ use std::rt::Clock;
 pub struct Stamp(Timestamp);
 
 /// The time by now, or None if the clock can't be read.
-pub fn stamp_now<R: Clock>(rt: &R) -> Option<Stamp> {
+pub(crate) fn stamp_now<R: Clock>(rt: &R) -> Option<Stamp> {
     match Timestamp::now(rt) {
         Ok(time) => Some(Stamp(time)),
         Err(_) => None,

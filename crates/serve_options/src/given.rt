@@ -94,7 +94,7 @@ fn option_before<'a>(name: Name, words: &'a [String]) -> Result<ReadOption<'a>, 
 }
 
 /// The option of this name among those that are given.
-pub fn find_given<'a>(given: &[Given<'a>], name: Name) -> Option<Given<'a>>
+pub(crate) fn find_given<'a>(given: &[Given<'a>], name: Name) -> Option<Given<'a>>
     ensures { result ≡ given_of name given.now }
 {
     for option in given {
@@ -106,7 +106,10 @@ pub fn find_given<'a>(given: &[Given<'a>], name: Name) -> Option<Given<'a>>
 }
 
 /// The options that the words give, each at most once.
-pub fn given_in<'a>(alloc: Global, words: &'a [String]) -> Result<Vec<Given<'a>>, OptionError<'a>>
+pub(crate) fn given_in<'a>(
+    alloc: Global,
+    words: &'a [String],
+) -> Result<Vec<Given<'a>>, OptionError<'a>>
     ensures { IfOk result (λ given. IsGivenBy given.items (map string_bytes words.now)) }
 {
     let mut given = Vec::new(alloc);

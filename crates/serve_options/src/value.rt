@@ -45,7 +45,7 @@ const MOST_PORT: u64 = 65_535;
 const MOST_SERVERS: usize = 64;
 
 /// The number that a text spells in decimal digits, if it is within the bounds.
-pub fn number_within(bounds: Bounds, text: &str) -> Option<u64>
+pub(crate) fn number_within(bounds: Bounds, text: &str) -> Option<u64>
     ensures value { result ≡ number_within bounds text.now }
     ensures bounds { IfSome result (IsWithin bounds) }
 {
@@ -78,7 +78,7 @@ fn host_of(text: &str) -> Option<&str>
 }
 
 /// The address that a text spells as PORT or HOST:PORT. A port alone is one of this machine.
-pub fn address_of(text: &str) -> Option<Address<'_>>
+pub(crate) fn address_of(text: &str) -> Option<Address<'_>>
     ensures { IfSome result (λ address. SpellsAddress text.now address.host.now address.port) }
 {
     match text.rsplit_once(":") {
@@ -94,12 +94,15 @@ pub fn address_of(text: &str) -> Option<Address<'_>>
 }
 
 /// Whether a text names a host beside its port.
-pub fn has_host(text: &str) -> bool {
+pub(crate) fn has_host(text: &str) -> bool {
     text.contains(":")
 }
 
 /// From 1 to 64 addresses, with commas between. Returns None if the text isn't these, or if one has no host.
-pub fn addresses_of(alloc: Global, text: &str) -> Result<Option<Vec<Address<'_>>>, AllocError>
+pub(crate) fn addresses_of(
+    alloc: Global,
+    text: &str,
+) -> Result<Option<Vec<Address<'_>>>, AllocError>
     ensures { IfOk result (λ found. IfSome found (λ addresses. (1 ≤ vec_len addresses) × (vec_len addresses ≤ 64))) }
 {
     let mut addresses = Vec::new(alloc);
@@ -119,7 +122,7 @@ pub fn addresses_of(alloc: Global, text: &str) -> Result<Option<Vec<Address<'_>>
 }
 
 /// The level of the log that a text names.
-pub fn level_of(text: &str) -> Option<LevelFilter>
+pub(crate) fn level_of(text: &str) -> Option<LevelFilter>
     ensures { result ≡ level_of text.now }
 {
     if text == "off" {
@@ -141,7 +144,7 @@ pub fn level_of(text: &str) -> Option<LevelFilter>
 }
 
 /// The format of the log that a text names.
-pub fn format_of(text: &str) -> Option<LogFormat>
+pub(crate) fn format_of(text: &str) -> Option<LogFormat>
     ensures { result ≡ format_of text.now }
 {
     if text == "text" {

@@ -49,7 +49,7 @@ fn user_of(text: &str) -> &str
 }
 
 /// The digest id of "user:password". Fails only if an allocation is refused.
-pub fn digest_id(alloc: Global, text: &str) -> Result<Id, NoMemory>
+pub(crate) fn digest_id(alloc: Global, text: &str) -> Result<Id, NoMemory>
     ensures { IfOk result (λ id. id ≡ digest_id text.now) }
 {
     let mut id = String::from_str(alloc, user_of(text))?;

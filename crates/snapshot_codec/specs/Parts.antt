@@ -8,7 +8,7 @@ use Rattle.values.specs.declared.fault.Fault.TheVariants.{BadLength, BadPath, Ba
 use Rattle.jute.specs.Format.{Format, ◌>>=◌, int, long, count_format, count_limit, buffer, text_format, vector_of, pair_of, judged_format, case_of}
 use Rattle.jute.specs.Owned.{acl_format}
 use Rattle.jute.specs.Records.{stat_persisted}
-use Rattle.jute.specs.Stream.{values, PhasedStream}
+use Rattle.jute.specs.Stream.{PhasedStream}
 use Rattle.jute.specs.declared.owned.Acl.{Acl}
 use Rattle.jute.specs.declared.stat.StatPersisted.{StatPersisted}
 use Rattle.txn_codec.specs.Paths.{is_root, checked_path}
@@ -156,7 +156,7 @@ part_after phase (Part part.End) = SessionCount
 
 -- Images in parts, one after another.
 abbrev pub part_stream : PhasedStream PartPhase Value
-part_stream = record { reading = λ phase. values (part_format phase); after = part_after }
+part_stream = record { format = λ phase. part_format phase; after = part_after }
 
 -- A node was begun.
 abbrev pub IsBody : PartPhase → Type 0

@@ -93,7 +93,10 @@ impl<'a> Ord for WalkPath<'a> {
 }
 
 /// The nodes of the tree by path, in the order of a walk. Fails only if an allocation is refused.
-pub fn depth_first(alloc: Global, tree: &Tree) -> Result<BTreeMap<WalkPath<'_>, &Node>, NoMemory>
+pub(crate) fn depth_first(
+    alloc: Global,
+    tree: &Tree,
+) -> Result<BTreeMap<WalkPath<'_>, &Node>, NoMemory>
     ensures { IfOk result (λ rows. shown_rows rows.entries ≡ walk_of tree.now.nodes) }
 {
     let mut rows = BTreeMap::new(alloc);

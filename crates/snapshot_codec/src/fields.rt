@@ -33,7 +33,7 @@ pub fn read_count(reader: &mut Reader<'_>) -> Result<u32, ReadError>
 
 /// Reads a session.
 #[tactic(auto, unfolding(jute::specs::Format::judged_at))]
-pub fn read_session(reader: &mut Reader<'_>) -> Result<ImageSession, ReadError>
+pub(crate) fn read_session(reader: &mut Reader<'_>) -> Result<ImageSession, ReadError>
     ensures { ReadsOwned (part_format (Sessions 0)).read (λ s. Part (part.Session s)) result reader.old reader.new }
 {
     let mut ahead = reader.ahead();
@@ -45,7 +45,7 @@ pub fn read_session(reader: &mut Reader<'_>) -> Result<ImageSession, ReadError>
 
 /// Reads an ACL list and its key.
 #[tactic(auto, unfolding(jute::specs::Format::judged_at))]
-pub fn read_acl(alloc: Global, reader: &mut Reader<'_>) -> Result<ImageAcl, ReadError>
+pub(crate) fn read_acl(alloc: Global, reader: &mut Reader<'_>) -> Result<ImageAcl, ReadError>
     ensures { ReadsOwned (part_format (Acls 0)).read (λ a. Part (part.Acl a)) result reader.old reader.new }
 {
     let mut ahead = reader.ahead();
@@ -57,7 +57,7 @@ pub fn read_acl(alloc: Global, reader: &mut Reader<'_>) -> Result<ImageAcl, Read
 
 /// Reads the path of the first node, which is empty. A null path is `BadPath`, and "/" is `BadImage`.
 #[tactic(auto, unfolding(jute::specs::Format::judged_at))]
-pub fn read_root(alloc: Global, reader: &mut Reader<'_>) -> Result<Path, ReadError>
+pub(crate) fn read_root(alloc: Global, reader: &mut Reader<'_>) -> Result<Path, ReadError>
     ensures { ReadsOwned (part_format Root).read (λ p. PathValue p) result reader.old reader.new }
 {
     let mut ahead = reader.ahead();
@@ -78,7 +78,7 @@ pub fn read_root(alloc: Global, reader: &mut Reader<'_>) -> Result<Path, ReadErr
 
 /// Reads the path of a further node; `None` is the path "/", which comes after the last node. A null path is `BadPath`.
 #[tactic(auto, unfolding(jute::specs::Format::judged_at))]
-pub fn read_next(alloc: Global, reader: &mut Reader<'_>) -> Result<Option<Path>, ReadError>
+pub(crate) fn read_next(alloc: Global, reader: &mut Reader<'_>) -> Result<Option<Path>, ReadError>
     ensures { ReadsOwned (part_format Nodes).read path_or_close result reader.old reader.new }
 {
     let mut ahead = reader.ahead();
@@ -134,7 +134,7 @@ pub fn read_body(alloc: Global, reader: &mut Reader<'_>) -> Result<NodeBody, Rea
 
 /// Reads the text that ends an image; any other text, and null, is `BadImage`.
 #[tactic(auto, unfolding(jute::specs::Format::judged_at))]
-pub fn read_signature(reader: &mut Reader<'_>) -> Result<(), ReadError>
+pub(crate) fn read_signature(reader: &mut Reader<'_>) -> Result<(), ReadError>
     ensures { ReadsOwned (part_format Signature).read (λ u. Part part.End) result reader.old reader.new }
 {
     let mut ahead = reader.ahead();
@@ -149,7 +149,7 @@ pub fn read_signature(reader: &mut Reader<'_>) -> Result<(), ReadError>
 }
 
 /// The phase in which this many sessions are left.
-pub fn sessions_from(count: u32) -> PartPhase
+pub(crate) fn sessions_from(count: u32) -> PartPhase
     ensures { result ≡ sessions_from count }
 {
     if count == 0 {
@@ -159,7 +159,7 @@ pub fn sessions_from(count: u32) -> PartPhase
 }
 
 /// The phase in which this many ACL lists are left.
-pub fn acls_from(count: u32) -> PartPhase
+pub(crate) fn acls_from(count: u32) -> PartPhase
     ensures { result ≡ acls_from count }
 {
     if count == 0 {

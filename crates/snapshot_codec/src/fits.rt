@@ -8,14 +8,14 @@ use jute::{Acl, BUFFER_LIMIT, COUNT_LIMIT};
 use values::Blob;
 
 /// Whether a text is within the limit.
-pub fn fits_text(text: &str) -> bool
+pub(crate) fn fits_text(text: &str) -> bool
     ensures { IsTrue result ↔ text_format.Fits (Some text.now) }
 {
     text.as_bytes().len() <= BUFFER_LIMIT as usize
 }
 
 /// Whether a node's data is within the limit.
-pub fn fits_bytes(bytes: &Option<Blob>) -> bool
+pub(crate) fn fits_bytes(bytes: &Option<Blob>) -> bool
     ensures { IsTrue result ↔ buffer.Fits bytes.now }
 {
     match bytes {
@@ -37,7 +37,7 @@ fn fits_entry(entry: &Acl) -> bool
 }
 
 /// Whether an ACL list is within the limits.
-pub fn fits_list(list: &[Acl]) -> bool
+pub(crate) fn fits_list(list: &[Acl]) -> bool
     ensures { IsTrue result ↔ (vector_of acl_format).Fits (Some list.now) }
 {
     if list.len() > COUNT_LIMIT as usize {

@@ -1,6 +1,6 @@
 //! A tree that is built from the parts of an image.
 
-ghost use Rattle.std.specs.Prelude.{◌≡◌, IsTrue, false};
+ghost use Rattle.std.specs.Prelude.{◌≡◌, false};
 ghost use Rattle.snapshot_codec.specs.Made.{no_loaded_parts, node_with};
 ghost use Rattle.snapshot_codec.specs.Reads.{TakesPart};
 
@@ -94,9 +94,8 @@ impl Loader {
         self.ended
     }
 
-    /// The tree, once the last part was the end. Allocates nothing.
+    /// The tree that the parts so far make. Allocates nothing.
     pub fn finish(self) -> Tree
-        requires { IsTrue self.ended }
         ensures { result ≡ self.made.state }
     {
         self.tree

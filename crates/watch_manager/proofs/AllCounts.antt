@@ -54,16 +54,17 @@ len-lasting lasting =
         ∙ ap (λ b. b && not (in_mode Persistent lasting q)) (sym (contains-all lasting q))
         ∙ sym (contains-kept watch_total watch_exact (all_lasting lasting) (λ p. not (in_mode Persistent lasting p)) q))
 
-lasting-of_connection : (mode : WatchMode) (conn : ℕ) (lasting : LastingWatches)
-    → watches_in mode (lasting_of_connection conn lasting) ≡ pairs_of_connection conn (watches_in mode lasting)
-lasting-of_connection mode conn lasting = set.same_set watch_total watch_exact _ _ (λ q.
-    contains-watches_in mode (lasting_of_connection conn lasting) q
-    ∙ ap (is_in_mode mode) (finmap.get-retain_keys lasting (λ (p : Bytes × ℕ). same_connection conn p.1) q
-    (λ x tie. ap (λ (p : Bytes × ℕ). same_connection conn p.1) (sym (watch_exact q x tie))))
-    ∙ by (same_connection conn q.1) (finmap.get lasting q)
-    ∙ ap (λ b. b && same_connection conn q.1) (sym (contains-watches_in mode lasting q))
+lasting-of_connection : (mode : WatchMode) (connection : ℕ) (lasting : LastingWatches)
+    → watches_in mode (lasting_of_connection connection lasting) ≡ pairs_of_connection connection
+    (watches_in mode lasting)
+lasting-of_connection mode connection lasting = set.same_set watch_total watch_exact _ _ (λ q.
+    contains-watches_in mode (lasting_of_connection connection lasting) q
+    ∙ ap (is_in_mode mode) (finmap.get-retain_keys lasting (λ (p : Bytes × ℕ). same_connection connection p.1) q
+    (λ x tie. ap (λ (p : Bytes × ℕ). same_connection connection p.1) (sym (watch_exact q x tie))))
+    ∙ by (same_connection connection q.1) (finmap.get lasting q)
+    ∙ ap (λ b. b && same_connection connection q.1) (sym (contains-watches_in mode lasting q))
     ∙ sym (contains-kept watch_total watch_exact (watches_in mode lasting)
-    (λ (p : Bytes × ℕ). same_connection conn p.1) q))
+    (λ (p : Bytes × ℕ). same_connection connection p.1) q))
   where
     and_true : (b : Bool) → b ≡ (b && true)
     and_true true = refl
@@ -77,13 +78,14 @@ lasting-of_connection mode conn lasting = set.same_set watch_total watch_exact _
     by true found = and_true (is_in_mode mode found)
     by false found = and_false (is_in_mode mode found)
 
-pub len-lasting_of : (conn : ℕ) (lasting : LastingWatches)
-    → set.len (pairs_of_connection conn (watches_in Persistent lasting))
-    + set.len (pairs_of_connection conn (watches_in Recursive lasting)) ≡ finmap.len (lasting_of_connection conn lasting)
-len-lasting_of conn lasting =
-    (λ i. set.len (sym (lasting-of_connection Persistent conn lasting) i)
-    + set.len (sym (lasting-of_connection Recursive conn lasting) i))
-    ∙ len-lasting (lasting_of_connection conn lasting)
+pub len-lasting_of : (connection : ℕ) (lasting : LastingWatches)
+    → set.len (pairs_of_connection connection (watches_in Persistent lasting))
+    + set.len (pairs_of_connection connection (watches_in Recursive lasting)) ≡ finmap.len
+    (lasting_of_connection connection lasting)
+len-lasting_of connection lasting =
+    (λ i. set.len (sym (lasting-of_connection Persistent connection lasting) i)
+    + set.len (sym (lasting-of_connection Recursive connection lasting) i))
+    ∙ len-lasting (lasting_of_connection connection lasting)
 
 -- ---- the paths and connections of all tables
 
@@ -124,15 +126,15 @@ any-map-append f test (x ∷ xs) ys =
 four : {A : Type 0} (f : Bytes × ℕ → A) (test : A → Bool) (w : WatchTables)
     → list_any test (map f (finmap.keys w.lasting)) ≡ list_any test (map f (both w.lasting))
     → list_any test (map f (pairs_watched w))
-    ≡ (list_any test (map f (set.items w.own)) || (list_any test (map f (set.items w.child))
+    ≡ (list_any test (map f (set.items w.data_watches)) || (list_any test (map f (set.items w.child))
     || (list_any test (map f (set.items (watches_in Persistent w.lasting)))
     || list_any test (map f (set.items (watches_in Recursive w.lasting))))))
 four f test w same =
-    any-map-append f test (set.items w.own ++ set.items w.child) (finmap.keys w.lasting)
-    ∙ (λ i. any-map-append f test (set.items w.own) (set.items w.child) i
+    any-map-append f test (set.items w.data_watches ++ set.items w.child) (finmap.keys w.lasting)
+    ∙ (λ i. any-map-append f test (set.items w.data_watches) (set.items w.child) i
     || (same ∙ any-map-append f test (set.items (watches_in Persistent w.lasting))
     (set.items (watches_in Recursive w.lasting))) i)
-    ∙ by (list_any test (map f (set.items w.own))) (list_any test (map f (set.items w.child)))
+    ∙ by (list_any test (map f (set.items w.data_watches))) (list_any test (map f (set.items w.child)))
     (list_any test (map f (set.items (watches_in Persistent w.lasting)))
     || list_any test (map f (set.items (watches_in Recursive w.lasting))))
   where
@@ -147,19 +149,21 @@ abbrev second : Bytes × ℕ → ℕ
 second p = p.1
 
 pub len-watched : (w : WatchTables)
-    → set.len (keys_in path_cmp w.own) + set.len (keys_beyond path_cmp w.child w.own w.own w.own)
-    + set.len (keys_beyond path_cmp (watches_in Persistent w.lasting) w.own w.child w.child)
-    + set.len (keys_beyond path_cmp (watches_in Recursive w.lasting) w.own w.child (watches_in Persistent w.lasting))
+    → set.len (keys_in path_cmp w.data_watches) + set.len
+    (keys_beyond path_cmp w.child w.data_watches w.data_watches w.data_watches)
+    + set.len (keys_beyond path_cmp (watches_in Persistent w.lasting) w.data_watches w.child w.child)
+    + set.len (keys_beyond path_cmp (watches_in Recursive w.lasting) w.data_watches w.child
+    (watches_in Persistent w.lasting))
     ≡ set.len (watched_paths w)
 len-watched w =
-    len-four path_total exact_bytes (keys_in path_cmp w.own) (keys_in path_cmp w.child)
+    len-four path_total exact_bytes (keys_in path_cmp w.data_watches) (keys_in path_cmp w.child)
     (keys_in path_cmp (watches_in Persistent w.lasting)) (keys_in path_cmp (watches_in Recursive w.lasting))
     (watched_paths w) (λ q.
     set.contains-from_list path_total (map first (pairs_watched w)) q
     ∙ four first (eq_by_cmp path_cmp q) w
     (same-keys path_total nat_cmp_total exact_bytes exact_unsigned (finmap.keys w.lasting) (both w.lasting)
     (any-lasting w.lasting) q)
-    ∙ (λ i. listed w.own q i || (listed w.child q i || (listed (watches_in Persistent w.lasting) q i
+    ∙ (λ i. listed w.data_watches q i || (listed w.child q i || (listed (watches_in Persistent w.lasting) q i
     || listed (watches_in Recursive w.lasting) q i))))
   where
     listed : (pairs : WatchPairs) (q : Bytes) → list_any (eq_by_cmp path_cmp q) (map first (set.items pairs))
@@ -167,18 +171,20 @@ len-watched w =
     listed pairs q = sym (set.contains-from_list path_total (map first (set.items pairs)) q)
 
 pub len-watching : (w : WatchTables)
-    → set.len (connections_in w.own) + set.len (connections_beyond w.child w.own w.own w.own)
-    + set.len (connections_beyond (watches_in Persistent w.lasting) w.own w.child w.child)
-    + set.len (connections_beyond (watches_in Recursive w.lasting) w.own w.child (watches_in Persistent w.lasting))
+    → set.len (connections_in w.data_watches) + set.len
+    (connections_beyond w.child w.data_watches w.data_watches w.data_watches)
+    + set.len (connections_beyond (watches_in Persistent w.lasting) w.data_watches w.child w.child)
+    + set.len (connections_beyond (watches_in Recursive w.lasting) w.data_watches w.child
+    (watches_in Persistent w.lasting))
     ≡ set.len (watching_connections w)
 len-watching w =
-    len-four nat_cmp_total exact_unsigned (connections_in w.own) (connections_in w.child)
+    len-four nat_cmp_total exact_unsigned (connections_in w.data_watches) (connections_in w.child)
     (connections_in (watches_in Persistent w.lasting)) (connections_in (watches_in Recursive w.lasting))
     (watching_connections w) (λ d.
     set.contains-from_list nat_cmp_total (map second (pairs_watched w)) d
     ∙ four second (eq_by_cmp nat_cmp d) w
     (same-seconds (finmap.keys w.lasting) (both w.lasting) (any-lasting w.lasting) d)
-    ∙ (λ i. listed w.own d i || (listed w.child d i || (listed (watches_in Persistent w.lasting) d i
+    ∙ (λ i. listed w.data_watches d i || (listed w.child d i || (listed (watches_in Persistent w.lasting) d i
     || listed (watches_in Recursive w.lasting) d i))))
   where
     listed : (pairs : WatchPairs) (d : ℕ) → list_any (eq_by_cmp nat_cmp d) (map second (set.items pairs))

@@ -54,7 +54,8 @@ in_mode mode ls =
     (map (λ (e : (Bytes × ℕ) × WatchMode). e.0) ls)
 
 abbrev pub node_at : Bytes → Listed → LastingListed → List ℕ
-node_at path own ls = at path own ++ (at path (in_mode Persistent ls) ++ above path (in_mode Recursive ls))
+node_at path data_watches ls = at path data_watches ++
+    (at path (in_mode Persistent ls) ++ above path (in_mode Recursive ls))
 
 abbrev pub children_at : Bytes → Listed → LastingListed → List ℕ
 children_at path child ls = at path child ++ at path (in_mode Persistent ls)
@@ -64,22 +65,24 @@ abbrev pub in_number : List ℕ → List ℕ
 in_number ns = placed nat_cmp_total ns
 
 abbrev pub others : List ℕ → List ℕ → List ℕ
-others already conns = filter (λ (conn : ℕ). not (list_any (eq_by_cmp nat_cmp conn) already)) (in_number conns)
+others already conns = filter (λ (connection : ℕ). not (list_any (eq_by_cmp nat_cmp connection) already))
+    (in_number conns)
 
 abbrev pub events_of : Listed → Listed → LastingListed → Trigger → List (ℕ × Event)
-events_of own child ls (Created path) = events_for NodeCreated path (in_number (node_at path own ls))
-events_of own child ls (Deleted path) =
-    events_for NodeDeleted path (in_number (node_at path own ls))
-    ++ events_for NodeDeleted path (others (node_at path own ls) (at path child))
-events_of own child ls (DataChanged path) = events_for NodeDataChanged path (in_number (node_at path own ls))
-events_of own child ls (ChildrenChanged path) =
+events_of data_watches child ls (Created path) = events_for NodeCreated path (in_number (node_at path data_watches ls))
+events_of data_watches child ls (Deleted path) =
+    events_for NodeDeleted path (in_number (node_at path data_watches ls))
+    ++ events_for NodeDeleted path (others (node_at path data_watches ls) (at path child))
+events_of data_watches child ls (DataChanged path) = events_for NodeDataChanged path
+    (in_number (node_at path data_watches ls))
+events_of data_watches child ls (ChildrenChanged path) =
     events_for NodeChildrenChanged path (in_number (children_at path child ls))
 
 abbrev pub own_after : Listed → Trigger → Listed
-own_after own (Created path) = but path own
-own_after own (Deleted path) = but path own
-own_after own (DataChanged path) = but path own
-own_after own (ChildrenChanged path) = own
+own_after data_watches (Created path) = but path data_watches
+own_after data_watches (Deleted path) = but path data_watches
+own_after data_watches (DataChanged path) = but path data_watches
+own_after data_watches (ChildrenChanged path) = data_watches
 
 abbrev pub child_after : Listed → Trigger → Listed
 child_after child (Created path) = child
@@ -88,13 +91,13 @@ child_after child (DataChanged path) = child
 child_after child (ChildrenChanged path) = but path child
 
 abbrev pub watches_listed : Listed → Listed → LastingListed → WatchTables
-watches_listed own child ls = lasting_on ls (watches_on own child)
+watches_listed data_watches child ls = lasting_on ls (watches_on data_watches child)
 
 abbrev pub fire_listed : Listed → Listed → LastingListed → List Trigger → FireResult
-fire_listed own child ls [] = record { events = []; left = watches_listed own child ls }
-fire_listed own child ls (t ∷ ts) =
-    let rest = fire_listed (own_after own t) (child_after child t) ls ts in
-    record { events = events_of own child ls t ++ rest.events; left = rest.left }
+fire_listed data_watches child ls [] = record { events = []; left = watches_listed data_watches child ls }
+fire_listed data_watches child ls (t ∷ ts) =
+    let rest = fire_listed (own_after data_watches t) (child_after child t) ls ts in
+    record { events = events_of data_watches child ls t ++ rest.events; left = rest.left }
 
 -- A set of connections that has the members of a list.
 HasMembers : ConnectionSet → List ℕ → Type 0
@@ -187,65 +190,74 @@ persistent-listed path ls c =
     ap (λ s. set.contains (watchers_of path s) c) (in_mode-listed Persistent ls)
     ∙ watchers-listed path (in_mode Persistent ls) c
 
-node-listed : (path : Bytes) (own child : Listed) (ls : LastingListed)
-    → HasMembers (node_watchers path (watches_listed own child ls)) (node_at path own ls)
+node-listed : (path : Bytes) (data_watches child : Listed) (ls : LastingListed)
+    → HasMembers (node_watchers path (watches_listed data_watches child ls)) (node_at path data_watches ls)
 unfolding HasMembers
-node-listed path own child ls =
-    union-members (watchers_of path (set.from_list own)) (lasting_watchers path (finmap.from_entries ls)) (at path own)
-    (at path (in_mode Persistent ls) ++ above path (in_mode Recursive ls)) (watchers-listed path own)
+node-listed path data_watches child ls =
+    union-members (watchers_of path (set.from_list data_watches)) (lasting_watchers path (finmap.from_entries ls))
+    (at path data_watches)
+    (at path (in_mode Persistent ls) ++ above path (in_mode Recursive ls)) (watchers-listed path data_watches)
     (union-members (persistent_watchers path (finmap.from_entries ls))
     (watchers_above path (watches_in Recursive (finmap.from_entries ls))) (at path (in_mode Persistent ls))
     (above path (in_mode Recursive ls)) (persistent-listed path ls) (λ c.
     ap (λ s. set.contains (watchers_above path s) c) (in_mode-listed Recursive ls)
     ∙ above-listed path (in_mode Recursive ls) c))
 
-children-listed : (path : Bytes) (own child : Listed) (ls : LastingListed)
-    → HasMembers (children_watchers path (watches_listed own child ls)) (children_at path child ls)
-children-listed path own child ls =
+children-listed : (path : Bytes) (data_watches child : Listed) (ls : LastingListed)
+    → HasMembers (children_watchers path (watches_listed data_watches child ls)) (children_at path child ls)
+children-listed path data_watches child ls =
     union-members (watchers_of path (set.from_list child)) (persistent_watchers path (finmap.from_entries ls))
     (at path child) (at path (in_mode Persistent ls)) (watchers-listed path child) (persistent-listed path ls)
 
-each_but-at : (path : Bytes) (own child : Listed) (ls : LastingListed)
-    → connections_not_told (node_watchers path (watches_listed own child ls)) (watchers_of path (set.from_list child))
-    ≡ others (node_at path own ls) (at path child)
+each_but-at : (path : Bytes) (data_watches child : Listed) (ls : LastingListed)
+    → connections_not_told (node_watchers path (watches_listed data_watches child ls))
+    (watchers_of path (set.from_list child))
+    ≡ others (node_at path data_watches ls) (at path child)
 unfolding HasMembers
-each_but-at path own child ls =
-    λ i. filter (λ (c : ℕ). not (node-listed path own child ls c i))
+each_but-at path data_watches child ls =
+    λ i. filter (λ (c : ℕ). not (node-listed path data_watches child ls c i))
     (ascending-members (watchers_of path (set.from_list child)) (at path child) (watchers-listed path child) i)
 
-node-in_number : (path : Bytes) (own child : Listed) (ls : LastingListed)
-    → sorted_connections (node_watchers path (watches_listed own child ls)) ≡ in_number (node_at path own ls)
-node-in_number path own child ls =
-    ascending-members (node_watchers path (watches_listed own child ls)) (node_at path own ls)
-    (node-listed path own child ls)
+node-in_number : (path : Bytes) (data_watches child : Listed) (ls : LastingListed)
+    → sorted_connections (node_watchers path (watches_listed data_watches child ls)) ≡ in_number
+    (node_at path data_watches ls)
+node-in_number path data_watches child ls =
+    ascending-members (node_watchers path (watches_listed data_watches child ls)) (node_at path data_watches ls)
+    (node-listed path data_watches child ls)
 
-tells-listed : (own child : Listed) (ls : LastingListed) (t : Trigger)
-    → events_of_trigger (watches_listed own child ls) t ≡ events_of own child ls t
-tells-listed own child ls (Created path) = ap (events_for NodeCreated path) (node-in_number path own child ls)
-tells-listed own child ls (Deleted path) =
-    λ i. events_for NodeDeleted path (node-in_number path own child ls i)
-    ++ events_for NodeDeleted path (each_but-at path own child ls i)
-tells-listed own child ls (DataChanged path) = ap (events_for NodeDataChanged path) (node-in_number path own child ls)
-tells-listed own child ls (ChildrenChanged path) =
-    ap (events_for NodeChildrenChanged path) (ascending-members (children_watchers path (watches_listed own child ls))
-    (children_at path child ls) (children-listed path own child ls))
+tells-listed : (data_watches child : Listed) (ls : LastingListed) (t : Trigger)
+    → events_of_trigger (watches_listed data_watches child ls) t ≡ events_of data_watches child ls t
+tells-listed data_watches child ls (Created path) = ap (events_for NodeCreated path)
+    (node-in_number path data_watches child ls)
+tells-listed data_watches child ls (Deleted path) =
+    λ i. events_for NodeDeleted path (node-in_number path data_watches child ls i)
+    ++ events_for NodeDeleted path (each_but-at path data_watches child ls i)
+tells-listed data_watches child ls (DataChanged path) = ap (events_for NodeDataChanged path)
+    (node-in_number path data_watches child ls)
+tells-listed data_watches child ls (ChildrenChanged path) =
+    ap (events_for NodeChildrenChanged path)
+    (ascending-members (children_watchers path (watches_listed data_watches child ls))
+    (children_at path child ls) (children-listed path data_watches child ls))
 
-after-listed : (own child : Listed) (ls : LastingListed) (t : Trigger)
-    → watches_after (watches_listed own child ls) t ≡ watches_listed (own_after own t) (child_after child t) ls
-after-listed own child ls (Created path) =
-    λ i. record (watches_listed own child ls) { own = without-listed path own i }
-after-listed own child ls (Deleted path) =
-    λ i. record (watches_listed own child ls) { own = without-listed path own i; child = without-listed path child i }
-after-listed own child ls (DataChanged path) =
-    λ i. record (watches_listed own child ls) { own = without-listed path own i }
-after-listed own child ls (ChildrenChanged path) =
-    λ i. record (watches_listed own child ls) { child = without-listed path child i }
+after-listed : (data_watches child : Listed) (ls : LastingListed) (t : Trigger)
+    → watches_after (watches_listed data_watches child ls) t ≡ watches_listed (own_after data_watches t)
+    (child_after child t) ls
+after-listed data_watches child ls (Created path) =
+    λ i. record (watches_listed data_watches child ls) { data_watches = without-listed path data_watches i }
+after-listed data_watches child ls (Deleted path) =
+    λ i. record (watches_listed data_watches child ls)
+    { data_watches = without-listed path data_watches i; child = without-listed path child i }
+after-listed data_watches child ls (DataChanged path) =
+    λ i. record (watches_listed data_watches child ls) { data_watches = without-listed path data_watches i }
+after-listed data_watches child ls (ChildrenChanged path) =
+    λ i. record (watches_listed data_watches child ls) { child = without-listed path child i }
 
-pub evaluated : (own child : Listed) (ls : LastingListed) (ts : List Trigger)
-    → fire (watches_listed own child ls) ts ≡ fire_listed own child ls ts
-evaluated own child ls [] = refl
-evaluated own child ls (t ∷ ts) =
-    let rest : fire (watches_after (watches_listed own child ls) t) ts
-    ≡ fire_listed (own_after own t) (child_after child t) ls ts =
-    ap (λ w. fire w ts) (after-listed own child ls t) ∙ evaluated (own_after own t) (child_after child t) ls ts in
-    λ i. record { events = tells-listed own child ls t i ++ (rest i).events; left = (rest i).left }
+pub evaluated : (data_watches child : Listed) (ls : LastingListed) (ts : List Trigger)
+    → fire (watches_listed data_watches child ls) ts ≡ fire_listed data_watches child ls ts
+evaluated data_watches child ls [] = refl
+evaluated data_watches child ls (t ∷ ts) =
+    let rest : fire (watches_after (watches_listed data_watches child ls) t) ts
+    ≡ fire_listed (own_after data_watches t) (child_after child t) ls ts =
+    ap (λ w. fire w ts) (after-listed data_watches child ls t) ∙ evaluated (own_after data_watches t)
+    (child_after child t) ls ts in
+    λ i. record { events = tells-listed data_watches child ls t i ++ (rest i).events; left = (rest i).left }

@@ -56,24 +56,24 @@ watched-at pairs on c (p ∷ ps) here e =
           ∙ or-true (set.contains pairs (p, c))
     ] refl e
 
-above-watched : (w : WatchTables) (path : Bytes) (conn : ℕ) → WatchesRecursively w path conn
-    → set.contains (watchers_above path (watches_in Recursive w.lasting)) conn ≡ true
-above-watched w path conn h =
-    contains-watchers_above path (watches_in Recursive w.lasting) conn
-    ∙ watched-at (watches_in Recursive w.lasting) h.on conn (paths_up path)
-    (contains-watches_in Recursive w.lasting (h.on, conn) ∙ ap (is_in_mode Recursive) h.is_set)
+above-watched : (w : WatchTables) (path : Bytes) (connection : ℕ) → WatchesRecursively w path connection
+    → set.contains (watchers_above path (watches_in Recursive w.lasting)) connection ≡ true
+above-watched w path connection h =
+    contains-watchers_above path (watches_in Recursive w.lasting) connection
+    ∙ watched-at (watches_in Recursive w.lasting) h.on connection (paths_up path)
+    (contains-watches_in Recursive w.lasting (h.on, connection) ∙ ap (is_in_mode Recursive) h.is_set)
     (sym (is_up h.on path) ∙ h.reaches)
 
-node-watched : (w : WatchTables) (path : Bytes) (conn : ℕ) → WatchesRecursively w path conn
-    → set.contains (node_watchers path w) conn ≡ true
-node-watched w path conn h =
-    set.contains-union nat_cmp_total (watchers_of path w.own) (lasting_watchers path w.lasting) conn
-    ∙ ap (λ b. set.contains (watchers_of path w.own) conn || b)
+node-watched : (w : WatchTables) (path : Bytes) (connection : ℕ) → WatchesRecursively w path connection
+    → set.contains (node_watchers path w) connection ≡ true
+node-watched w path connection h =
+    set.contains-union nat_cmp_total (watchers_of path w.data_watches) (lasting_watchers path w.lasting) connection
+    ∙ ap (λ b. set.contains (watchers_of path w.data_watches) connection || b)
     (set.contains-union nat_cmp_total (persistent_watchers path w.lasting)
-    (watchers_above path (watches_in Recursive w.lasting)) conn
-    ∙ ap (λ b. set.contains (persistent_watchers path w.lasting) conn || b) (above-watched w path conn h)
-    ∙ or-true (set.contains (persistent_watchers path w.lasting) conn))
-    ∙ or-true (set.contains (watchers_of path w.own) conn)
+    (watchers_above path (watches_in Recursive w.lasting)) connection
+    ∙ ap (λ b. set.contains (persistent_watchers path w.lasting) connection || b) (above-watched w path connection h)
+    ∙ or-true (set.contains (persistent_watchers path w.lasting) connection))
+    ∙ or-true (set.contains (watchers_of path w.data_watches) connection)
 
 event-told : (kind : EventKind) (path : Bytes) (c : ℕ) (ns : List ℕ) (after : List (ℕ × Event))
     → list_any (eq_by_cmp nat_cmp c) ns ≡ true
@@ -86,27 +86,29 @@ event-told kind path c (n ∷ ns) after e =
       | false ↦ λ t f. let rest = event-told kind path c ns after f in (suc rest.0, omega (arith, rest.1), rest.2)
     ] refl e
 
-part-told : (kind : EventKind) (path : Bytes) (w : WatchTables) (conn : ℕ) (after : List (ℕ × Event))
-    → WatchesRecursively w path conn
-    → Contains (events_for kind path (sorted_connections (node_watchers path w)) ++ after) (event_for conn kind path)
-part-told kind path w conn after h =
-    event-told kind path conn (sorted_connections (node_watchers path w)) after
-    (any-ascending nat_cmp_total (set.items (node_watchers path w)) conn
-    ∙ sym (set.contains-items (node_watchers path w) conn)
-    ∙ node-watched w path conn h)
+part-told : (kind : EventKind) (path : Bytes) (w : WatchTables) (connection : ℕ) (after : List (ℕ × Event))
+    → WatchesRecursively w path connection
+    → Contains (events_for kind path (sorted_connections (node_watchers path w)) ++ after)
+    (event_for connection kind path)
+part-told kind path w connection after h =
+    event-told kind path connection (sorted_connections (node_watchers path w)) after
+    (any-ascending nat_cmp_total (set.items (node_watchers path w)) connection
+    ∙ sym (set.contains-items (node_watchers path w) connection)
+    ∙ node-watched w path connection h)
 
-alone : (kind : EventKind) (path : Bytes) (w : WatchTables) (conn : ℕ) → WatchesRecursively w path conn
-    → Contains (events_for kind path (sorted_connections (node_watchers path w))) (event_for conn kind path)
-alone kind path w conn h =
-    subst (λ (es : List (ℕ × Event)). Contains es (event_for conn kind path))
-    (append-nil (events_for kind path (sorted_connections (node_watchers path w)))) (part-told kind path w conn [] h)
+alone : (kind : EventKind) (path : Bytes) (w : WatchTables) (connection : ℕ) → WatchesRecursively w path connection
+    → Contains (events_for kind path (sorted_connections (node_watchers path w))) (event_for connection kind path)
+alone kind path w connection h =
+    subst (λ (es : List (ℕ × Event)). Contains es (event_for connection kind path))
+    (append-nil (events_for kind path (sorted_connections (node_watchers path w))))
+    (part-told kind path w connection [] h)
 
 pub recursive_told : RecursiveWatchersAreTold
 recursive_told = record {
-  created = λ w path conn h. alone NodeCreated path w conn h;
-  deleted = λ w path conn h. part-told NodeDeleted path w conn
+  created = λ w path connection h. alone NodeCreated path w connection h;
+  deleted = λ w path connection h. part-told NodeDeleted path w connection
       (events_for NodeDeleted path (connections_not_told (node_watchers path w) (watchers_of path w.child))) h;
-  changed = λ w path conn h. alone NodeDataChanged path w conn h;
+  changed = λ w path connection h. alone NodeDataChanged path w connection h;
 }
 
 -- ---- parts ascend

@@ -102,7 +102,7 @@ in_mode-is_set mode lasting q t = by (finmap.get lasting q) (sym (contains-watch
 -- ---- a watch set, and a connection dropped
 
 pub apart-empty : HaveOneMode set.empty set.empty
-apart-empty path conn here = set.contains-empty watch_cmp (path, conn)
+apart-empty path connection here = set.contains-empty watch_cmp (path, connection)
 
 module _ (pairs others : WatchPairs) (k : Bytes × ℕ) where
   contains-in : (q : Bytes × ℕ) → set.contains (set.insert pairs k) q
@@ -114,18 +114,19 @@ module _ (pairs others : WatchPairs) (k : Bytes × ℕ) where
   contains-out q = set.contains-remove watch_total others k q
 
   pub apart-set : HaveOneMode pairs others → HaveOneMode (set.insert pairs k) (set.remove others k)
-  apart-set apart path conn here =
-      contains-out (path, conn)
-      ∙ by (eq_by_cmp watch_cmp (path, conn) k) (set.contains pairs (path, conn)) (set.contains others (path, conn))
-      (apart path conn) (sym (contains-in (path, conn)) ∙ here)
+  apart-set apart path connection here =
+      contains-out (path, connection)
+      ∙ by (eq_by_cmp watch_cmp (path, connection) k) (set.contains pairs (path, connection))
+      (set.contains others (path, connection))
+      (apart path connection) (sym (contains-in (path, connection)) ∙ here)
     where
       by : (t x y : Bool) → (x ≡ true → y ≡ false) → (t || x) ≡ true → (not t && y) ≡ false
       by true x y out h = refl
       by false x y out h = out h
 
 pub apart-turned : (p r : WatchPairs) → HaveOneMode p r → HaveOneMode r p
-apart-turned p r apart path conn here =
-    by (set.contains p (path, conn)) (set.contains r (path, conn)) (apart path conn) here
+apart-turned p r apart path connection here =
+    by (set.contains p (path, connection)) (set.contains r (path, connection)) (apart path connection) here
   where
     by : (x y : Bool) → (x ≡ true → y ≡ false) → y ≡ true → x ≡ false
     by true y out h = absurd (true≢false (sym h ∙ out refl))
@@ -157,21 +158,22 @@ recursive-set p r k = finmap.same_map watch_total watch_exact _ _ (λ q.
     by true x y = refl
     by false x y = refl
 
-pub get-without_lasting : (conn : ℕ) (lasting : LastingWatches) (q : Bytes × ℕ)
-    → finmap.get (without_lasting_of conn lasting) q
-    ≡ cond (not (same_connection conn q.1)) (finmap.get lasting q) None
-get-without_lasting conn lasting q =
-    finmap.get-retain_keys lasting (λ (p : Bytes × ℕ). not (same_connection conn p.1)) q
-    (λ x tie. ap (λ (p : Bytes × ℕ). not (same_connection conn p.1)) (sym (watch_exact q x tie)))
+pub get-without_lasting : (connection : ℕ) (lasting : LastingWatches) (q : Bytes × ℕ)
+    → finmap.get (without_lasting_of connection lasting) q
+    ≡ cond (not (same_connection connection q.1)) (finmap.get lasting q) None
+get-without_lasting connection lasting q =
+    finmap.get-retain_keys lasting (λ (p : Bytes × ℕ). not (same_connection connection p.1)) q
+    (λ x tie. ap (λ (p : Bytes × ℕ). not (same_connection connection p.1)) (sym (watch_exact q x tie)))
 
-pub lasting-dropped : (p r : WatchPairs) (conn : ℕ)
-    → lasting_of (without_connection conn p) (without_connection conn r) ≡ without_lasting_of conn (lasting_of p r)
-lasting-dropped p r conn = finmap.same_map watch_total watch_exact _ _ (λ q.
-    get-lasting (without_connection conn p) (without_connection conn r) q
-    ∙ (λ i. mode_found (contains-without_connection conn p q i) (contains-without_connection conn r q i))
-    ∙ by (set.contains p q) (set.contains r q) (not (same_connection conn q.1))
-    ∙ ap (λ found. cond (not (same_connection conn q.1)) found None) (sym (get-lasting p r q))
-    ∙ sym (get-without_lasting conn (lasting_of p r) q))
+pub lasting-dropped : (p r : WatchPairs) (connection : ℕ)
+    → lasting_of (without_connection connection p) (without_connection connection r) ≡ without_lasting_of connection
+    (lasting_of p r)
+lasting-dropped p r connection = finmap.same_map watch_total watch_exact _ _ (λ q.
+    get-lasting (without_connection connection p) (without_connection connection r) q
+    ∙ (λ i. mode_found (contains-without_connection connection p q i) (contains-without_connection connection r q i))
+    ∙ by (set.contains p q) (set.contains r q) (not (same_connection connection q.1))
+    ∙ ap (λ found. cond (not (same_connection connection q.1)) found None) (sym (get-lasting p r q))
+    ∙ sym (get-without_lasting connection (lasting_of p r) q))
   where
     by : (x y k : Bool) → mode_found (x && k) (y && k) ≡ cond k (mode_found x y) None
     by true y true = refl
@@ -182,12 +184,12 @@ lasting-dropped p r conn = finmap.same_map watch_total watch_exact _ _ (λ q.
     by false false true = refl
     by false false false = refl
 
-pub apart-dropped : (p r : WatchPairs) (conn : ℕ) → HaveOneMode p r
-    → HaveOneMode (without_connection conn p) (without_connection conn r)
-apart-dropped p r conn apart path c here =
-    contains-without_connection conn r (path, c)
-    ∙ by (set.contains p (path, c)) (set.contains r (path, c)) (not (same_connection conn c)) (apart path c)
-    (sym (contains-without_connection conn p (path, c)) ∙ here)
+pub apart-dropped : (p r : WatchPairs) (connection : ℕ) → HaveOneMode p r
+    → HaveOneMode (without_connection connection p) (without_connection connection r)
+apart-dropped p r connection apart path c here =
+    contains-without_connection connection r (path, c)
+    ∙ by (set.contains p (path, c)) (set.contains r (path, c)) (not (same_connection connection c)) (apart path c)
+    (sym (contains-without_connection connection p (path, c)) ∙ here)
   where
     by : (x y k : Bool) → (x ≡ true → y ≡ false) → (x && k) ≡ true → (y && k) ≡ false
     by true y k out h = ap (λ b. b && k) (out refl)

@@ -37,8 +37,9 @@ no_lengths lengths pairs have none = set.same_set watch_total watch_exact _ _ (�
     by false n here = refl
 
 pub lengths-empty : (lengths : BTreeSet ℕ) (pairs : WatchPairs) → pairs ≡ set.empty → HaveLengthsIn lengths pairs
-lengths-empty lengths pairs none path conn here =
-    absurd (true≢false (sym here ∙ ap (λ s. set.contains s (path, conn)) none ∙ set.contains-empty watch_cmp (path, conn)))
+lengths-empty lengths pairs none path connection here =
+    absurd (true≢false (sym here ∙ ap (λ s. set.contains s (path, connection)) none ∙ set.contains-empty watch_cmp
+    (path, connection)))
 
 lengths-kept : (before after : BTreeSet ℕ) (n : ℕ) → sorted.Updates nat_cmp before after n true → (q : ℕ)
     → sorted.contains nat_cmp before q ≡ true → sorted.contains nat_cmp after q ≡ true
@@ -49,15 +50,16 @@ lengths-kept before after n updates q here =
     by true x h = refl
     by false x h = h
 
-pub lengths-insert : (before after : BTreeSet ℕ) (pairs : WatchPairs) (path : Bytes) (conn : ℕ)
+pub lengths-insert : (before after : BTreeSet ℕ) (pairs : WatchPairs) (path : Bytes) (connection : ℕ)
     → HaveLengthsIn before pairs → sorted.Updates nat_cmp before after (length path) true
-    → HaveLengthsIn after (set.insert pairs (path, conn))
-lengths-insert before after pairs path conn have updates q c here =
-    by (eq_by_cmp watch_cmp (q, c) (path, conn)) (set.contains pairs (q, c))
-    (λ tie. ap (λ (p : Bytes × ℕ). sorted.contains nat_cmp after (length p.0)) (tells_apart watch_exact (q, c) (path, conn) tie)
+    → HaveLengthsIn after (set.insert pairs (path, connection))
+lengths-insert before after pairs path connection have updates q c here =
+    by (eq_by_cmp watch_cmp (q, c) (path, connection)) (set.contains pairs (q, c))
+    (λ tie. ap (λ (p : Bytes × ℕ). sorted.contains nat_cmp after (length p.0))
+    (tells_apart watch_exact (q, c) (path, connection) tie)
     ∙ updates.1)
     (λ old. lengths-kept before after (length path) updates (length q) (have q c old))
-    (sym (set.contains-insert watch_total pairs (path, conn) (q, c)) ∙ here)
+    (sym (set.contains-insert watch_total pairs (path, connection) (q, c)) ∙ here)
   where
     by : (t x : Bool) {Y : Type 0} → (t ≡ true → Y) → (x ≡ true → Y) → (t || x) ≡ true → Y
     by true x new old h = new refl
@@ -73,11 +75,11 @@ lengths-remove lengths pairs k have q c here =
     by true x h = absurd (true≢false (sym h))
     by false x h = h
 
-pub lengths-dropped : (lengths : BTreeSet ℕ) (pairs : WatchPairs) (conn : ℕ) → HaveLengthsIn lengths pairs
-    → HaveLengthsIn lengths (without_connection conn pairs)
-lengths-dropped lengths pairs conn have q c here =
-    have q c (by (set.contains pairs (q, c)) (not (same_connection conn c))
-    (sym (contains-without_connection conn pairs (q, c)) ∙ here))
+pub lengths-dropped : (lengths : BTreeSet ℕ) (pairs : WatchPairs) (connection : ℕ) → HaveLengthsIn lengths pairs
+    → HaveLengthsIn lengths (without_connection connection pairs)
+lengths-dropped lengths pairs connection have q c here =
+    have q c (by (set.contains pairs (q, c)) (not (same_connection connection c))
+    (sym (contains-without_connection connection pairs (q, c)) ∙ here))
   where
     by : (x t : Bool) → (x && t) ≡ true → x ≡ true
     by true t h = refl

@@ -61,17 +61,20 @@ same_rank s t e = sym (again s) ∙ ap table_at (exact_unsigned (table_rank s) (
 pub watched_exact : CmpEqualImpliesEq watched_cmp
 watched_exact x y tie = by x.table y.table tie
   where
-    same : watch_cmp (x.path, x.conn) (y.path, y.conn) ≡ Equal
-        → ◌≡◌ {A = Bytes × ℕ} (x.path, x.conn) (y.path, y.conn)
-    same e = watch_exact (x.path, x.conn) (y.path, y.conn) e
+    same : watch_cmp (x.path, x.connection) (y.path, y.connection) ≡ Equal
+        → ◌≡◌ {A = Bytes × ℕ} (x.path, x.connection) (y.path, y.connection)
+    same e = watch_exact (x.path, x.connection) (y.path, y.connection) e
 
     by : (s t : Table)
-        → ordering_then (watch_cmp (x.path, x.conn) (y.path, y.conn)) (nat_cmp (table_rank s) (table_rank t)) ≡ Equal
-        → watched_in s (x.path, x.conn) ≡ watched_in t (y.path, y.conn)
+        → ordering_then (watch_cmp (x.path, x.connection) (y.path, y.connection))
+        (nat_cmp (table_rank s) (table_rank t)) ≡ Equal
+        → watched_in s (x.path, x.connection) ≡ watched_in t (y.path, y.connection)
     by s t e =
         λ i. watched_in
-        (same_rank s t (second_ties (watch_cmp (x.path, x.conn) (y.path, y.conn)) (nat_cmp (table_rank s) (table_rank t)) e) i)
-        (same (first_ties (watch_cmp (x.path, x.conn) (y.path, y.conn)) (nat_cmp (table_rank s) (table_rank t)) e) i)
+        (same_rank s t (second_ties (watch_cmp (x.path, x.connection) (y.path, y.connection))
+        (nat_cmp (table_rank s) (table_rank t)) e) i)
+        (same (first_ties (watch_cmp (x.path, x.connection) (y.path, y.connection))
+        (nat_cmp (table_rank s) (table_rank t)) e) i)
 
 -- ---- the watches that are listed
 
@@ -88,12 +91,12 @@ same_table q table = eq_by_cmp nat_cmp (table_rank q.table) (table_rank table)
 -- The pair is in the table.
 any-watched_in : (table : Table) (pairs : List (Bytes × ℕ)) (q : Watched)
     → list_any (eq_by_cmp watched_cmp q) (map (watched_in table) pairs)
-    ≡ (list_any (eq_by_cmp watch_cmp (q.path, q.conn)) pairs && same_table q table)
+    ≡ (list_any (eq_by_cmp watch_cmp (q.path, q.connection)) pairs && same_table q table)
 any-watched_in table [] q = refl
 any-watched_in table (p ∷ ps) q =
-    (λ i. tied_then (watch_cmp (q.path, q.conn) p) (nat_cmp (table_rank q.table) (table_rank table)) i
+    (λ i. tied_then (watch_cmp (q.path, q.connection) p) (nat_cmp (table_rank q.table) (table_rank table)) i
     || any-watched_in table ps q i)
-    ∙ and_or (eq_by_cmp watch_cmp (q.path, q.conn) p) (list_any (eq_by_cmp watch_cmp (q.path, q.conn)) ps)
+    ∙ and_or (eq_by_cmp watch_cmp (q.path, q.connection) p) (list_any (eq_by_cmp watch_cmp (q.path, q.connection)) ps)
     (same_table q table)
 
 at_path : (path : Bytes) (conns : List ℕ) (q : Bytes × ℕ)
@@ -128,24 +131,24 @@ path_rows-pairs table path (c ∷ cs) = ap (λ rows. watched_in table (path, c) 
 
 any-path_rows : (table : Table) (path : Bytes) (conns : ConnectionSet) (q : Watched)
     → list_any (eq_by_cmp watched_cmp q) (path_rows table path (sorted_connections conns))
-    ≡ (list_any (eq_by_cmp watch_cmp (q.path, q.conn)) (map (λ (c : ℕ). (path, c)) (set.items conns))
+    ≡ (list_any (eq_by_cmp watch_cmp (q.path, q.connection)) (map (λ (c : ℕ). (path, c)) (set.items conns))
     && same_table q table)
 any-path_rows table path conns q =
     ap (list_any (eq_by_cmp watched_cmp q)) (path_rows-pairs table path (sorted_connections conns))
     ∙ any-watched_in table (map (λ (c : ℕ). (path, c)) (sorted_connections conns)) q
-    ∙ ap (λ b. b && same_table q table) (any-in_number path conns (q.path, q.conn))
+    ∙ ap (λ b. b && same_table q table) (any-in_number path conns (q.path, q.connection))
 
 any-rows_of : (table : Table) (es : List (Bytes × ConnectionSet)) (q : Watched)
     → list_any (eq_by_cmp watched_cmp q) (rows_of table es)
-    ≡ (list_any (eq_by_cmp watch_cmp (q.path, q.conn)) (all_pairs es) && same_table q table)
+    ≡ (list_any (eq_by_cmp watch_cmp (q.path, q.connection)) (all_pairs es) && same_table q table)
 any-rows_of table [] q = refl
 any-rows_of table (e ∷ es) q =
     list_any-append (eq_by_cmp watched_cmp q) (path_rows table e.0 (sorted_connections e.1)) (rows_of table es)
     ∙ (λ i. any-path_rows table e.0 e.1 q i || any-rows_of table es q i)
-    ∙ and_or (list_any (eq_by_cmp watch_cmp (q.path, q.conn)) (map (λ (c : ℕ). (e.0, c)) (set.items e.1)))
-    (list_any (eq_by_cmp watch_cmp (q.path, q.conn)) (all_pairs es)) (same_table q table)
+    ∙ and_or (list_any (eq_by_cmp watch_cmp (q.path, q.connection)) (map (λ (c : ℕ). (e.0, c)) (set.items e.1)))
+    (list_any (eq_by_cmp watch_cmp (q.path, q.connection)) (all_pairs es)) (same_table q table)
     ∙ ap (λ b. b && same_table q table)
-    (sym (list_any-append (eq_by_cmp watch_cmp (q.path, q.conn)) (map (λ (c : ℕ). (e.0, c)) (set.items e.1))
+    (sym (list_any-append (eq_by_cmp watch_cmp (q.path, q.connection)) (map (λ (c : ℕ). (e.0, c)) (set.items e.1))
     (all_pairs es)))
 
 -- The rows of a table are its watches.
@@ -156,9 +159,9 @@ any-table : (table : Table) (es : List (Bytes × ConnectionSet)) (watches : Watc
 any-table table es watches are q =
     any-rows_of table es q
     ∙ ap (λ b. b && same_table q table)
-    (sym (set.contains-from_list watch_total (all_pairs es) (q.path, q.conn))
-    ∙ ap (λ s. set.contains s (q.path, q.conn)) are
-    ∙ set.contains-items watches (q.path, q.conn))
+    (sym (set.contains-from_list watch_total (all_pairs es) (q.path, q.connection))
+    ∙ ap (λ s. set.contains s (q.path, q.connection)) are
+    ∙ set.contains-items watches (q.path, q.connection))
     ∙ sym (any-watched_in table (set.items watches) q)
 
 -- The paths of sorted entries.
@@ -226,20 +229,20 @@ any-lasting : (lasting : LastingWatches) (q : Watched)
     ≡ list_any (eq_by_cmp watched_cmp q) (map (watched_in Lasting) (finmap.keys lasting))
 any-lasting lasting q =
     (λ i. of_mode Persistent i || of_mode Recursive i)
-    ∙ and_or (is_in_mode Persistent (finmap.get lasting (q.path, q.conn)))
-    (is_in_mode Recursive (finmap.get lasting (q.path, q.conn))) (same_table q Lasting)
+    ∙ and_or (is_in_mode Persistent (finmap.get lasting (q.path, q.connection)))
+    (is_in_mode Recursive (finmap.get lasting (q.path, q.connection))) (same_table q Lasting)
     ∙ ap (λ b. b && same_table q Lasting)
-    (either (finmap.get lasting (q.path, q.conn)) ∙ finmap.contains_key-keys lasting (q.path, q.conn))
+    (either (finmap.get lasting (q.path, q.connection)) ∙ finmap.contains_key-keys lasting (q.path, q.connection))
     ∙ sym (any-watched_in Lasting (finmap.keys lasting) q)
   where
     of_mode : (mode : WatchMode)
         → list_any (eq_by_cmp watched_cmp q) (map (watched_in Lasting) (set.items (watches_in mode lasting)))
-        ≡ (is_in_mode mode (finmap.get lasting (q.path, q.conn)) && same_table q Lasting)
+        ≡ (is_in_mode mode (finmap.get lasting (q.path, q.connection)) && same_table q Lasting)
     of_mode mode =
         any-watched_in Lasting (set.items (watches_in mode lasting)) q
         ∙ ap (λ b. b && same_table q Lasting)
-        (sym (set.contains-items (watches_in mode lasting) (q.path, q.conn))
-        ∙ contains-watches_in mode lasting (q.path, q.conn))
+        (sym (set.contains-items (watches_in mode lasting) (q.path, q.connection))
+        ∙ contains-watches_in mode lasting (q.path, q.connection))
 
     either : (found : Option WatchMode) → (is_in_mode Persistent found || is_in_mode Recursive found) ≡ is_some found
     either None = refl

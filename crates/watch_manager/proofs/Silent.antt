@@ -78,17 +78,17 @@ untouched-others kind path already child none e =
 
 pub after-silent : (w : WatchTables) (t : Trigger) → events_of_trigger w t ≡ [] → watches_after w t ≡ w
 after-silent w (Created path) e =
-    λ i. record w { own = untouched _ path w.own (lasting_watchers path w.lasting) e i }
+    λ i. record w { data_watches = untouched _ path w.data_watches (lasting_watchers path w.lasting) e i }
 after-silent w (Deleted path) e =
     let first = front_empty _ _ e in
     let none = nobody_told _ path (node_watchers path w) first in
     λ i. record w {
-      own = untouched _ path w.own (lasting_watchers path w.lasting) first i;
+      data_watches = untouched _ path w.data_watches (lasting_watchers path w.lasting) first i;
       child = untouched-others _ path (node_watchers path w) w.child none
           (rest_empty _ _ e) i;
     }
 after-silent w (DataChanged path) e =
-    λ i. record w { own = untouched _ path w.own (lasting_watchers path w.lasting) e i }
+    λ i. record w { data_watches = untouched _ path w.data_watches (lasting_watchers path w.lasting) e i }
 after-silent w (ChildrenChanged path) e =
     λ i. record w { child = untouched _ path w.child (persistent_watchers path w.lasting) e i }
 

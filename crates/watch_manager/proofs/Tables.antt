@@ -29,8 +29,9 @@ turned q p d c =
     and_comm false false = refl
 
 pub agree-empty : AgreeOn set.empty set.empty
-agree-empty path conn =
-    set.contains-empty watch_cmp (path, conn) ∙ sym (set.contains-empty (pair_cmp nat_cmp path_cmp) (conn, path))
+agree-empty path connection =
+    set.contains-empty watch_cmp (path, connection) ∙ sym
+    (set.contains-empty (pair_cmp nat_cmp path_cmp) (connection, path))
 
 pub agree-insert : (pairs : WatchPairs) (turn : ConnPairs) (p : Bytes) (c : ℕ) → AgreeOn pairs turn
     → AgreeOn (set.insert pairs (p, c)) (set.insert turn (c, p))

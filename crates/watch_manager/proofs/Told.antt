@@ -102,7 +102,7 @@ of_both test conns others h k q t =
 
 in_mode-all : (test : ℕ → Bool) (mode : WatchMode) (lasting : LastingWatches) → AllLastingPass test lasting
     → AllPass test (watches_in mode lasting)
-in_mode-all test mode lasting h path conn t = h path conn (in_mode-is_set mode lasting (path, conn) t)
+in_mode-all test mode lasting h path connection t = h path connection (in_mode-is_set mode lasting (path, connection) t)
 
 persistent-all : (test : ℕ → Bool) (path : Bytes) (lasting : LastingWatches) → AllLastingPass test lasting → (q : ℕ)
     → set.contains (persistent_watchers path lasting) q ≡ true → test q ≡ true
@@ -125,7 +125,8 @@ above-all test path pairs h q t = by (paths_up path) (sym (contains-watchers_abo
 node-all : (test : ℕ → Bool) (path : Bytes) (w : WatchTables) → WatchersPass test w → (q : ℕ)
     → set.contains (node_watchers path w) q ≡ true → test q ≡ true
 node-all test path w h =
-    of_both test (watchers_of path w.own) (lasting_watchers path w.lasting) (child-all test path w.own h.0)
+    of_both test (watchers_of path w.data_watches) (lasting_watchers path w.lasting)
+    (child-all test path w.data_watches h.0)
     (of_both test (persistent_watchers path w.lasting) (watchers_above path (watches_in Recursive w.lasting))
     (persistent-all test path w.lasting h.2)
     (above-all test path (watches_in Recursive w.lasting) (in_mode-all test Recursive w.lasting h.2)))
@@ -163,9 +164,14 @@ without_path-all test path pairs h p c t = h p c (both_front _ _ (sym (contains-
 
 after-all : (test : ℕ → Bool) (w : WatchTables) (t : Trigger) → WatchersPass test w
     → WatchersPass test (watches_after w t)
-after-all test w (Created path) h = (without_path-all test path w.own h.0, h.1, h.2)
-after-all test w (Deleted path) h = (without_path-all test path w.own h.0, without_path-all test path w.child h.1, h.2)
-after-all test w (DataChanged path) h = (without_path-all test path w.own h.0, h.1, h.2)
+after-all test w (Created path) h = (without_path-all test path w.data_watches h.0, h.1, h.2)
+after-all test w (Deleted path) h = (
+  without_path-all test path w.data_watches h.0,
+  without_path-all test path w.child
+      h.1,
+  h.2,
+)
+after-all test w (DataChanged path) h = (without_path-all test path w.data_watches h.0, h.1, h.2)
 after-all test w (ChildrenChanged path) h = (h.0, without_path-all test path w.child h.1, h.2)
 
 pub fire-all : (test : ℕ → Bool) (w : WatchTables) (ts : List Trigger) → WatchersPass test w
@@ -175,11 +181,11 @@ fire-all test w (t ∷ ts) h =
     let rest = fire-all test (watches_after w t) ts (after-all test w t h) in
     (all_append (λ (e : ℕ × Event). test e.0 ≡ true) _ _ (tells-all test w t h) rest.0, rest.1)
 
-without_connection-all : (test : ℕ → Bool) (conn : ℕ) (pairs : WatchPairs)
-    → AllPass (λ c. test c || same_connection conn c) pairs → AllPass test (without_connection conn pairs)
-without_connection-all test conn pairs h p c t =
-    by (set.contains pairs (p, c)) (same_connection conn c) (test c) (h p c)
-    (sym (contains-without_connection conn pairs (p, c)) ∙ t)
+without_connection-all : (test : ℕ → Bool) (connection : ℕ) (pairs : WatchPairs)
+    → AllPass (λ c. test c || same_connection connection c) pairs → AllPass test (without_connection connection pairs)
+without_connection-all test connection pairs h p c t =
+    by (set.contains pairs (p, c)) (same_connection connection c) (test c) (h p c)
+    (sym (contains-without_connection connection pairs (p, c)) ∙ t)
   where
     by : (here same passes : Bool) → (here ≡ true → (passes || same) ≡ true) → (here && not same) ≡ true → passes ≡ true
     by true true passes h e = absurd (true≢false (sym e))
@@ -187,12 +193,12 @@ without_connection-all test conn pairs h p c t =
     by true false false h e = h refl
     by false same passes h e = absurd (true≢false (sym e))
 
-without_lasting-all : (test : ℕ → Bool) (conn : ℕ) (lasting : LastingWatches)
-    → AllLastingPass (λ c. test c || same_connection conn c) lasting
-    → AllLastingPass test (without_lasting_of conn lasting)
-without_lasting-all test conn lasting h p c t =
-    by (same_connection conn c) (test c) (h p c)
-    (sym (ap (λ found. is_some found) (get-without_lasting conn lasting (p, c))) ∙ t)
+without_lasting-all : (test : ℕ → Bool) (connection : ℕ) (lasting : LastingWatches)
+    → AllLastingPass (λ c. test c || same_connection connection c) lasting
+    → AllLastingPass test (without_lasting_of connection lasting)
+without_lasting-all test connection lasting h p c t =
+    by (same_connection connection c) (test c) (h p c)
+    (sym (ap (λ found. is_some found) (get-without_lasting connection lasting (p, c))) ∙ t)
   where
     by : (same passes : Bool) → (finmap.contains_key lasting (p, c) ≡ true → (passes || same) ≡ true)
         → is_some (cond (not same) (finmap.get lasting (p, c)) None) ≡ true → passes ≡ true
@@ -200,13 +206,13 @@ without_lasting-all test conn lasting h p c t =
     by false true h e = refl
     by false false h e = h e
 
-pub dropped-all : (test : ℕ → Bool) (w : WatchTables) (conn : ℕ)
-    → WatchersPass (λ c. test c || same_connection conn c) w
-    → WatchersPass test (without_watches_of conn w)
-dropped-all test w conn h = (
-  without_connection-all test conn w.own h.0,
-  without_connection-all test conn w.child h.1,
-  without_lasting-all test conn w.lasting h.2,
+pub dropped-all : (test : ℕ → Bool) (w : WatchTables) (connection : ℕ)
+    → WatchersPass (λ c. test c || same_connection connection c) w
+    → WatchersPass test (without_watches_of connection w)
+dropped-all test w connection h = (
+  without_connection-all test connection w.data_watches h.0,
+  without_connection-all test connection w.child h.1,
+  without_lasting-all test connection w.lasting h.2,
 )
 
 -- The list of a set has each connection once.
@@ -228,7 +234,7 @@ sorted_keys (e ∷ es) h = (all_above e.0 es (front_holds _ _ h), sorted_keys es
 
 pub in_number-sorted : (conns : ConnectionSet) → IsStrictlySortedBy nat_cmp (sorted_connections conns)
 in_number-sorted conns =
-    let m = finmap.from_entries {R = nat_cmp} (map (λ (conn : ℕ). (conn, tt {0})) (set.items conns)) in
+    let m = finmap.from_entries {R = nat_cmp} (map (λ (connection : ℕ). (connection, tt {0})) (set.items conns)) in
     sorted_keys (finmap.entries m) (finmap.entries_sorted m)
 
 in_number-distinct : (conns : ConnectionSet) → IsDistinct same_connection (sorted_connections conns)

@@ -70,7 +70,8 @@ no_event (Deleted path) =
     ap (λ es. es ++ events_for NodeDeleted path (connections_not_told (node_watchers path no_watch) (watchers_of path set.empty)))
     (none_told _ path _ (nobody_at path))
     ∙ ap (λ s. events_for NodeDeleted path (connections_not_told (node_watchers path no_watch) s)) (nobody path)
-    ∙ ap (λ ns. events_for NodeDeleted path (filter (λ (conn : ℕ). not (set.contains (node_watchers path no_watch) conn)) ns)) none_sorted
+    ∙ ap (λ ns. events_for NodeDeleted path
+    (filter (λ (connection : ℕ). not (set.contains (node_watchers path no_watch) connection)) ns)) none_sorted
 no_event (DataChanged path) = none_told _ path _ (nobody_at path)
 no_event (ChildrenChanged path) =
     none_told _ path _ ((λ i. set.union (nobody path i) (nobody_persistent path i)) ∙ neither)

@@ -39,11 +39,12 @@ contains-without_path path pairs q =
     set.contains-retain pairs (λ (p : Bytes × ℕ). not (same_path path p.0)) q
     (λ x tie. ap (λ (p : Bytes × ℕ). not (same_path path p.0)) (sym (watch_exact q x tie)))
 
-pub contains-without_connection : (conn : ℕ) (pairs : WatchPairs) (q : Bytes × ℕ)
-    → set.contains (without_connection conn pairs) q ≡ (set.contains pairs q && not (same_connection conn q.1))
-contains-without_connection conn pairs q =
-    set.contains-retain pairs (λ (p : Bytes × ℕ). not (same_connection conn p.1)) q
-    (λ x tie. ap (λ (p : Bytes × ℕ). not (same_connection conn p.1)) (sym (watch_exact q x tie)))
+pub contains-without_connection : (connection : ℕ) (pairs : WatchPairs) (q : Bytes × ℕ)
+    → set.contains (without_connection connection pairs) q ≡
+    (set.contains pairs q && not (same_connection connection q.1))
+contains-without_connection connection pairs q =
+    set.contains-retain pairs (λ (p : Bytes × ℕ). not (same_connection connection p.1)) q
+    (λ x tie. ap (λ (p : Bytes × ℕ). not (same_connection connection p.1)) (sym (watch_exact q x tie)))
 
 -- A set that has exactly the watchers as members.
 pub are_watchers : (path : Bytes) (pairs : WatchPairs) (conns : ConnectionSet)

@@ -10,11 +10,11 @@ use Rattle.watch_manager.specs.declared.counts.WatchCounts.{WatchCounts}
 
 -- A connection that watches a path in two tables has two watches on it.
 abbrev pub watch_count : WatchTables → ℕ
-watch_count w = set.len w.own + set.len w.child + finmap.len w.lasting
+watch_count w = set.len w.data_watches + set.len w.child + finmap.len w.lasting
 
 -- The path and the connection of each watch.
 abbrev pub pairs_watched : WatchTables → List (Bytes × ℕ)
-pairs_watched w = set.items w.own ++ set.items w.child ++ finmap.keys w.lasting
+pairs_watched w = set.items w.data_watches ++ set.items w.child ++ finmap.keys w.lasting
 
 -- The paths that are watched in any table.
 abbrev pub watched_paths : WatchTables → Names
@@ -32,15 +32,16 @@ counts_of w = record {
 }
 
 abbrev pub lasting_of_connection : ℕ → LastingWatches → LastingWatches
-lasting_of_connection conn lasting = finmap.retain_keys lasting (λ (p : Bytes × ℕ). same_connection conn p.1)
+lasting_of_connection connection lasting = finmap.retain_keys lasting
+    (λ (p : Bytes × ℕ). same_connection connection p.1)
 
 -- The watches of one connection.
 abbrev pub watches_of : ℕ → WatchTables → WatchTables
-watches_of conn w = record {
-  own = pairs_of_connection conn w.own;
-  child = pairs_of_connection conn w.child;
-  lasting = lasting_of_connection conn w.lasting;
+watches_of connection w = record {
+  data_watches = pairs_of_connection connection w.data_watches;
+  child = pairs_of_connection connection w.child;
+  lasting = lasting_of_connection connection w.lasting;
 }
 
 abbrev pub watch_count_of : ℕ → WatchTables → ℕ
-watch_count_of conn w = watch_count (watches_of conn w)
+watch_count_of connection w = watch_count (watches_of connection w)

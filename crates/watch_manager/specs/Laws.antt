@@ -25,16 +25,17 @@ ConnectionsAreToldOnce =
 
 -- Each connection in the table passes the test.
 abbrev pub AllPass : (ℕ → Bool) → WatchPairs → Type 0
-AllPass test pairs = (path : Bytes) (conn : ℕ) → set.contains pairs (path, conn) ≡ true → test conn ≡ true
+AllPass test pairs = (path : Bytes) (connection : ℕ) → set.contains pairs (path, connection) ≡ true → test connection
+    ≡ true
 
 -- Each connection with a lasting watch passes the test.
 abbrev pub AllLastingPass : (ℕ → Bool) → LastingWatches → Type 0
 AllLastingPass test lasting =
-    (path : Bytes) (conn : ℕ) → finmap.contains_key lasting (path, conn) ≡ true → test conn ≡ true
+    (path : Bytes) (connection : ℕ) → finmap.contains_key lasting (path, connection) ≡ true → test connection ≡ true
 
 -- Each connection that watches something passes the test.
 abbrev pub WatchersPass : (ℕ → Bool) → WatchTables → Type 0
-WatchersPass test w = AllPass test w.own × AllPass test w.child × AllLastingPass test w.lasting
+WatchersPass test w = AllPass test w.data_watches × AllPass test w.child × AllLastingPass test w.lasting
 
 -- Only watchers get an event, and no connection watches anew: a test that all watchers pass is passed by each
 -- connection that gets an event, and by all watchers afterwards.
@@ -52,39 +53,40 @@ NoEventKeepsWatches = (w : WatchTables) (triggers : List Trigger) → (fire w tr
 -- A connection that was dropped watches nothing, and no connection watches anew.
 abbrev pub DroppedWatchesNothing : Type 0
 DroppedWatchesNothing =
-    (test : ℕ → Bool) (w : WatchTables) (conn : ℕ) → WatchersPass (λ c. test c || same_connection conn c) w
-    → WatchersPass test (without_watches_of conn w)
+    (test : ℕ → Bool) (w : WatchTables) (connection : ℕ) → WatchersPass (λ c. test c || same_connection connection c) w
+    → WatchersPass test (without_watches_of connection w)
 
 -- Setting a watch and dropping a connection leave the watches of every other connection.
 pub record OthersKeepWatches : Type 0 where
-  pub sets : (pairs : WatchPairs) (path : Bytes) (conn : ℕ) (p : Bytes) (other : ℕ) → other ≢ conn
-      → set.contains (set.insert pairs (path, conn)) (p, other) ≡ set.contains pairs (p, other)
-  pub drops : (pairs : WatchPairs) (conn : ℕ) (p : Bytes) (other : ℕ) → other ≢ conn
-      → set.contains (without_connection conn pairs) (p, other) ≡ set.contains pairs (p, other)
-  pub sets_lasting : (lasting : LastingWatches) (path : Bytes) (conn : ℕ) (mode : WatchMode) (p : Bytes) (other : ℕ)
-      → other ≢ conn → finmap.get (finmap.insert lasting (path, conn) mode) (p, other)
+  pub sets : (pairs : WatchPairs) (path : Bytes) (connection : ℕ) (p : Bytes) (other : ℕ) → other ≢ connection
+      → set.contains (set.insert pairs (path, connection)) (p, other) ≡ set.contains pairs (p, other)
+  pub drops : (pairs : WatchPairs) (connection : ℕ) (p : Bytes) (other : ℕ) → other ≢ connection
+      → set.contains (without_connection connection pairs) (p, other) ≡ set.contains pairs (p, other)
+  pub sets_lasting : (lasting : LastingWatches) (path : Bytes) (connection : ℕ) (mode : WatchMode) (p : Bytes)
+      (other : ℕ)
+      → other ≢ connection → finmap.get (finmap.insert lasting (path, connection) mode) (p, other)
       ≡ finmap.get lasting (p, other)
-  pub drops_lasting : (lasting : LastingWatches) (conn : ℕ) (p : Bytes) (other : ℕ) → other ≢ conn
-      → finmap.get (without_lasting_of conn lasting) (p, other) ≡ finmap.get lasting (p, other)
+  pub drops_lasting : (lasting : LastingWatches) (connection : ℕ) (p : Bytes) (other : ℕ) → other ≢ connection
+      → finmap.get (without_lasting_of connection lasting) (p, other) ≡ finmap.get lasting (p, other)
 
 -- No trigger uses up a lasting watch.
 abbrev pub LastingWatchesStay : Type 0
 LastingWatchesStay = (w : WatchTables) (triggers : List Trigger) → (fire w triggers).left.lasting ≡ w.lasting
 
 -- The connection has a recursive watch on the path or above it.
-pub record WatchesRecursively (w : WatchTables) (path : Bytes) (conn : ℕ) : Type 0 where
+pub record WatchesRecursively (w : WatchTables) (path : Bytes) (connection : ℕ) : Type 0 where
   pub on : Bytes
-  pub is_set : finmap.get w.lasting (on, conn) ≡ Some Recursive
+  pub is_set : finmap.get w.lasting (on, connection) ≡ Some Recursive
   pub reaches : (same_path on path || is_above on path) ≡ true
 
 -- It is told of each creation, deletion and change of data.
 pub record RecursiveWatchersAreTold : Type 0 where
-  pub created : (w : WatchTables) (path : Bytes) (conn : ℕ) → WatchesRecursively w path conn
-      → Contains (events_of_trigger w (Created path)) (event_for conn NodeCreated path)
-  pub deleted : (w : WatchTables) (path : Bytes) (conn : ℕ) → WatchesRecursively w path conn
-      → Contains (events_of_trigger w (Deleted path)) (event_for conn NodeDeleted path)
-  pub changed : (w : WatchTables) (path : Bytes) (conn : ℕ) → WatchesRecursively w path conn
-      → Contains (events_of_trigger w (DataChanged path)) (event_for conn NodeDataChanged path)
+  pub created : (w : WatchTables) (path : Bytes) (connection : ℕ) → WatchesRecursively w path connection
+      → Contains (events_of_trigger w (Created path)) (event_for connection NodeCreated path)
+  pub deleted : (w : WatchTables) (path : Bytes) (connection : ℕ) → WatchesRecursively w path connection
+      → Contains (events_of_trigger w (Deleted path)) (event_for connection NodeDeleted path)
+  pub changed : (w : WatchTables) (path : Bytes) (connection : ℕ) → WatchesRecursively w path connection
+      → Contains (events_of_trigger w (DataChanged path)) (event_for connection NodeDataChanged path)
 
 -- The connections of the events strictly rise.
 abbrev pub IsInConnectionOrder : List (ℕ × Event) → Type 0

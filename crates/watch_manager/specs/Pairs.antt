@@ -14,7 +14,7 @@ ConnectionSet = set.FinSet nat_cmp
 -- The connections in ascending order of their numbers.
 abbrev pub sorted_connections : ConnectionSet → List ℕ
 sorted_connections conns = finmap.keys
-    (finmap.from_entries {R = nat_cmp} (map (λ (conn : ℕ). (conn, tt {0})) (set.items conns)))
+    (finmap.from_entries {R = nat_cmp} (map (λ (connection : ℕ). (connection, tt {0})) (set.items conns)))
 
 -- By path, then by connection.
 abbrev pub watch_cmp : Bytes × ℕ → Bytes × ℕ → Ordering
@@ -38,8 +38,8 @@ abbrev pub without_watches_on : Bytes → WatchPairs → WatchPairs
 without_watches_on path pairs = set.retain pairs (λ (p : Bytes × ℕ). not (same_path path p.0))
 
 abbrev pub without_connection : ℕ → WatchPairs → WatchPairs
-without_connection conn pairs = set.retain pairs (λ (p : Bytes × ℕ). not (same_connection conn p.1))
+without_connection connection pairs = set.retain pairs (λ (p : Bytes × ℕ). not (same_connection connection p.1))
 
 -- The pairs of one connection.
 abbrev pub pairs_of_connection : ℕ → WatchPairs → WatchPairs
-pairs_of_connection conn pairs = set.retain pairs (λ (p : Bytes × ℕ). same_connection conn p.1)
+pairs_of_connection connection pairs = set.retain pairs (λ (p : Bytes × ℕ). same_connection connection p.1)

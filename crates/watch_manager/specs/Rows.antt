@@ -32,7 +32,11 @@ path_b_g = codes "/b/g"
 
 -- These data watches and child watches.
 abbrev pub watches_on : List (Bytes × ℕ) → List (Bytes × ℕ) → WatchTables
-watches_on own child = record { own = set.from_list own; child = set.from_list child; lasting = finmap.empty }
+watches_on data_watches child = record {
+  data_watches = set.from_list data_watches;
+  child = set.from_list child;
+  lasting = finmap.empty;
+}
 
 -- With these lasting watches.
 abbrev pub lasting_on : List ((Bytes × ℕ) × WatchMode) → WatchTables → WatchTables

@@ -20,15 +20,15 @@ table_rank Lasting = 2
 -- By path, then by connection, and the data watch before the child watch, and that before the lasting one.
 abbrev pub watched_cmp : Watched → Watched → Ordering
 watched_cmp =
-    then_cmp (then_cmp (on (λ (w : Watched). w.path) path_cmp) (on (λ (w : Watched). w.conn) nat_cmp))
+    then_cmp (then_cmp (on (λ (w : Watched). w.path) path_cmp) (on (λ (w : Watched). w.connection) nat_cmp))
     (on (λ (w : Watched). table_rank w.table) nat_cmp)
 
 -- The pair as a watch of this table.
 abbrev pub watched_in : Table → Bytes × ℕ → Watched
-watched_in table pair = record { path = pair.0; conn = pair.1; table = table }
+watched_in table pair = record { path = pair.0; connection = pair.1; table = table }
 
 -- Each watch of the three tables once, in ascending order.
 abbrev pub summary : WatchTables → List Watched
 summary w = sorted_distinct watched_cmp
-    (map (watched_in Own) (set.items w.own) ++ map (watched_in Child) (set.items w.child)
+    (map (watched_in Own) (set.items w.data_watches) ++ map (watched_in Child) (set.items w.child)
     ++ map (watched_in Lasting) (finmap.keys w.lasting))

@@ -7,5 +7,5 @@ use Rattle.watch_manager.specs.declared.watched.Watched.{Watched}
 pub watched_total : IsTotalOrder watched_cmp
 watched_total =
     then_total (then_total (on_total (λ (w : Watched). w.path) nat_list_cmp_total)
-    (on_total (λ (w : Watched). w.conn) nat_cmp_total))
+    (on_total (λ (w : Watched). w.connection) nat_cmp_total))
     (on_total (λ (w : Watched). table_rank w.table) nat_cmp_total)

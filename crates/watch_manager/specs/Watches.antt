@@ -13,19 +13,20 @@ use Rattle.watch_manager.specs.declared.event.EventKind.{EventKind}
 use Rattle.watch_manager.specs.declared.event.EventKind.TheVariants.{NodeCreated, NodeDeleted, NodeDataChanged, NodeChildrenChanged}
 
 abbrev pub event_for : ℕ → EventKind → Bytes → ℕ × Event
-event_for conn kind path = (conn, record { kind = kind; path = path })
+event_for connection kind path = (connection, record { kind = kind; path = path })
 
 -- Each of the connections gets an event of this kind at the path.
 abbrev pub events_for : EventKind → Bytes → List ℕ → List (ℕ × Event)
-events_for kind path conns = map (λ (conn : ℕ). event_for conn kind path) conns
+events_for kind path conns = map (λ (connection : ℕ). event_for connection kind path) conns
 
 -- In ascending order of their numbers, without those that got the event already.
 abbrev pub connections_not_told : ConnectionSet → ConnectionSet → List ℕ
-connections_not_told already conns = filter (λ (conn : ℕ). not (set.contains already conn)) (sorted_connections conns)
+connections_not_told already conns = filter (λ (connection : ℕ). not (set.contains already connection))
+    (sorted_connections conns)
 
 -- The connections that are told that the node was created, changed or deleted.
 abbrev pub node_watchers : Bytes → WatchTables → ConnectionSet
-node_watchers path w = set.union (watchers_of path w.own) (lasting_watchers path w.lasting)
+node_watchers path w = set.union (watchers_of path w.data_watches) (lasting_watchers path w.lasting)
 
 -- The connections that are told that the children changed: a recursive watch isn't told of it.
 abbrev pub children_watchers : Bytes → WatchTables → ConnectionSet
@@ -44,10 +45,10 @@ events_of_trigger w (ChildrenChanged path) =
 -- The watches after a trigger. Data and child watches on which it fires are used up, even where the connection has got
 -- the event already.
 abbrev pub watches_after : WatchTables → Trigger → WatchTables
-watches_after w (Created path) = record w { own = without_watches_on path w.own }
+watches_after w (Created path) = record w { data_watches = without_watches_on path w.data_watches }
 watches_after w (Deleted path) =
-    record w { own = without_watches_on path w.own; child = without_watches_on path w.child }
-watches_after w (DataChanged path) = record w { own = without_watches_on path w.own }
+    record w { data_watches = without_watches_on path w.data_watches; child = without_watches_on path w.child }
+watches_after w (DataChanged path) = record w { data_watches = without_watches_on path w.data_watches }
 watches_after w (ChildrenChanged path) = record w { child = without_watches_on path w.child }
 
 -- Connections with their events, in order, and the watches left.

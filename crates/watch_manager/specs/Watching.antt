@@ -10,26 +10,27 @@ use Rattle.watch_manager.specs.declared.mode.WatchMode.{WatchMode}
 
 -- The data watches, the child watches, and those that aren't used up.
 pub record WatchTables : Type 0 where
-  pub own : WatchPairs
+  pub data_watches : WatchPairs
   pub child : WatchPairs
   pub lasting : LastingWatches
 
 abbrev pub no_watch : WatchTables
-no_watch = record { own = set.empty; child = set.empty; lasting = finmap.empty }
+no_watch = record { data_watches = set.empty; child = set.empty; lasting = finmap.empty }
 
 -- Adding it again replaces its mode.
 abbrev pub with_lasting_watch : ℕ → List ℕ → WatchMode → WatchTables → WatchTables
-with_lasting_watch conn path mode w = record w { lasting = finmap.insert w.lasting (path, conn) mode }
+with_lasting_watch connection path mode w = record w { lasting = finmap.insert w.lasting (path, connection) mode }
 
 abbrev pub without_lasting_of : ℕ → LastingWatches → LastingWatches
-without_lasting_of conn lasting = finmap.retain_keys lasting (λ (p : Bytes × ℕ). not (same_connection conn p.1))
+without_lasting_of connection lasting = finmap.retain_keys lasting
+    (λ (p : Bytes × ℕ). not (same_connection connection p.1))
 
 -- A connection that closes loses its watches.
 abbrev pub without_watches_of : ℕ → WatchTables → WatchTables
-without_watches_of conn w = record {
-  own = without_connection conn w.own;
-  child = without_connection conn w.child;
-  lasting = without_lasting_of conn w.lasting;
+without_watches_of connection w = record {
+  data_watches = without_connection connection w.data_watches;
+  child = without_connection connection w.child;
+  lasting = without_lasting_of connection w.lasting;
 }
 
 abbrev pub watch_tables_code : Coded WatchTables
@@ -38,4 +39,5 @@ watch_tables_code =
     (coded× (set.code {R = watch_cmp} (coded× (coded_list coded_ℕ) coded_ℕ))
     (coded× (set.code {R = watch_cmp} (coded× (coded_list coded_ℕ) coded_ℕ))
     (finmap.code {R = watch_cmp} (coded× (coded_list coded_ℕ) coded_ℕ) watch_mode_code)))
-    (λ w. (w.own, (w.child, w.lasting))) (λ p. record { own = p.0; child = p.1.0; lasting = p.1.1 }) (λ _. refl)
+    (λ w. (w.data_watches, (w.child, w.lasting))) (λ p. record { data_watches = p.0; child = p.1.0; lasting = p.1.1 })
+    (λ _. refl)

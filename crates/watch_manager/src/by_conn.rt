@@ -53,32 +53,32 @@ impl ByConn {
     }
 
     /// Whether the connection watches something.
-    pub fn contains_conn(&self, conn: u64) -> bool
-        ensures { result ≡ set.contains (keys_in nat_cmp self.now) conn }
+    pub(crate) fn contains_conn(&self, connection: u64) -> bool
+        ensures { result ≡ set.contains (keys_in nat_cmp self.now) connection }
     {
-        self.map.contains_key(&conn)
+        self.map.contains_key(&connection)
     }
 
     // Whether the connection watches something in one of the tables.
-    fn is_in_one(conn: u64, first: &ByConn, second: &ByConn, third: &ByConn) -> bool
-        ensures { result ≡ set.contains (keys_in_one nat_cmp first.now second.now third.now) conn }
+    fn is_in_one(connection: u64, first: &ByConn, second: &ByConn, third: &ByConn) -> bool
+        ensures { result ≡ set.contains (keys_in_one nat_cmp first.now second.now third.now) connection }
     {
-        if first.contains_conn(conn) {
+        if first.contains_conn(connection) {
             return true;
         }
-        if second.contains_conn(conn) {
+        if second.contains_conn(connection) {
             return true;
         }
-        third.contains_conn(conn)
+        third.contains_conn(connection)
     }
 
     /// The number of connections that watch something here and nothing in the other tables.
-    pub fn count_beyond(&self, first: &ByConn, second: &ByConn, third: &ByConn) -> usize
+    pub(crate) fn count_beyond(&self, first: &ByConn, second: &ByConn, third: &ByConn) -> usize
         ensures { result ≡ set.len (keys_beyond nat_cmp self.now first.now second.now third.now) }
     {
         let mut count = self.map.len();
-        for (conn, _) in self.map.iter() {
-            if ByConn::is_in_one(*conn, first, second, third) {
+        for (connection, _) in self.map.iter() {
+            if ByConn::is_in_one(*connection, first, second, third) {
                 count -= 1;
             }
         }
@@ -86,25 +86,25 @@ impl ByConn {
     }
 
     /// The paths that the connection watches; None if it watches nothing.
-    pub fn of(&self, conn: u64) -> Option<&TextSet>
+    pub fn of(&self, connection: u64) -> Option<&TextSet>
         ensures paths { IfSome result
-            (λ paths. (p : List ℕ) → set.contains paths.now p ≡ set.contains self.now (conn, p)) }
+            (λ paths. (p : List ℕ) → set.contains paths.now p ≡ set.contains self.now (connection, p)) }
         ensures none { IfNone result
-            ((p : List ℕ) → set.contains self.now (conn, p) ≡ false) }
+            ((p : List ℕ) → set.contains self.now (connection, p) ≡ false) }
     {
-        match self.map.get(&conn) {
+        match self.map.get(&connection) {
             None => return None,
             Some(paths) => Some(paths),
         }
     }
 
     /// Adds a pair. A refused allocation changes nothing.
-    pub fn insert(&mut self, alloc: Global, conn: u64, path: &str) -> Result<(), NoMemory>
-        ensures ok { OnOk result (self.new ≡ set.insert self.old (conn, path.now)) }
+    pub fn insert(&mut self, alloc: Global, connection: u64, path: &str) -> Result<(), NoMemory>
+        ensures ok { OnOk result (self.new ≡ set.insert self.old (connection, path.now)) }
         ensures err { OnErr result (self.new ≡ self.old) }
     {
         let path = String::from_str(alloc, path)?;
-        match self.map.get_mut(&conn) {
+        match self.map.get_mut(&connection) {
             Some(paths) => {
                 paths.insert(path)?;
                 Ok(())
@@ -112,17 +112,17 @@ impl ByConn {
             None => {
                 let mut paths = TextSet::new(alloc);
                 paths.insert(path)?;
-                self.map.insert(conn, paths)?;
+                self.map.insert(connection, paths)?;
                 Ok(())
             }
         }
     }
 
     /// Removes a pair. A connection's set goes with its last path.
-    pub fn remove(&mut self, conn: u64, path: &str)
-        ensures { self.new ≡ set.remove self.old (conn, path.now) }
+    pub fn remove(&mut self, connection: u64, path: &str)
+        ensures { self.new ≡ set.remove self.old (connection, path.now) }
     {
-        match self.map.get_mut(&conn) {
+        match self.map.get_mut(&connection) {
             None => return,
             Some(paths) => {
                 paths.remove(path);
@@ -131,26 +131,26 @@ impl ByConn {
                 }
             }
         }
-        self.map.remove(&conn);
+        self.map.remove(&connection);
     }
 
     /// Removes the path from each of the connections.
     pub fn remove_all(&mut self, conns: &ConnSet, path: &str)
         ensures { self.new ≡ without_conns path.now (sorted_connections conns.now) self.old }
     {
-        for conn in conns.iter() {
-            self.remove(*conn, path);
+        for connection in conns.iter() {
+            self.remove(*connection, path);
         }
     }
 
     /// Removes all pairs of a connection and returns its paths; None if it watches nothing.
-    pub fn take(&mut self, conn: u64) -> Option<TextSet>
+    pub fn take(&mut self, connection: u64) -> Option<TextSet>
         ensures paths { IfSome result
-            (λ paths. (p : List ℕ) → set.contains paths p ≡ set.contains self.old (conn, p)) }
+            (λ paths. (p : List ℕ) → set.contains paths p ≡ set.contains self.old (connection, p)) }
         ensures none { IfNone result
-            ((p : List ℕ) → set.contains self.old (conn, p) ≡ false) }
-        ensures rest { self.new ≡ without_key conn self.old }
+            ((p : List ℕ) → set.contains self.old (connection, p) ≡ false) }
+        ensures rest { self.new ≡ without_key connection self.old }
     {
-        self.map.remove(&conn)
+        self.map.remove(&connection)
     }
 }

@@ -57,7 +57,7 @@ impl ByPath {
     }
 
     /// Whether the path is watched.
-    pub fn contains_path(&self, path: &str) -> bool
+    pub(crate) fn contains_path(&self, path: &str) -> bool
         ensures { result ≡ set.contains (keys_in path_cmp self.now) path.now }
     {
         self.map.contains_key(TextQuery(path))
@@ -77,7 +77,7 @@ impl ByPath {
     }
 
     /// The number of paths that are watched here and not in the other tables.
-    pub fn count_beyond(&self, first: &ByPath, second: &ByPath, third: &ByPath) -> usize
+    pub(crate) fn count_beyond(&self, first: &ByPath, second: &ByPath, third: &ByPath) -> usize
         ensures { result ≡ set.len (keys_beyond path_cmp self.now first.now second.now third.now) }
     {
         let mut count = self.map.len();
@@ -109,17 +109,17 @@ impl ByPath {
     }
 
     /// Adds a pair and returns whether it is new. A refused allocation changes nothing.
-    pub fn insert(&mut self, alloc: Global, path: &str, conn: u64) -> Result<bool, NoMemory>
-        ensures ok { OnOk result (self.new ≡ set.insert self.old (path.now, conn)) }
+    pub fn insert(&mut self, alloc: Global, path: &str, connection: u64) -> Result<bool, NoMemory>
+        ensures ok { OnOk result (self.new ≡ set.insert self.old (path.now, connection)) }
         ensures added { IfOk result
-            (λ added. added ≡ not (set.contains self.old (path.now, conn))) }
+            (λ added. added ≡ not (set.contains self.old (path.now, connection))) }
         ensures err { OnErr result (self.new ≡ self.old) }
     {
         match self.map.get_mut(TextQuery(path)) {
-            Some(conns) => Ok(conns.insert(conn)?),
+            Some(conns) => Ok(conns.insert(connection)?),
             None => {
                 let mut conns = ConnSet::new(alloc);
-                conns.insert(conn)?;
+                conns.insert(connection)?;
                 self.map.insert(String::from_str(alloc, path)?, conns)?;
                 Ok(true)
             }
@@ -127,13 +127,13 @@ impl ByPath {
     }
 
     /// Removes a pair. A path's set goes with its last connection.
-    pub fn remove(&mut self, path: &str, conn: u64)
-        ensures { self.new ≡ set.remove self.old (path.now, conn) }
+    pub fn remove(&mut self, path: &str, connection: u64)
+        ensures { self.new ≡ set.remove self.old (path.now, connection) }
     {
         match self.map.get_mut(TextQuery(path)) {
             None => return,
             Some(conns) => {
-                conns.remove(conn);
+                conns.remove(connection);
                 if !conns.is_empty() {
                     return;
                 }
@@ -143,11 +143,11 @@ impl ByPath {
     }
 
     /// Removes the connection from each of the paths.
-    pub fn remove_all(&mut self, paths: &TextSet, conn: u64)
-        ensures { self.new ≡ without_watched_paths conn (sorted_names paths.now) self.old }
+    pub fn remove_all(&mut self, paths: &TextSet, connection: u64)
+        ensures { self.new ≡ without_watched_paths connection (sorted_names paths.now) self.old }
     {
         for path in paths.iter() {
-            self.remove(path.as_str(), conn);
+            self.remove(path.as_str(), connection);
         }
     }
 

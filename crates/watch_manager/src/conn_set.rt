@@ -54,27 +54,27 @@ impl ConnSet {
     }
 
     /// Whether the connection is in the set.
-    pub fn contains(&self, conn: u64) -> bool
-        ensures { result ≡ set.contains self.now conn }
+    pub fn contains(&self, connection: u64) -> bool
+        ensures { result ≡ set.contains self.now connection }
     {
-        self.conns.contains(&conn)
+        self.conns.contains(&connection)
     }
 
     /// Adds a connection and returns whether it is new. A refused allocation changes nothing.
-    pub fn insert(&mut self, conn: u64) -> Result<bool, NoMemory>
-        ensures ok { OnOk result (self.new ≡ set.insert self.old conn) }
-        ensures added { IfOk result (λ added. added ≡ not (set.contains self.old conn)) }
+    pub fn insert(&mut self, connection: u64) -> Result<bool, NoMemory>
+        ensures ok { OnOk result (self.new ≡ set.insert self.old connection) }
+        ensures added { IfOk result (λ added. added ≡ not (set.contains self.old connection)) }
         ensures err { OnErr result (self.new ≡ self.old) }
     {
-        Ok(self.conns.insert(conn)?)
+        Ok(self.conns.insert(connection)?)
     }
 
     /// Adds each connection of the other set.
     pub fn add_all(&mut self, others: &ConnSet) -> Result<(), NoMemory>
         ensures { OnOk result (self.new ≡ set.union self.old others.now) }
     {
-        for conn in others.iter() {
-            self.insert(*conn)?;
+        for connection in others.iter() {
+            self.insert(*connection)?;
         }
         Ok(())
     }
@@ -90,10 +90,10 @@ impl ConnSet {
     }
 
     /// Removes a connection.
-    pub fn remove(&mut self, conn: u64)
-        ensures { self.new ≡ set.remove self.old conn }
+    pub fn remove(&mut self, connection: u64)
+        ensures { self.new ≡ set.remove self.old connection }
     {
-        self.conns.remove(&conn);
+        self.conns.remove(&connection);
     }
 
     /// The connections in ascending order of their numbers.

@@ -70,7 +70,7 @@ impl LastingTable {
     }
 
     /// The connections with a persistent watch on the path.
-    pub fn persistent_watchers(&self, alloc: Global, path: &str) -> Result<ConnSet, NoMemory>
+    pub(crate) fn persistent_watchers(&self, alloc: Global, path: &str) -> Result<ConnSet, NoMemory>
         ensures { IfOk result (λ conns. conns ≡ persistent_watchers path.now self.now) }
     {
         let mut conns = ConnSet::new(alloc);
@@ -91,31 +91,31 @@ impl LastingTable {
     pub fn set(
         &mut self,
         alloc: Global,
-        conn: u64,
+        connection: u64,
         path: &str,
         mode: WatchMode,
     ) -> Result<(), NoMemory>
-        ensures ok { OnOk result (self.new ≡ finmap.insert self.old (path.now, conn) mode) }
+        ensures ok { OnOk result (self.new ≡ finmap.insert self.old (path.now, connection) mode) }
         ensures err { OnErr result (self.new ≡ self.old) }
     {
         match mode {
             WatchMode::Persistent => {
-                self.persistent.set(alloc, conn, path)?;
-                self.recursive.remove(conn, path);
+                self.persistent.set(alloc, connection, path)?;
+                self.recursive.remove(connection, path);
             }
             WatchMode::Recursive => {
-                self.recursive.set(alloc, conn, path)?;
-                self.persistent.remove(conn, path);
+                self.recursive.set(alloc, connection, path)?;
+                self.persistent.remove(connection, path);
             }
         }
         Ok(())
     }
 
     /// Removes the watches of a connection. Allocates nothing.
-    pub fn drop_conn(&mut self, conn: u64)
-        ensures { self.new ≡ without_lasting_of conn self.old }
+    pub fn drop_conn(&mut self, connection: u64)
+        ensures { self.new ≡ without_lasting_of connection self.old }
     {
-        self.persistent.drop_conn(conn);
-        self.recursive.drop_conn(conn);
+        self.persistent.drop_conn(connection);
+        self.recursive.drop_conn(connection);
     }
 }

@@ -79,7 +79,7 @@ impl RecursiveTable {
     }
 
     /// Adds the connections that watch the path or one above it.
-    pub fn add_watchers_above(&self, conns: &mut ConnSet, path: &str) -> Result<(), NoMemory>
+    pub(crate) fn add_watchers_above(&self, conns: &mut ConnSet, path: &str) -> Result<(), NoMemory>
         ensures { OnOk result (conns.new ≡ set.union conns.old (watchers_above path.now self.now)) }
     {
         if self.lengths.is_empty() {
@@ -91,12 +91,12 @@ impl RecursiveTable {
     }
 
     /// Sets a watch; it may be set already. A refused allocation changes nothing.
-    pub fn set(&mut self, alloc: Global, conn: u64, path: &str) -> Result<(), NoMemory>
-        ensures ok { OnOk result (self.new ≡ set.insert self.old (path.now, conn)) }
+    pub fn set(&mut self, alloc: Global, connection: u64, path: &str) -> Result<(), NoMemory>
+        ensures ok { OnOk result (self.new ≡ set.insert self.old (path.now, connection)) }
         ensures err { OnErr result (self.new ≡ self.old) }
     {
         self.lengths.insert(path.len())?;
-        self.table.set(alloc, conn, path)?;
+        self.table.set(alloc, connection, path)?;
         Ok(())
     }
 
@@ -110,18 +110,18 @@ impl RecursiveTable {
     }
 
     /// Removes a watch. Allocates nothing.
-    pub fn remove(&mut self, conn: u64, path: &str)
-        ensures { self.new ≡ set.remove self.old (path.now, conn) }
+    pub fn remove(&mut self, connection: u64, path: &str)
+        ensures { self.new ≡ set.remove self.old (path.now, connection) }
     {
-        self.table.remove(conn, path);
+        self.table.remove(connection, path);
         self.free_lengths();
     }
 
     /// Removes the watches of a connection. Allocates nothing.
-    pub fn drop_conn(&mut self, conn: u64)
-        ensures { self.new ≡ without_connection conn self.old }
+    pub fn drop_conn(&mut self, connection: u64)
+        ensures { self.new ≡ without_connection connection self.old }
     {
-        self.table.drop_conn(conn);
+        self.table.drop_conn(connection);
         self.free_lengths();
     }
 }

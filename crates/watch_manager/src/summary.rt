@@ -24,16 +24,20 @@ fn add_conns<'a>(
     ensures { OnOk result (rows.new.keys ≡
         with_inserted_keys watched_cmp rows.old.keys (path_rows table path.now (sorted_connections conns.now))) }
 {
-    for conn in conns.iter() {
+    for connection in conns.iter() {
         let path = Str::new(path);
-        let conn = *conn;
-        rows.insert(Watched { path, conn, table })?;
+        let connection = *connection;
+        rows.insert(Watched {
+            path,
+            connection,
+            table,
+        })?;
     }
     Ok(())
 }
 
 /// Adds the watches of a table. Fails only if an allocation is refused.
-pub fn add_table<'a>(
+pub(crate) fn add_table<'a>(
     rows: &mut BTreeSet<Watched<'a>>,
     watches: &'a WatchTable,
     table: Table,

@@ -71,10 +71,10 @@ impl WatchTable {
     }
 
     /// The number of watches of a connection.
-    pub fn count_of(&self, conn: u64) -> usize
-        ensures { result ≡ set.len (pairs_of_connection conn self.now) }
+    pub fn count_of(&self, connection: u64) -> usize
+        ensures { result ≡ set.len (pairs_of_connection connection self.now) }
     {
-        match self.by_conn.of(conn) {
+        match self.by_conn.of(connection) {
             None => 0,
             Some(paths) => paths.len(),
         }
@@ -96,7 +96,12 @@ impl WatchTable {
 
     /// The number of paths that are watched here and not in the other tables. Takes time linear in the number of paths
     /// that are watched here.
-    pub fn paths_beyond(&self, first: &WatchTable, second: &WatchTable, third: &WatchTable) -> usize
+    pub(crate) fn paths_beyond(
+        &self,
+        first: &WatchTable,
+        second: &WatchTable,
+        third: &WatchTable,
+    ) -> usize
         ensures { result ≡ set.len (keys_beyond path_cmp self.now first.now second.now third.now) }
     {
         self.by_path
@@ -105,7 +110,7 @@ impl WatchTable {
 
     /// The number of connections that watch something here and nothing in the other tables. Takes time linear in the
     /// number of connections that watch something here.
-    pub fn connections_beyond(
+    pub(crate) fn connections_beyond(
         &self,
         first: &WatchTable,
         second: &WatchTable,
@@ -126,7 +131,7 @@ impl WatchTable {
     }
 
     /// Adds the connections that watch the path.
-    pub fn add_watchers(&self, conns: &mut ConnSet, path: &str) -> Result<(), NoMemory>
+    pub(crate) fn add_watchers(&self, conns: &mut ConnSet, path: &str) -> Result<(), NoMemory>
         ensures { OnOk result (conns.new ≡ set.union conns.old (watchers_of path.now self.now)) }
     {
         match self.watchers(path) {
@@ -144,42 +149,42 @@ impl WatchTable {
     }
 
     /// Sets a watch; it may be set already. A refused allocation changes nothing.
-    pub fn set(&mut self, alloc: Global, conn: u64, path: &str) -> Result<(), NoMemory>
-        ensures ok { OnOk result (self.new ≡ set.insert self.old (path.now, conn)) }
+    pub fn set(&mut self, alloc: Global, connection: u64, path: &str) -> Result<(), NoMemory>
+        ensures ok { OnOk result (self.new ≡ set.insert self.old (path.now, connection)) }
         ensures err { OnErr result (self.new ≡ self.old) }
     {
         // Each watch takes more than a byte of memory, so memory runs out before the count overflows.
         let count = self.count.checked_add(1).ok_or(NoMemory)?;
-        if !self.by_path.insert(alloc, path, conn)? {
+        if !self.by_path.insert(alloc, path, connection)? {
             return Ok(());
         }
-        match self.by_conn.insert(alloc, conn, path) {
+        match self.by_conn.insert(alloc, connection, path) {
             Ok(()) => {
                 self.count = count;
                 return Ok(());
             }
             Err(refused) => {
-                self.by_path.remove(path, conn);
+                self.by_path.remove(path, connection);
                 Err(refused)
             }
         }
     }
 
     /// Removes a watch. Allocates nothing.
-    pub fn remove(&mut self, conn: u64, path: &str)
-        ensures { self.new ≡ set.remove self.old (path.now, conn) }
+    pub fn remove(&mut self, connection: u64, path: &str)
+        ensures { self.new ≡ set.remove self.old (path.now, connection) }
     {
         match self.watchers(path) {
             None => return,
             Some(conns) => {
-                if !conns.contains(conn) {
+                if !conns.contains(connection) {
                     return;
                 }
             }
         }
         self.count -= 1;
-        self.by_conn.remove(conn, path);
-        self.by_path.remove(path, conn)
+        self.by_conn.remove(connection, path);
+        self.by_path.remove(path, connection)
     }
 
     /// Removes the watches on a path. Allocates nothing.
@@ -196,14 +201,14 @@ impl WatchTable {
     }
 
     /// Removes the watches of a connection. Allocates nothing.
-    pub fn drop_conn(&mut self, conn: u64)
-        ensures { self.new ≡ without_connection conn self.old }
+    pub fn drop_conn(&mut self, connection: u64)
+        ensures { self.new ≡ without_connection connection self.old }
     {
-        match self.by_conn.take(conn) {
+        match self.by_conn.take(connection) {
             None => return,
             Some(paths) => {
                 self.count -= paths.len();
-                self.by_path.remove_all(&paths, conn)
+                self.by_path.remove_all(&paths, connection)
             }
         }
     }

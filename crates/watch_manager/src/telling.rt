@@ -29,18 +29,18 @@ fn tell_each(
     ensures { OnOk result
         (events.new.items ≡ events.old.items ++ events_for kind path.now (sorted_connections conns.now)) }
 {
-    for conn in conns.iter() {
+    for connection in conns.iter() {
         let path = Text::new(alloc, path)?;
-        events.push((*conn, Event { kind, path }))?;
+        events.push((*connection, Event { kind, path }))?;
     }
     Ok(())
 }
 
 // Whether the connection is in either set.
-fn is_told(watchers: &ConnSet, lasting: &ConnSet, conn: u64) -> bool
-    ensures { result ≡ set.contains (set.union watchers.now lasting.now) conn }
+fn is_told(watchers: &ConnSet, lasting: &ConnSet, connection: u64) -> bool
+    ensures { result ≡ set.contains (set.union watchers.now lasting.now) connection }
 {
-    watchers.contains(conn) || lasting.contains(conn)
+    watchers.contains(connection) || lasting.contains(connection)
 }
 
 // Adds an event for each of the connections except those that have one already: these watchers, and these with a
@@ -57,10 +57,10 @@ fn tell_others(
     ensures { OnOk result (events.new.items ≡ events.old.items
         ++ events_for kind path.now (connections_not_told (set.union watchers.now lasting.now) conns.now)) }
 {
-    for conn in conns.iter() {
-        if !is_told(watchers, lasting, *conn) {
+    for connection in conns.iter() {
+        if !is_told(watchers, lasting, *connection) {
             let path = Text::new(alloc, path)?;
-            events.push((*conn, Event { kind, path }))?;
+            events.push((*connection, Event { kind, path }))?;
         }
     }
     Ok(())
@@ -91,16 +91,24 @@ fn tell_node(
     alloc: Global,
     kind: EventKind,
     path: &str,
-    own: &mut UnusedWatches<'_>,
+    data_watches: &mut UnusedWatches<'_>,
     lasting: &LastingTable,
 ) -> Result<(), NoMemory>
     ensures events { OnOk result (events.new.items ≡ events.old.items ++ events_for kind path.now
-        (sorted_connections (set.union (watchers_of path.now own.old) (lasting_watchers path.now lasting.now)))) }
-    ensures left { OnOk result (own.new ≡ without_watches_on path.now own.old) }
+        (sorted_connections (set.union (watchers_of path.now data_watches.old)
+        (lasting_watchers path.now lasting.now)))) }
+    ensures left { OnOk result (data_watches.new ≡ without_watches_on path.now data_watches.old) }
 {
     let lasting = lasting.watchers(alloc, path)?;
-    tell_part(events, alloc, kind, path, own.watchers(path), &lasting)?;
-    own.use_up(alloc, path)
+    tell_part(
+        events,
+        alloc,
+        kind,
+        path,
+        data_watches.watchers(path),
+        &lasting,
+    )?;
+    data_watches.use_up(alloc, path)
 }
 
 // Tells that the children of the node changed, and uses up its child watches.
@@ -126,18 +134,18 @@ fn tell_deleted(
     events: &mut Vec<(u64, Event)>,
     alloc: Global,
     path: &str,
-    own: &mut UnusedWatches<'_>,
+    data_watches: &mut UnusedWatches<'_>,
     child: &mut UnusedWatches<'_>,
     lasting: &LastingTable,
 ) -> Result<(), NoMemory>
     ensures events { OnOk result (events.new.items ≡ events.old.items
-        ++ deleted_events path.now (watch_tables own.old child.old lasting.now)) }
-    ensures own { OnOk result (own.new ≡ without_watches_on path.now own.old) }
+        ++ deleted_events path.now (watch_tables data_watches.old child.old lasting.now)) }
+    ensures data_watches { OnOk result (data_watches.new ≡ without_watches_on path.now data_watches.old) }
     ensures child { OnOk result (child.new ≡ without_watches_on path.now child.old) }
 {
     let kind = EventKind::NodeDeleted;
     let lasting = lasting.watchers(alloc, path)?;
-    let watchers = own.watchers(path);
+    let watchers = data_watches.watchers(path);
     tell_part(events, alloc, kind, path, watchers, &lasting)?;
     tell_others(
         events,
@@ -148,7 +156,7 @@ fn tell_deleted(
         &lasting,
         child.watchers(path),
     )?;
-    own.use_up(alloc, path)?;
+    data_watches.use_up(alloc, path)?;
     child.use_up(alloc, path)
 }
 
@@ -157,29 +165,29 @@ pub fn tell(
     events: &mut Vec<(u64, Event)>,
     alloc: Global,
     trigger: &Trigger,
-    own: &mut UnusedWatches<'_>,
+    data_watches: &mut UnusedWatches<'_>,
     child: &mut UnusedWatches<'_>,
     lasting: &LastingTable,
 ) -> Result<(), NoMemory>
     ensures events { OnOk result (events.new.items ≡
-        events.old.items ++ events_of_trigger (watch_tables own.old child.old lasting.now) trigger.now) }
-    ensures left { OnOk result (watch_tables own.new child.new lasting.now ≡
-        watches_after (watch_tables own.old child.old lasting.now) trigger.now) }
+        events.old.items ++ events_of_trigger (watch_tables data_watches.old child.old lasting.now) trigger.now) }
+    ensures left { OnOk result (watch_tables data_watches.new child.new lasting.now ≡
+        watches_after (watch_tables data_watches.old child.old lasting.now) trigger.now) }
 {
     match trigger {
         Trigger::Created(path) => {
             let kind = EventKind::NodeCreated;
-            tell_node(events, alloc, kind, path.as_str(), own, lasting)
+            tell_node(events, alloc, kind, path.as_str(), data_watches, lasting)
         }
         Trigger::DataChanged(path) => {
             let kind = EventKind::NodeDataChanged;
-            tell_node(events, alloc, kind, path.as_str(), own, lasting)
+            tell_node(events, alloc, kind, path.as_str(), data_watches, lasting)
         }
         Trigger::ChildrenChanged(path) => {
             tell_children(events, alloc, path.as_str(), child, lasting)
         }
         Trigger::Deleted(path) => {
-            tell_deleted(events, alloc, path.as_str(), own, child, lasting)
+            tell_deleted(events, alloc, path.as_str(), data_watches, child, lasting)
         }
     }
 }

@@ -40,7 +40,7 @@ impl Table {
 #[derive(Drop)]
 pub struct Watched<'a> {
     pub path: Str<'a>,
-    pub conn: u64,
+    pub connection: u64,
     pub table: Table,
 }
 
@@ -48,7 +48,7 @@ fn watched_order(left: &Watched<'_>, right: &Watched<'_>) -> Ordering
     ensures { result ≡ watched_cmp left.now right.now }
 {
     let paths = left.path.as_str().cmp(right.path.as_str());
-    let conns = left.conn.cmp(&right.conn);
+    let conns = left.connection.cmp(&right.connection);
     let tables = left.table.rank().cmp(&right.table.rank());
     paths.then(conns).then(tables)
 }

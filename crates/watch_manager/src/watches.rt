@@ -30,7 +30,7 @@ use values::NoMemory;
 #[derive(Drop)]
 pub struct Watches {
     // The data watches.
-    own: WatchTable,
+    data_watches: WatchTable,
     child: WatchTable,
     lasting: LastingTable,
 }
@@ -42,7 +42,7 @@ impl Model for Watches {
 
     ghost coded = { watch_tables_code };
 
-    ghost view = { λ w. record { own = w.own; child = w.child; lasting = w.lasting } };
+    ghost view = { λ w. record { data_watches = w.data_watches; child = w.child; lasting = w.lasting } };
 }
 
 impl Watches {
@@ -51,7 +51,7 @@ impl Watches {
         ensures { result ≡ no_watch }
     {
         Watches {
-            own: WatchTable::new(alloc),
+            data_watches: WatchTable::new(alloc),
             child: WatchTable::new(alloc),
             lasting: LastingTable::new(alloc),
         }
@@ -61,27 +61,27 @@ impl Watches {
     pub fn is_empty(&self) -> bool
         ensures { IsTrue result ↔ (self.now ≡ no_watch) }
     {
-        self.own.is_empty() && self.child.is_empty() && self.lasting.is_empty()
+        self.data_watches.is_empty() && self.child.is_empty() && self.lasting.is_empty()
     }
 
     /// Sets a data watch; it may be set already. Any text may be watched, even if it isn't a path. A refused allocation
     /// changes nothing.
-    pub fn set_data(&mut self, alloc: Global, conn: u64, path: &str) -> Result<(), NoMemory>
+    pub fn set_data(&mut self, alloc: Global, connection: u64, path: &str) -> Result<(), NoMemory>
         ensures ok { OnOk result
-            (self.new ≡ record self.old { own = set.insert self.old.own (path.now, conn) }) }
+            (self.new ≡ record self.old { data_watches = set.insert self.old.data_watches (path.now, connection) }) }
         ensures err { OnErr result (self.new ≡ self.old) }
     {
-        self.own.set(alloc, conn, path)
+        self.data_watches.set(alloc, connection, path)
     }
 
     /// Sets a child watch; it may be set already. Any text may be watched, even if it isn't a path. A refused
     /// allocation changes nothing.
-    pub fn set_child(&mut self, alloc: Global, conn: u64, path: &str) -> Result<(), NoMemory>
+    pub fn set_child(&mut self, alloc: Global, connection: u64, path: &str) -> Result<(), NoMemory>
         ensures ok { OnOk result
-            (self.new ≡ record self.old { child = set.insert self.old.child (path.now, conn) }) }
+            (self.new ≡ record self.old { child = set.insert self.old.child (path.now, connection) }) }
         ensures err { OnErr result (self.new ≡ self.old) }
     {
-        self.child.set(alloc, conn, path)
+        self.child.set(alloc, connection, path)
     }
 
     /// Sets a lasting watch, on a path or on a path and all below it; set again, it has the new mode. Any text may be
@@ -89,25 +89,25 @@ impl Watches {
     pub fn set_persistent(
         &mut self,
         alloc: Global,
-        conn: u64,
+        connection: u64,
         path: &str,
         recursive: bool,
     ) -> Result<(), NoMemory>
         ensures ok { OnOk result
-            (self.new ≡ with_lasting_watch conn path.now (mode_of recursive) self.old) }
+            (self.new ≡ with_lasting_watch connection path.now (mode_of recursive) self.old) }
         ensures err { OnErr result (self.new ≡ self.old) }
     {
         self.lasting
-            .set(alloc, conn, path, WatchMode::new(recursive))
+            .set(alloc, connection, path, WatchMode::new(recursive))
     }
 
     /// Drops all watches of a connection. Allocates nothing.
-    pub fn drop_conn(&mut self, conn: u64)
-        ensures { self.new ≡ without_watches_of conn self.old }
+    pub fn drop_conn(&mut self, connection: u64)
+        ensures { self.new ≡ without_watches_of connection self.old }
     {
-        self.own.drop_conn(conn);
-        self.child.drop_conn(conn);
-        self.lasting.drop_conn(conn);
+        self.data_watches.drop_conn(connection);
+        self.child.drop_conn(connection);
+        self.lasting.drop_conn(connection);
     }
 
     /// The number of watches.
@@ -115,21 +115,21 @@ impl Watches {
         ensures { result ≡ watch_count self.now }
     {
         let lasting = &self.lasting;
-        self.own.count() as u128
+        self.data_watches.count() as u128
             + self.child.count() as u128
             + lasting.persistent().count() as u128
             + lasting.recursive().count() as u128
     }
 
     /// The number of watches of a connection.
-    pub fn count_of(&self, conn: u64) -> u128
-        ensures { result ≡ watch_count_of conn self.now }
+    pub fn count_of(&self, connection: u64) -> u128
+        ensures { result ≡ watch_count_of connection self.now }
     {
         let lasting = &self.lasting;
-        self.own.count_of(conn) as u128
-            + self.child.count_of(conn) as u128
-            + lasting.persistent().count_of(conn) as u128
-            + lasting.recursive().count_of(conn) as u128
+        self.data_watches.count_of(connection) as u128
+            + self.child.count_of(connection) as u128
+            + lasting.persistent().count_of(connection) as u128
+            + lasting.recursive().count_of(connection) as u128
     }
 
     /// The number of watches, of watched paths, and of connections that watch something. Takes time linear in the number
@@ -138,17 +138,17 @@ impl Watches {
     pub fn counts(&self) -> WatchCounts
         ensures { result ≡ counts_of self.now }
     {
-        let (own, child) = (&self.own, &self.child);
+        let (data_watches, child) = (&self.data_watches, &self.child);
         let (persistent, recursive) = (self.lasting.persistent(), self.lasting.recursive());
         WatchCounts {
-            connections: own.connections() as u128
-                + child.connections_beyond(own, own, own) as u128
-                + persistent.connections_beyond(own, child, child) as u128
-                + recursive.connections_beyond(own, child, persistent) as u128,
-            paths: own.paths() as u128
-                + child.paths_beyond(own, own, own) as u128
-                + persistent.paths_beyond(own, child, child) as u128
-                + recursive.paths_beyond(own, child, persistent) as u128,
+            connections: data_watches.connections() as u128
+                + child.connections_beyond(data_watches, data_watches, data_watches) as u128
+                + persistent.connections_beyond(data_watches, child, child) as u128
+                + recursive.connections_beyond(data_watches, child, persistent) as u128,
+            paths: data_watches.paths() as u128
+                + child.paths_beyond(data_watches, data_watches, data_watches) as u128
+                + persistent.paths_beyond(data_watches, child, child) as u128
+                + recursive.paths_beyond(data_watches, child, persistent) as u128,
             watches: self.count(),
         }
     }
@@ -159,7 +159,7 @@ impl Watches {
         ensures { IfOk result (λ rows. rows.items ≡ summary self.now) }
     {
         let mut rows = BTreeSet::new(alloc);
-        add_table(&mut rows, &self.own, Table::Own)?;
+        add_table(&mut rows, &self.data_watches, Table::Own)?;
         add_table(&mut rows, &self.child, Table::Child)?;
         add_table(&mut rows, self.lasting.persistent(), Table::Lasting)?;
         add_table(&mut rows, self.lasting.recursive(), Table::Lasting)?;
@@ -171,7 +171,7 @@ impl Watches {
         ensures { IfOk result
             (λ events. events.items ≡ (fire self.now triggers.now).events) }
     {
-        let mut own = UnusedWatches::new(alloc, &self.own);
+        let mut data_watches = UnusedWatches::new(alloc, &self.data_watches);
         let mut child = UnusedWatches::new(alloc, &self.child);
         let mut events = Vec::new(alloc);
         for trigger in triggers {
@@ -179,7 +179,7 @@ impl Watches {
                 &mut events,
                 alloc,
                 trigger,
-                &mut own,
+                &mut data_watches,
                 &mut child,
                 &self.lasting,
             )?;
@@ -192,11 +192,11 @@ impl Watches {
         ensures { self.new ≡ watches_after self.old trigger.now }
     {
         match trigger {
-            Trigger::Created(path) => self.own.use_up(path.as_str()),
-            Trigger::DataChanged(path) => self.own.use_up(path.as_str()),
+            Trigger::Created(path) => self.data_watches.use_up(path.as_str()),
+            Trigger::DataChanged(path) => self.data_watches.use_up(path.as_str()),
             Trigger::ChildrenChanged(path) => self.child.use_up(path.as_str()),
             Trigger::Deleted(path) => {
-                self.own.use_up(path.as_str());
+                self.data_watches.use_up(path.as_str());
                 self.child.use_up(path.as_str());
             }
         }

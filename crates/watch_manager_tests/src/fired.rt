@@ -8,12 +8,12 @@ use watch_manager::Watches;
 // Sets watches by connection and path: "d" of data, "p" persistent, "r" recursive, anything else of children.
 fn watching(alloc: Global, watches: &[(char, u64, &str)]) -> Result<Watches, Fail> {
     let mut all = Watches::new(alloc);
-    for (table, conn, path) in watches {
+    for (table, connection, path) in watches {
         match *table {
-            'd' => all.set_data(alloc, *conn, path)?,
-            'p' => all.set_persistent(alloc, *conn, path, false)?,
-            'r' => all.set_persistent(alloc, *conn, path, true)?,
-            _ => all.set_child(alloc, *conn, path)?,
+            'd' => all.set_data(alloc, *connection, path)?,
+            'p' => all.set_persistent(alloc, *connection, path, false)?,
+            'r' => all.set_persistent(alloc, *connection, path, true)?,
+            _ => all.set_child(alloc, *connection, path)?,
         }
     }
     Ok(all)
@@ -26,17 +26,17 @@ fn told(alloc: Global, watches: &mut Watches, changes: &[(char, &str)]) -> Resul
         triggers.push(trigger_of(alloc, *sign, path)?)?;
     }
     let mut text = String::new(alloc);
-    for (conn, event) in watches.fire(alloc, &triggers)? {
+    for (connection, event) in watches.fire(alloc, &triggers)? {
         let number = event.kind.number();
-        text.push_str(format!(in alloc; "{conn}:{number} ")?.as_str())?;
+        text.push_str(format!(in alloc; "{connection}:{number} ")?.as_str())?;
         text.push_str(event.path.as_str())?;
         text.push_str("; ")?;
     }
     Ok(text)
 }
 
-fn drop_conn(watches: &mut Watches, conn: u64) {
-    watches.drop_conn(conn);
+fn drop_conn(watches: &mut Watches, connection: u64) {
+    watches.drop_conn(connection);
 }
 
 #[test]

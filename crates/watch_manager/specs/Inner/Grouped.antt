@@ -42,21 +42,22 @@ HaveValues {K} m = (key : K) → IfSome (finmap.get m key) (λ values. values �
 -- Both hold the same watches, one by path and one by connection.
 abbrev pub AgreeOn : WatchPairs → ConnPairs → Type 0
 AgreeOn by_path by_conn =
-    (path : Bytes) (conn : ℕ) → set.contains by_path (path, conn) ≡ set.contains by_conn (conn, path)
+    (path : Bytes) (connection : ℕ) → set.contains by_path (path, connection) ≡ set.contains by_conn (connection, path)
 
 -- Without the path at each of the connections.
 abbrev pub without_conns : Bytes → List ℕ → ConnPairs → ConnPairs
 without_conns path [] pairs = pairs
-without_conns path (conn ∷ conns) pairs = without_conns path conns (set.remove pairs (conn, path))
+without_conns path (connection ∷ conns) pairs = without_conns path conns (set.remove pairs (connection, path))
 
 -- Without the connection at each of the paths.
 abbrev pub without_watched_paths : ℕ → List Bytes → WatchPairs → WatchPairs
-without_watched_paths conn [] pairs = pairs
-without_watched_paths conn (path ∷ paths) pairs = without_watched_paths conn paths (set.remove pairs (path, conn))
+without_watched_paths connection [] pairs = pairs
+without_watched_paths connection (path ∷ paths) pairs = without_watched_paths connection paths
+    (set.remove pairs (path, connection))
 
 -- Without the pairs of the connection.
 abbrev pub without_key : ℕ → ConnPairs → ConnPairs
-without_key conn pairs = set.retain pairs (λ (p : ℕ × Bytes). not (same_connection conn p.0))
+without_key connection pairs = set.retain pairs (λ (p : ℕ × Bytes). not (same_connection connection p.0))
 
 abbrev pub connections_in : WatchPairs → ConnectionSet
 connections_in pairs = set.from_list (map (λ (p : Bytes × ℕ). p.1) (set.items pairs))

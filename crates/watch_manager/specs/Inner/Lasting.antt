@@ -23,13 +23,13 @@ lasting_of persistent recursive =
 -- Each watch has one mode: it is in one table alone.
 abbrev pub HaveOneMode : WatchPairs → WatchPairs → Type 0
 HaveOneMode persistent recursive =
-    (path : Bytes) (conn : ℕ) → set.contains persistent (path, conn) ≡ true
-    → set.contains recursive (path, conn) ≡ false
+    (path : Bytes) (connection : ℕ) → set.contains persistent (path, connection) ≡ true
+    → set.contains recursive (path, connection) ≡ false
 
 -- The length in bytes of each watched path is one of these.
 abbrev pub HaveLengthsIn : BTreeSet ℕ → WatchPairs → Type 0
 HaveLengthsIn lengths pairs =
-    (path : Bytes) (conn : ℕ) → set.contains pairs (path, conn) ≡ true
+    (path : Bytes) (connection : ℕ) → set.contains pairs (path, connection) ≡ true
     → sorted.contains nat_cmp lengths (length path) ≡ true
 
 -- The connections, with those of the list.

@@ -10,7 +10,7 @@ use Rattle.watch_manager.specs.declared.watched.Watched.{Watched}
 
 -- The watches of the connections on one path.
 abbrev pub path_rows : Table → Bytes → List ℕ → List Watched
-path_rows table path conns = map (λ (conn : ℕ). watched_in table (path, conn)) conns
+path_rows table path conns = map (λ (connection : ℕ). watched_in table (path, connection)) conns
 
 -- The watches on paths, each with its connections.
 abbrev pub rows_of : Table → List (Bytes × ConnectionSet) → List Watched

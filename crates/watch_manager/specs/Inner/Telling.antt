@@ -14,7 +14,7 @@ abbrev pub watches_elsewhere : Names → WatchPairs → WatchPairs
 watches_elsewhere paths pairs = set.retain pairs (λ (p : Bytes × ℕ). not (set.contains paths p.0))
 
 abbrev pub watch_tables : WatchPairs → WatchPairs → LastingWatches → WatchTables
-watch_tables own child lasting = record { own = own; child = child; lasting = lasting }
+watch_tables data_watches child lasting = record { data_watches = data_watches; child = child; lasting = lasting }
 
 -- The events of a delete.
 abbrev pub deleted_events : Bytes → WatchTables → List (ℕ × Event)

@@ -12,7 +12,7 @@ use Rattle.watch_manager.proofs.by_conn.ByConn.contains_conn.Goals as goal
 pub returns : goal.returns
 returns c =
     c.contains_key.ensures
-    ∙ ap (λ found. is_some found) (sym (get-seen c.self.inside.map c.args.conn))
+    ∙ ap (λ found. is_some found) (sym (get-seen c.self.inside.map c.args.connection))
     ∙ sym (contains-stored nat_cmp_total path_total exact_unsigned exact_bytes (seen c.self.inside.map.entries)
-    c.self.invariant c.args.conn)
-    ∙ ap (λ s. set.contains (keys_in nat_cmp s) c.args.conn) c.self.view_is
+    c.self.invariant c.args.connection)
+    ∙ ap (λ s. set.contains (keys_in nat_cmp s) c.args.connection) c.self.view_is

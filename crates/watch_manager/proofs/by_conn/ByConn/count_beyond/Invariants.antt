@@ -4,9 +4,9 @@ use Rattle.watch_manager.specs.Inner.Grouped.{keys_in_one}
 use Rattle.watch_manager.proofs.Keys.{left_count}
 use Rattle.watch_manager.proofs.by_conn.ByConn.count_beyond.Given as goal
 
-abbrev pub invariant-loop-conn : goal.invariant-loop-conn
-invariant-loop-conn l =
-    (goal.iterator-loop-conn).can_next l.conn-iterator
-    × (goal.iterator-loop-conn).is_finite l.conn-iterator
+abbrev pub invariant-loop-connection : goal.invariant-loop-connection
+invariant-loop-connection l =
+    (goal.iterator-loop-connection).can_next l.connection-iterator
+    × (goal.iterator-loop-connection).is_finite l.connection-iterator
     × (l.count
-    ≡ left_count (keys_in_one nat_cmp l.first l.second l.third) l.initial.conn-iterator l.conn-iterator)
+    ≡ left_count (keys_in_one nat_cmp l.first l.second l.third) l.initial.connection-iterator l.connection-iterator)

@@ -25,7 +25,7 @@ unchanged m n k old new written found is =
 pub invariant_of-self : goal.invariant_of-self
 invariant_of-self c =
     subst (λ es. HaveValues (seen es))
-    (sym (unchanged c.self.inside.map (c.get_mut.follows.lender c.insert.new.self) c.args.conn c.in-Some.paths.now
+    (sym (unchanged c.self.inside.map (c.get_mut.follows.lender c.insert.new.self) c.args.connection c.in-Some.paths.now
     c.insert.new.self (c.get_mut.follows.holds c.insert.new.self).0 c.in-Some.ensures.value
     c.in_err-insert-in-Some.ensures.err))
     c.self.invariant
@@ -35,9 +35,9 @@ invariant_of-self-in-Some c =
     let n = c.get_mut.follows.lender c.insert.new.self in
     let is = c.in_ok-insert-in-Some.ensures.ok ∙ ap (λ p. set.insert c.in-Some.paths.now p) c.in_ok-path.ensures.ok in
     subst (λ m. HaveValues m)
-    (sym (seen-insert c.args.conn c.self.inside.map n c.insert.new.self
+    (sym (seen-insert c.args.connection c.self.inside.map n c.insert.new.self
     ((c.get_mut.follows.holds c.insert.new.self).3 (subst IsSome c.in-Some.ensures.value refl))))
-    (have-insert nat_cmp_total path_total exact_unsigned exact_bytes (seen c.self.inside.map.entries) c.args.conn
+    (have-insert nat_cmp_total path_total exact_unsigned exact_bytes (seen c.self.inside.map.entries) c.args.connection
     c.insert.new.self c.self.invariant
     (λ e. with-value path_total c.in-Some.paths.now c.args.path.now (sym is ∙ e)))
 
@@ -46,9 +46,9 @@ invariant_of-self-in-None c =
     let m = c.get_mut.follows.lender-at-none in
     let is = c.in_ok-insert-in-None.ensures.ok ∙ ap (λ p. set.insert c.new-paths.result p) c.in_ok-path.ensures.ok in
     subst (λ m. HaveValues m)
-    (sym (seen-insert c.args.conn m c.insert-in-None-2.new.self c.insert-in-None.new.self
+    (sym (seen-insert c.args.connection m c.insert-in-None-2.new.self c.insert-in-None.new.self
     c.in_ok-insert-in-None-2.ensures.updates))
-    (have-insert nat_cmp_total path_total exact_unsigned exact_bytes (seen m.entries) c.args.conn
+    (have-insert nat_cmp_total path_total exact_unsigned exact_bytes (seen m.entries) c.args.connection
     c.insert-in-None.new.self
     (subst (λ x. HaveValues (seen x.entries)) (sym c.get_mut.follows.holds-at-none) c.self.invariant)
     (λ e. with-value path_total c.new-paths.result c.args.path.now (sym is ∙ e)))
@@ -57,7 +57,8 @@ pub returns-in_err-insert-in-Some-clause-err : goal.returns-in_err-insert-in-Som
 returns-in_err-insert-in-Some-clause-err c =
     let holds = c.get_mut.follows.holds c.insert.new.self in
     on_err c.from_residual-in_err-insert-in-Some.result
-    (ap (λ es. conn_pairs es) (unchanged c.self.inside.map (c.get_mut.follows.lender c.insert.new.self) c.args.conn c.in-Some.paths.now
+    (ap (λ es. conn_pairs es) (unchanged c.self.inside.map (c.get_mut.follows.lender c.insert.new.self)
+    c.args.connection c.in-Some.paths.now
     c.insert.new.self holds.0 c.in-Some.ensures.value c.in_err-insert-in-Some.ensures.err)
     ∙ c.self.view_is)
 
@@ -65,23 +66,23 @@ pub returns-in_ok-insert-in-Some-clause-ok : goal.returns-in_ok-insert-in-Some-c
 returns-in_ok-insert-in-Some-clause-ok c =
     let n = c.get_mut.follows.lender c.insert.new.self in
     insert_through nat_cmp_total path_total exact_unsigned exact_bytes (seen c.self.inside.map.entries) (seen n.entries)
-    c.args.conn c.args.path.now c.in-Some.paths.now c.insert.new.self
-    (seen-insert c.args.conn c.self.inside.map n c.insert.new.self
+    c.args.connection c.args.path.now c.in-Some.paths.now c.insert.new.self
+    (seen-insert c.args.connection c.self.inside.map n c.insert.new.self
     ((c.get_mut.follows.holds c.insert.new.self).3 (subst IsSome c.in-Some.ensures.value refl)))
-    (get-seen c.self.inside.map c.args.conn ∙ sym c.in-Some.ensures.value)
+    (get-seen c.self.inside.map c.args.connection ∙ sym c.in-Some.ensures.value)
     (c.in_ok-insert-in-Some.ensures.ok ∙ ap (λ p. set.insert c.in-Some.paths.now p) c.in_ok-path.ensures.ok)
-    ∙ ap (λ s. set.insert s (c.args.conn, c.args.path.now)) c.self.view_is
+    ∙ ap (λ s. set.insert s (c.args.connection, c.args.path.now)) c.self.view_is
 
 pub returns-in_ok-insert-in-None-2-clause-ok : goal.returns-in_ok-insert-in-None-2-clause-ok
 returns-in_ok-insert-in-None-2-clause-ok c =
     let m = c.get_mut.follows.lender-at-none in
     let n = c.insert-in-None-2.new.self in
-    insert_first nat_cmp_total path_total exact_unsigned exact_bytes (seen m.entries) (seen n.entries) c.args.conn
+    insert_first nat_cmp_total path_total exact_unsigned exact_bytes (seen m.entries) (seen n.entries) c.args.connection
     c.args.path.now c.new-paths.result c.insert-in-None.new.self
-    (seen-insert c.args.conn m n c.insert-in-None.new.self c.in_ok-insert-in-None-2.ensures.updates)
-    (get-seen m c.args.conn ∙ ap (λ x. tree.get nat_cmp x c.args.conn) c.get_mut.follows.holds-at-none
+    (seen-insert c.args.connection m n c.insert-in-None.new.self c.in_ok-insert-in-None-2.ensures.updates)
+    (get-seen m c.args.connection ∙ ap (λ x. tree.get nat_cmp x c.args.connection) c.get_mut.follows.holds-at-none
     ∙ sym c.in-None.ensures.value)
     c.new-paths.ensures
     (c.in_ok-insert-in-None.ensures.ok ∙ ap (λ p. set.insert c.new-paths.result p) c.in_ok-path.ensures.ok)
-    ∙ ap (λ x. set.insert (conn_pairs x.entries) (c.args.conn, c.args.path.now)) c.get_mut.follows.holds-at-none
-    ∙ ap (λ s. set.insert s (c.args.conn, c.args.path.now)) c.self.view_is
+    ∙ ap (λ x. set.insert (conn_pairs x.entries) (c.args.connection, c.args.path.now)) c.get_mut.follows.holds-at-none
+    ∙ ap (λ s. set.insert s (c.args.connection, c.args.path.now)) c.self.view_is

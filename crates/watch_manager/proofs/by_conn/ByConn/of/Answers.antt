@@ -9,12 +9,14 @@ use Rattle.watch_manager.proofs.by_conn.ByConn.of.Goals as goal
 
 pub returns-clause-paths : goal.returns-clause-paths
 returns-clause-paths c p =
-    sym (ap (λ s. set.contains s (c.args.conn, p)) (sym c.self.view_is)
-    ∙ contains-found nat_cmp_total path_total exact_unsigned exact_bytes (seen c.self.inside.map.entries) c.args.conn
-    (Some c.in-Some.paths.now) (get-seen c.self.inside.map c.args.conn ∙ sym c.in-Some.ensures.value) p)
+    sym (ap (λ s. set.contains s (c.args.connection, p)) (sym c.self.view_is)
+    ∙ contains-found nat_cmp_total path_total exact_unsigned exact_bytes (seen c.self.inside.map.entries)
+    c.args.connection
+    (Some c.in-Some.paths.now) (get-seen c.self.inside.map c.args.connection ∙ sym c.in-Some.ensures.value) p)
 
 pub returns-in-None-clause-none : goal.returns-in-None-clause-none
 returns-in-None-clause-none c p =
-    ap (λ s. set.contains s (c.args.conn, p)) (sym c.self.view_is)
-    ∙ contains-found nat_cmp_total path_total exact_unsigned exact_bytes (seen c.self.inside.map.entries) c.args.conn
-    None (get-seen c.self.inside.map c.args.conn ∙ sym c.in-None.ensures.value) p
+    ap (λ s. set.contains s (c.args.connection, p)) (sym c.self.view_is)
+    ∙ contains-found nat_cmp_total path_total exact_unsigned exact_bytes (seen c.self.inside.map.entries)
+    c.args.connection
+    None (get-seen c.self.inside.map c.args.connection ∙ sym c.in-None.ensures.value) p

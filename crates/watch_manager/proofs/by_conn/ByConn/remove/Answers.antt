@@ -14,17 +14,17 @@ use Rattle.watch_manager.proofs.by_conn.ByConn.remove.Goals as goal
 pub returns-in-None : goal.returns-in-None
 returns-in-None c =
     ap (λ m. conn_pairs m.entries) c.get_mut.follows.holds-at-none
-    ∙ remove_none nat_cmp_total path_total exact_unsigned exact_bytes (seen c.self.inside.map.entries) c.args.conn
-    c.args.path.now (get-seen c.self.inside.map c.args.conn ∙ sym c.in-None.ensures.value)
-    ∙ ap (λ s. set.remove s (c.args.conn, c.args.path.now)) c.self.view_is
+    ∙ remove_none nat_cmp_total path_total exact_unsigned exact_bytes (seen c.self.inside.map.entries) c.args.connection
+    c.args.path.now (get-seen c.self.inside.map c.args.connection ∙ sym c.in-None.ensures.value)
+    ∙ ap (λ s. set.remove s (c.args.connection, c.args.path.now)) c.self.view_is
 
 pub invariant_of-self-then-not-is_empty : goal.invariant_of-self-then-not-is_empty
 invariant_of-self-then-not-is_empty c =
     let n = c.get_mut.follows.lender c.remove.new.self in
     subst (λ m. HaveValues m)
-    (sym (seen-insert c.args.conn c.self.inside.map n c.remove.new.self
+    (sym (seen-insert c.args.connection c.self.inside.map n c.remove.new.self
     ((c.get_mut.follows.holds c.remove.new.self).3 (subst IsSome c.in-Some.ensures.value refl))))
-    (have-insert nat_cmp_total path_total exact_unsigned exact_bytes (seen c.self.inside.map.entries) c.args.conn
+    (have-insert nat_cmp_total path_total exact_unsigned exact_bytes (seen c.self.inside.map.entries) c.args.connection
     c.remove.new.self c.self.invariant
     (λ e. true≢false (sym (c.is_empty.ensures.1 e) ∙ c.if-not-is_empty.true)))
 
@@ -32,32 +32,32 @@ pub returns-then-not-is_empty : goal.returns-then-not-is_empty
 returns-then-not-is_empty c =
     let n = c.get_mut.follows.lender c.remove.new.self in
     remove_through nat_cmp_total path_total exact_unsigned exact_bytes (seen c.self.inside.map.entries) (seen n.entries)
-    c.args.conn c.args.path.now c.in-Some.paths.now c.remove.new.self
-    (seen-insert c.args.conn c.self.inside.map n c.remove.new.self
+    c.args.connection c.args.path.now c.in-Some.paths.now c.remove.new.self
+    (seen-insert c.args.connection c.self.inside.map n c.remove.new.self
     ((c.get_mut.follows.holds c.remove.new.self).3 (subst IsSome c.in-Some.ensures.value refl)))
-    (get-seen c.self.inside.map c.args.conn ∙ sym c.in-Some.ensures.value)
+    (get-seen c.self.inside.map c.args.connection ∙ sym c.in-Some.ensures.value)
     c.remove.ensures.removed
-    ∙ ap (λ s. set.remove s (c.args.conn, c.args.path.now)) c.self.view_is
+    ∙ ap (λ s. set.remove s (c.args.connection, c.args.path.now)) c.self.view_is
 
 pub invariant_of-self-2 : goal.invariant_of-self-2
 invariant_of-self-2 c =
     let n = c.get_mut.follows.lender c.remove.new.self in
     subst (λ m. HaveValues m)
-    (sym (seen-remove c.args.conn n c.remove-2.new.self c.remove-2.ensures.updates
-    ∙ ap (λ m. finmap.remove m c.args.conn) (seen-insert c.args.conn c.self.inside.map n c.remove.new.self
+    (sym (seen-remove c.args.connection n c.remove-2.new.self c.remove-2.ensures.updates
+    ∙ ap (λ m. finmap.remove m c.args.connection) (seen-insert c.args.connection c.self.inside.map n c.remove.new.self
     ((c.get_mut.follows.holds c.remove.new.self).3 (subst IsSome c.in-Some.ensures.value refl)))))
-    (have-cut nat_cmp_total path_total exact_unsigned exact_bytes (seen c.self.inside.map.entries) c.args.conn
+    (have-cut nat_cmp_total path_total exact_unsigned exact_bytes (seen c.self.inside.map.entries) c.args.connection
     c.remove.new.self c.self.invariant)
 
 pub returns : goal.returns
 returns c =
     let n = c.get_mut.follows.lender c.remove.new.self in
     remove_last nat_cmp_total path_total exact_unsigned exact_bytes (seen c.self.inside.map.entries) (seen n.entries)
-    (seen c.remove-2.new.self.entries) c.args.conn c.args.path.now c.in-Some.paths.now c.remove.new.self
-    (seen-insert c.args.conn c.self.inside.map n c.remove.new.self
+    (seen c.remove-2.new.self.entries) c.args.connection c.args.path.now c.in-Some.paths.now c.remove.new.self
+    (seen-insert c.args.connection c.self.inside.map n c.remove.new.self
     ((c.get_mut.follows.holds c.remove.new.self).3 (subst IsSome c.in-Some.ensures.value refl)))
-    (get-seen c.self.inside.map c.args.conn ∙ sym c.in-Some.ensures.value)
+    (get-seen c.self.inside.map c.args.connection ∙ sym c.in-Some.ensures.value)
     c.remove.ensures.removed
     (c.is_empty.ensures.0 c.if-not-is_empty.false)
-    (seen-remove c.args.conn n c.remove-2.new.self c.remove-2.ensures.updates)
-    ∙ ap (λ s. set.remove s (c.args.conn, c.args.path.now)) c.self.view_is
+    (seen-remove c.args.connection n c.remove-2.new.self c.remove-2.ensures.updates)
+    ∙ ap (λ s. set.remove s (c.args.connection, c.args.path.now)) c.self.view_is

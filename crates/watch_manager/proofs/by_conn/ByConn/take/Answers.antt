@@ -23,27 +23,30 @@ none None pairs k is = is
 none (Some paths) pairs k is = tt
 
 pub returns-clause-paths : goal.returns-clause-paths
-returns-clause-paths c = some c.remove.result c.args.self.now c.args.conn (λ p.
-    ap (λ s. set.contains s (c.args.conn, p)) (sym c.self.view_is)
-    ∙ contains-found nat_cmp_total path_total exact_unsigned exact_bytes (seen c.self.inside.map.entries) c.args.conn
-    c.remove.result (get-seen c.self.inside.map c.args.conn ∙ sym c.remove.ensures.value) p)
+returns-clause-paths c = some c.remove.result c.args.self.now c.args.connection (λ p.
+    ap (λ s. set.contains s (c.args.connection, p)) (sym c.self.view_is)
+    ∙ contains-found nat_cmp_total path_total exact_unsigned exact_bytes (seen c.self.inside.map.entries)
+    c.args.connection
+    c.remove.result (get-seen c.self.inside.map c.args.connection ∙ sym c.remove.ensures.value) p)
 
 pub returns-clause-none : goal.returns-clause-none
-returns-clause-none c = none c.remove.result c.args.self.now c.args.conn (λ p.
-    ap (λ s. set.contains s (c.args.conn, p)) (sym c.self.view_is)
-    ∙ contains-found nat_cmp_total path_total exact_unsigned exact_bytes (seen c.self.inside.map.entries) c.args.conn
-    c.remove.result (get-seen c.self.inside.map c.args.conn ∙ sym c.remove.ensures.value) p)
+returns-clause-none c = none c.remove.result c.args.self.now c.args.connection (λ p.
+    ap (λ s. set.contains s (c.args.connection, p)) (sym c.self.view_is)
+    ∙ contains-found nat_cmp_total path_total exact_unsigned exact_bytes (seen c.self.inside.map.entries)
+    c.args.connection
+    c.remove.result (get-seen c.self.inside.map c.args.connection ∙ sym c.remove.ensures.value) p)
 
 pub returns-clause-rest : goal.returns-clause-rest
 returns-clause-rest c =
     taken nat_cmp_total path_total exact_unsigned exact_bytes (seen c.self.inside.map.entries)
-    (seen c.remove.new.self.entries) c.args.conn (seen-remove c.args.conn c.self.inside.map c.remove.new.self
+    (seen c.remove.new.self.entries) c.args.connection
+    (seen-remove c.args.connection c.self.inside.map c.remove.new.self
     c.remove.ensures.updates)
-    ∙ ap (λ s. without_key c.args.conn s) c.self.view_is
+    ∙ ap (λ s. without_key c.args.connection s) c.self.view_is
 
 pub invariant_of-self : goal.invariant_of-self
 invariant_of-self c =
     subst (λ m. HaveValues m)
-    (sym (seen-remove c.args.conn c.self.inside.map c.remove.new.self c.remove.ensures.updates))
-    (have-remove nat_cmp_total path_total exact_unsigned exact_bytes (seen c.self.inside.map.entries) c.args.conn
+    (sym (seen-remove c.args.connection c.self.inside.map c.remove.new.self c.remove.ensures.updates))
+    (have-remove nat_cmp_total path_total exact_unsigned exact_bytes (seen c.self.inside.map.entries) c.args.connection
     c.self.invariant)

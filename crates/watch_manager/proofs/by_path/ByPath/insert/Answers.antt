@@ -41,7 +41,7 @@ invariant_of-self-in-Some c =
     ((c.get_mut.follows.holds c.insert.new.self).3 (subst IsSome c.in-Some.ensures.value refl))))
     (have-insert path_total nat_cmp_total exact_bytes exact_unsigned (seen c.self.inside.map.entries) c.args.path.now
     c.insert.new.self c.self.invariant
-    (λ e. with-value nat_cmp_total c.in-Some.conns.now c.args.conn (sym c.in_ok-insert-in-Some.ensures.ok ∙ e)))
+    (λ e. with-value nat_cmp_total c.in-Some.conns.now c.args.connection (sym c.in_ok-insert-in-Some.ensures.ok ∙ e)))
 
 pub invariant_of-self-in-None : goal.invariant_of-self-in-None
 invariant_of-self-in-None c =
@@ -53,7 +53,7 @@ invariant_of-self-in-None c =
     ∙ ap (λ p. finmap.insert (seen m.entries) p new) c.in_ok-from_str-in-None.ensures.ok))
     (have-insert path_total nat_cmp_total exact_bytes exact_unsigned (seen m.entries) c.args.path.now new
     (subst (λ x. HaveValues (seen x.entries)) (sym c.get_mut.follows.holds-at-none) c.self.invariant)
-    (λ e. with-value nat_cmp_total c.new-conns.result c.args.conn (sym c.in_ok-insert-in-None.ensures.ok ∙ e)))
+    (λ e. with-value nat_cmp_total c.new-conns.result c.args.connection (sym c.in_ok-insert-in-None.ensures.ok ∙ e)))
 
 pub returns-in_err-insert-in-Some-clause-err : goal.returns-in_err-insert-in-Some-clause-err
 returns-in_err-insert-in-Some-clause-err c =
@@ -67,20 +67,20 @@ pub returns-in_ok-insert-in-Some-clause-ok : goal.returns-in_ok-insert-in-Some-c
 returns-in_ok-insert-in-Some-clause-ok c =
     let n = c.get_mut.follows.lender c.insert.new.self in
     insert_through path_total nat_cmp_total exact_bytes exact_unsigned (seen c.self.inside.map.entries) (seen n.entries)
-    c.args.path.now c.args.conn c.in-Some.conns.now c.insert.new.self
+    c.args.path.now c.args.connection c.in-Some.conns.now c.insert.new.self
     (seen-insert c.args.path.now c.self.inside.map n c.insert.new.self
     ((c.get_mut.follows.holds c.insert.new.self).3 (subst IsSome c.in-Some.ensures.value refl)))
     (get-seen c.self.inside.map.entries c.args.path.now ∙ sym c.in-Some.ensures.value)
     c.in_ok-insert-in-Some.ensures.ok
-    ∙ ap (λ s. set.insert s (c.args.path.now, c.args.conn)) c.self.view_is
+    ∙ ap (λ s. set.insert s (c.args.path.now, c.args.connection)) c.self.view_is
 
 pub returns-in_ok-insert-in-Some-clause-added : goal.returns-in_ok-insert-in-Some-clause-added
 returns-in_ok-insert-in-Some-clause-added c =
     c.in_ok-insert-in-Some.ensures.added
     ∙ ap not (sym (contains-found path_total nat_cmp_total exact_bytes exact_unsigned (seen c.self.inside.map.entries)
     c.args.path.now (Some c.in-Some.conns.now) (get-seen c.self.inside.map.entries c.args.path.now
-    ∙ sym c.in-Some.ensures.value) c.args.conn)
-    ∙ ap (λ s. set.contains s (c.args.path.now, c.args.conn)) c.self.view_is)
+    ∙ sym c.in-Some.ensures.value) c.args.connection)
+    ∙ ap (λ s. set.contains s (c.args.path.now, c.args.connection)) c.self.view_is)
 
 pub returns-in_ok-insert-in-None-2-clause-ok : goal.returns-in_ok-insert-in-None-2-clause-ok
 returns-in_ok-insert-in-None-2-clause-ok c =
@@ -88,19 +88,20 @@ returns-in_ok-insert-in-None-2-clause-ok c =
     let n = c.insert-in-None-2.new.self in
     let new = c.insert-in-None.new.self in
     insert_first path_total nat_cmp_total exact_bytes exact_unsigned (seen m.entries) (seen n.entries) c.args.path.now
-    c.args.conn c.new-conns.result new
+    c.args.connection c.new-conns.result new
     (seen-insert (string_bytes c.in_ok-from_str-in-None.field-0) m n new c.in_ok-insert-in-None-2.ensures.updates
     ∙ ap (λ p. finmap.insert (seen m.entries) p new) c.in_ok-from_str-in-None.ensures.ok)
     (get-seen m.entries c.args.path.now ∙ ap (λ x. lookup (query c.args.path.now) x.entries)
     c.get_mut.follows.holds-at-none ∙ sym c.in-None.ensures.value)
     c.new-conns.ensures
     c.in_ok-insert-in-None.ensures.ok
-    ∙ ap (λ x. set.insert (watch_pairs_of x.entries) (c.args.path.now, c.args.conn)) c.get_mut.follows.holds-at-none
-    ∙ ap (λ s. set.insert s (c.args.path.now, c.args.conn)) c.self.view_is
+    ∙ ap (λ x. set.insert (watch_pairs_of x.entries) (c.args.path.now, c.args.connection))
+    c.get_mut.follows.holds-at-none
+    ∙ ap (λ s. set.insert s (c.args.path.now, c.args.connection)) c.self.view_is
 
 pub returns-in_ok-insert-in-None-2-clause-added : goal.returns-in_ok-insert-in-None-2-clause-added
 returns-in_ok-insert-in-None-2-clause-added c =
     ap not (sym (contains-found path_total nat_cmp_total exact_bytes exact_unsigned (seen c.self.inside.map.entries)
     c.args.path.now None (get-seen c.self.inside.map.entries c.args.path.now ∙ sym c.in-None.ensures.value)
-    c.args.conn)
-    ∙ ap (λ s. set.contains s (c.args.path.now, c.args.conn)) c.self.view_is)
+    c.args.connection)
+    ∙ ap (λ s. set.contains s (c.args.path.now, c.args.connection)) c.self.view_is)

@@ -15,8 +15,8 @@ pub returns-in-None : goal.returns-in-None
 returns-in-None c =
     ap (λ m. watch_pairs_of m.entries) c.get_mut.follows.holds-at-none
     ∙ remove_none path_total nat_cmp_total exact_bytes exact_unsigned (seen c.self.inside.map.entries) c.args.path.now
-    c.args.conn (get-seen c.self.inside.map.entries c.args.path.now ∙ sym c.in-None.ensures.value)
-    ∙ ap (λ s. set.remove s (c.args.path.now, c.args.conn)) c.self.view_is
+    c.args.connection (get-seen c.self.inside.map.entries c.args.path.now ∙ sym c.in-None.ensures.value)
+    ∙ ap (λ s. set.remove s (c.args.path.now, c.args.connection)) c.self.view_is
 
 pub invariant_of-self-then-not-is_empty : goal.invariant_of-self-then-not-is_empty
 invariant_of-self-then-not-is_empty c =
@@ -32,12 +32,12 @@ pub returns-then-not-is_empty : goal.returns-then-not-is_empty
 returns-then-not-is_empty c =
     let n = c.get_mut.follows.lender c.remove.new.self in
     remove_through path_total nat_cmp_total exact_bytes exact_unsigned (seen c.self.inside.map.entries) (seen n.entries)
-    c.args.path.now c.args.conn c.in-Some.conns.now c.remove.new.self
+    c.args.path.now c.args.connection c.in-Some.conns.now c.remove.new.self
     (seen-insert c.args.path.now c.self.inside.map n c.remove.new.self
     ((c.get_mut.follows.holds c.remove.new.self).3 (subst IsSome c.in-Some.ensures.value refl)))
     (get-seen c.self.inside.map.entries c.args.path.now ∙ sym c.in-Some.ensures.value)
     c.remove.ensures
-    ∙ ap (λ s. set.remove s (c.args.path.now, c.args.conn)) c.self.view_is
+    ∙ ap (λ s. set.remove s (c.args.path.now, c.args.connection)) c.self.view_is
 
 pub invariant_of-self-2 : goal.invariant_of-self-2
 invariant_of-self-2 c =
@@ -53,11 +53,11 @@ pub returns : goal.returns
 returns c =
     let n = c.get_mut.follows.lender c.remove.new.self in
     remove_last path_total nat_cmp_total exact_bytes exact_unsigned (seen c.self.inside.map.entries) (seen n.entries)
-    (seen c.remove-2.new.self.entries) c.args.path.now c.args.conn c.in-Some.conns.now c.remove.new.self
+    (seen c.remove-2.new.self.entries) c.args.path.now c.args.connection c.in-Some.conns.now c.remove.new.self
     (seen-insert c.args.path.now c.self.inside.map n c.remove.new.self
     ((c.get_mut.follows.holds c.remove.new.self).3 (subst IsSome c.in-Some.ensures.value refl)))
     (get-seen c.self.inside.map.entries c.args.path.now ∙ sym c.in-Some.ensures.value)
     c.remove.ensures
     (c.is_empty.ensures.0 c.if-not-is_empty.false)
     (seen-remove c.args.path.now n c.remove-2.new.self c.remove-2.ensures.updates)
-    ∙ ap (λ s. set.remove s (c.args.path.now, c.args.conn)) c.self.view_is
+    ∙ ap (λ s. set.remove s (c.args.path.now, c.args.connection)) c.self.view_is

@@ -7,5 +7,5 @@ abbrev pub invariant-loop-path : goal.invariant-loop-path
 invariant-loop-path l =
     (goal.iterator-loop-path).can_next l.path-iterator
     × (goal.iterator-loop-path).is_finite l.path-iterator
-    × (without_watched_paths l.conn (map string_bytes l.path-iterator) l.self
-    ≡ without_watched_paths l.conn (sorted_names l.paths) l.fn.self)
+    × (without_watched_paths l.connection (map string_bytes l.path-iterator) l.self
+    ≡ without_watched_paths l.connection (sorted_names l.paths) l.fn.self)

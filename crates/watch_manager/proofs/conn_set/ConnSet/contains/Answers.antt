@@ -4,5 +4,5 @@ use Rattle.watch_manager.proofs.ConnSets.{contains-keys}
 use Rattle.watch_manager.proofs.conn_set.ConnSet.contains.Goals as goal
 
 pub returns : goal.returns
-returns c = c.contains.ensures ∙ sym (contains-keys c.self.inside.conns.keys c.args.conn)
-    ∙ ap (λ s. set.contains s c.args.conn) c.self.view_is
+returns c = c.contains.ensures ∙ sym (contains-keys c.self.inside.conns.keys c.args.connection)
+    ∙ ap (λ s. set.contains s c.args.connection) c.self.view_is

@@ -4,5 +4,5 @@ use Rattle.watch_manager.proofs.ConnSets.{keys-remove}
 use Rattle.watch_manager.proofs.conn_set.ConnSet.remove.Goals as goal
 
 pub returns : goal.returns
-returns c = keys-remove c.args.conn c.self.inside.conns c.remove.new.self c.remove.ensures.updates
-    ∙ ap (λ s. set.remove s c.args.conn) c.self.view_is
+returns c = keys-remove c.args.connection c.self.inside.conns c.remove.new.self c.remove.ensures.updates
+    ∙ ap (λ s. set.remove s c.args.connection) c.self.view_is

@@ -4,6 +4,6 @@ use Rattle.watch_manager.proofs.Lengths.{lengths-dropped}
 use Rattle.watch_manager.proofs.recursive.RecursiveTable.drop_conn.Goals as goal
 
 pub invariant_of-self : goal.invariant_of-self
-invariant_of-self c path conn here =
-    lengths-dropped c.self.inside.lengths c.self.inside.table c.args.conn c.self.invariant path conn
-    (ap (λ s. set.contains s (path, conn)) (sym c.drop_conn.ensures) ∙ here)
+invariant_of-self c path connection here =
+    lengths-dropped c.self.inside.lengths c.self.inside.table c.args.connection c.self.invariant path connection
+    (ap (λ s. set.contains s (path, connection)) (sym c.drop_conn.ensures) ∙ here)

@@ -6,7 +6,7 @@ use Rattle.watch_manager.proofs.table.WatchTable.new.Goals as goal
 
 pub invariant_of-result : goal.invariant_of-result
 invariant_of-result c = (
-  λ path conn. ap (λ s. set.contains s (path, conn)) c.new.ensures ∙ agree-empty path conn
-      ∙ ap (λ s. set.contains s (conn, path)) (sym c.new-2.ensures),
+  λ path connection. ap (λ s. set.contains s (path, connection)) c.new.ensures ∙ agree-empty path connection
+      ∙ ap (λ s. set.contains s (connection, path)) (sym c.new-2.ensures),
   sym (ap set.len c.new.ensures ∙ set.len-empty watch_cmp),
 )

@@ -1,4 +1,4 @@
-use Rattle.std.proofs.Common.{◌≡◌, true, ap, sym, ◌∙◌}
+use Rattle.std.proofs.Common.{ap, sym, ◌∙◌}
 use Rattle.std.specs.Ordering.{nat_cmp}
 use Rattle.std.specs.FinSet as set
 use Rattle.watch_manager.proofs.Totals.{watch_total, watch_exact}
@@ -9,37 +9,39 @@ use Rattle.watch_manager.proofs.table.WatchTable.remove.Goals as goal
 
 pub returns-in-None : goal.returns-in-None
 returns-in-None c =
-    remove-absent watch_total watch_exact c.args.self.now (c.args.path.now, c.args.conn)
-    (sym (contains-watchers c.args.path.now c.args.self.now c.args.conn)
-    ∙ ap (λ s. set.contains s c.args.conn) c.in-None.ensures.none
-    ∙ set.contains-empty nat_cmp c.args.conn)
+    remove-absent watch_total watch_exact c.args.self.now (c.args.path.now, c.args.connection)
+    (sym (contains-watchers c.args.path.now c.args.self.now c.args.connection)
+    ∙ ap (λ s. set.contains s c.args.connection) c.in-None.ensures.none
+    ∙ set.contains-empty nat_cmp c.args.connection)
 
 pub returns-then-not-contains : goal.returns-then-not-contains
 returns-then-not-contains c =
-    remove-absent watch_total watch_exact c.args.self.now (c.args.path.now, c.args.conn)
-    (sym (contains-watchers c.args.path.now c.args.self.now c.args.conn)
-    ∙ ap (λ s. set.contains s c.args.conn) (sym c.in-Some.ensures.some)
+    remove-absent watch_total watch_exact c.args.self.now (c.args.path.now, c.args.connection)
+    (sym (contains-watchers c.args.path.now c.args.self.now c.args.connection)
+    ∙ ap (λ s. set.contains s c.args.connection) (sym c.in-Some.ensures.some)
     ∙ sym c.contains.ensures ∙ c.if-not-contains.true)
 
 pub overflow_sub-self : goal.overflow_sub-self
 overflow_sub-self c =
-    some-present watch_total watch_exact c.self.inside.by_path (c.args.path.now, c.args.conn) c.self.inside.count
+    some-present watch_total watch_exact c.self.inside.by_path (c.args.path.now, c.args.connection) c.self.inside.count
     c.self.invariant.1
-    (ap (λ s. set.contains s (c.args.path.now, c.args.conn)) c.self.view_is
-    ∙ sym (contains-watchers c.args.path.now c.args.self.now c.args.conn)
-    ∙ ap (λ s. set.contains s c.args.conn) (sym c.in-Some.ensures.some)
+    (ap (λ s. set.contains s (c.args.path.now, c.args.connection)) c.self.view_is
+    ∙ sym (contains-watchers c.args.path.now c.args.self.now c.args.connection)
+    ∙ ap (λ s. set.contains s c.args.connection) (sym c.in-Some.ensures.some)
     ∙ sym c.contains.ensures ∙ c.if-not-contains.false)
 
 pub invariant_of-self : goal.invariant_of-self
 invariant_of-self c = (
-  λ path conn. ap (λ s. set.contains s (path, conn)) c.remove-2.ensures
-      ∙ agree-remove c.self.inside.by_path c.self.inside.by_conn c.args.path.now c.args.conn c.self.invariant.0 path conn
-      ∙ ap (λ s. set.contains s (conn, path)) (sym c.remove.ensures),
-  len-remove-present watch_total watch_exact c.self.inside.by_path (c.args.path.now, c.args.conn) c.self.inside.count
+  λ path connection. ap (λ s. set.contains s (path, connection)) c.remove-2.ensures
+      ∙ agree-remove c.self.inside.by_path c.self.inside.by_conn c.args.path.now c.args.connection c.self.invariant.0
+      path connection
+      ∙ ap (λ s. set.contains s (connection, path)) (sym c.remove.ensures),
+  len-remove-present watch_total watch_exact c.self.inside.by_path (c.args.path.now, c.args.connection)
+      c.self.inside.count
       c.self.invariant.1
-      (ap (λ s. set.contains s (c.args.path.now, c.args.conn)) c.self.view_is
-      ∙ sym (contains-watchers c.args.path.now c.args.self.now c.args.conn)
-      ∙ ap (λ s. set.contains s c.args.conn) (sym c.in-Some.ensures.some)
+      (ap (λ s. set.contains s (c.args.path.now, c.args.connection)) c.self.view_is
+      ∙ sym (contains-watchers c.args.path.now c.args.self.now c.args.connection)
+      ∙ ap (λ s. set.contains s c.args.connection) (sym c.in-Some.ensures.some)
       ∙ sym c.contains.ensures ∙ c.if-not-contains.false)
       ∙ sym (ap set.len c.remove-2.ensures),
 )

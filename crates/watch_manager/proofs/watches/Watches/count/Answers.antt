@@ -7,9 +7,9 @@ use Rattle.watch_manager.proofs.watches.Watches.count.Goals as goal
 
 pub returns : goal.returns
 returns c =
-    let own = c.count.ensures ∙ ap (λ (w : WatchTables). set.len w.own) c.self.view_is in
+    let data_watches = c.count.ensures ∙ ap (λ (w : WatchTables). set.len w.data_watches) c.self.view_is in
     let child = c.count-2.ensures ∙ ap (λ (w : WatchTables). set.len w.child) c.self.view_is in
     let persistent = c.count-3.ensures ∙ ap set.len c.persistent.ensures in
     let recursive = c.count-4.ensures ∙ ap set.len c.recursive.ensures in
     let lasting = len-lasting c.self.inside.lasting ∙ ap (λ (w : WatchTables). finmap.len w.lasting) c.self.view_is in
-    omega (arith, own, child, persistent, recursive, lasting)
+    omega (arith, data_watches, child, persistent, recursive, lasting)

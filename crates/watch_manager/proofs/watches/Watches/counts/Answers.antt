@@ -17,16 +17,17 @@ same a b c x y z p q r i = counted (p i) (q i) (r i)
 pub returns : goal.returns
 returns c =
     let w = c.self.inside in
-    let tables : WatchTables = record { own = w.own; child = w.child; lasting = w.lasting } in
+    let tables : WatchTables = record { data_watches = w.data_watches; child = w.child; lasting = w.lasting } in
     let persistent = c.connections_beyond-2.ensures
-    ∙ ap (λ s. set.len (connections_beyond s w.own w.child w.child)) c.persistent-persistent.ensures in
+    ∙ ap (λ s. set.len (connections_beyond s w.data_watches w.child w.child)) c.persistent-persistent.ensures in
     let recursive = c.connections_beyond-3.ensures
-    ∙ (λ i. set.len (connections_beyond (c.recursive-recursive.ensures i) w.own w.child (c.persistent-persistent.ensures i)))
+    ∙ (λ i. set.len (connections_beyond (c.recursive-recursive.ensures i) w.data_watches w.child
+    (c.persistent-persistent.ensures i)))
     in
     let persistent_paths = c.paths_beyond-2.ensures
-    ∙ ap (λ s. set.len (keys_beyond path_cmp s w.own w.child w.child)) c.persistent-persistent.ensures in
+    ∙ ap (λ s. set.len (keys_beyond path_cmp s w.data_watches w.child w.child)) c.persistent-persistent.ensures in
     let recursive_paths = c.paths_beyond-3.ensures
-    ∙ (λ i. set.len (keys_beyond path_cmp (c.recursive-recursive.ensures i) w.own w.child
+    ∙ (λ i. set.len (keys_beyond path_cmp (c.recursive-recursive.ensures i) w.data_watches w.child
     (c.persistent-persistent.ensures i))) in
     let all = len-watching tables ∙ ap (λ w. set.len (watching_connections w)) c.self.view_is in
     let all_paths = len-watched tables ∙ ap (λ w. set.len (watched_paths w)) c.self.view_is in

@@ -14,10 +14,10 @@ use Rattle.watch_manager.proofs.watches.Watches.summary.Goals as goal
 pub returns : goal.returns
 returns c =
     let w = c.self.inside in
-    let own_rows = map (watched_in Own) (set.items w.own) in
+    let own_rows = map (watched_in Own) (set.items w.data_watches) in
     let both_rows = own_rows ++ map (watched_in Child) (set.items w.child) in
-    let own = c.in_ok-add_table.ensures [] (c.new-rows.ensures.empty ∙ sym (ascending-nil watched_total)) in
-    let both = c.in_ok-add_table-2.ensures own_rows own in
+    let data_watches = c.in_ok-add_table.ensures [] (c.new-rows.ensures.empty ∙ sym (ascending-nil watched_total)) in
+    let both = c.in_ok-add_table-2.ensures own_rows data_watches in
     let persistent = c.in_ok-add_table-3.ensures both_rows both
     ∙ ap (λ s. sorted_distinct watched_cmp (both_rows ++ map (watched_in Lasting) (set.items s)))
     c.persistent.ensures in

@@ -5,5 +5,6 @@ use Rattle.watch_manager.proofs.watches.Watches.tell_all.Given as goal
 
 abbrev pub invariant-loop-trigger : goal.invariant-loop-trigger
 invariant-loop-trigger l =
-    l.events.items ++ (fire (watch_tables l.own l.child l.self.lasting) (drop l.trigger-index l.triggers)).events
+    l.events.items ++ (fire (watch_tables l.data_watches l.child l.self.lasting)
+    (drop l.trigger-index l.triggers)).events
     ≡ (fire l.self l.triggers).events

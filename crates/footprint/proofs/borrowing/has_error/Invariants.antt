@@ -1,6 +1,0 @@
-use Rattle.std.proofs.Common.{◌≡◌, drop}
-use Rattle.data_tree.specs.Meaning.{has_error}
-use Rattle.footprint.proofs.borrowing.has_error.Given as goal
-
-abbrev pub invariant-loop-part : goal.invariant-loop-part
-invariant-loop-part l = has_error (drop l.part-index l.parts) ≡ has_error l.parts
