@@ -7,9 +7,7 @@ use Rattle.std.proofs.lemmas.List.Folds.{list_any-append}
 use mathlib.Core.Bool.{true≢false}
 use Rattle.ephemerals.specs.Orders.{Bytes, path_cmp}
 use Rattle.txn_codec.specs.declared.txn.Txn.{Txn}
-use Rattle.txn_codec.specs.declared.txn.TxnHeader.{TxnHeader}
-use Rattle.txn_codec.specs.declared.txn.Body.{Body}
-use Rattle.txn_codec.specs.declared.txn.Body.TheVariants as body
+use Rattle.txn_codec.specs.Row.{ends_session}
 use Rattle.data_tree.specs.Footprint.{has_path, footprint, KeepsToCells}
 use Rattle.data_tree.specs.Commuting.{GroupedTxn, txns_of_group, batch_of, KeepsToGroupPaths, entries_of_group}
 use Rattle.footprint.specs.Footprints.{is_barrier}
@@ -19,15 +17,11 @@ use Rattle.batcher.specs.Laws.{AreAmong}
 -- ---- none of them is a barrier
 
 free : (t : Txn) → is_barrier t ≡ false → KeepsToCells t
-free t = by t.header t.body
+free t none = neither (ends_session t.body) none
   where
-    by : (h : TxnHeader) (b : Body) → (let t : Txn = record { header = h; body = b } in is_barrier t ≡ false)
-        → (let t : Txn = record { header = h; body = b } in KeepsToCells t)
-    by h (body.Single operation) e = tt
-    by h (body.SetAcl b) e = tt
-    by h (body.Multi parts) e = tt
-    by h (body.CreateSession timeout) e = tt
-    by h body.CloseSession e = absurd (true≢false e)
+    neither : (a : Bool) {b : Bool} → (a || b) ≡ false → a ≡ false
+    neither true e = e
+    neither false e = refl
 
 pub all_free : (txns : List Txn) → AllByRecursion (λ t. is_barrier t ≡ false) txns → AllByRecursion KeepsToCells txns
 all_free [] none = tt

@@ -5,7 +5,7 @@ use Rattle.txn_codec.specs.declared.txn.Txn.{Txn}
 use Rattle.txn_codec.specs.declared.txn.Body.{Body}
 use Rattle.txn_codec.specs.declared.txn.Body.TheVariants as body
 use Rattle.data_tree.specs.State.{State}
-use Rattle.data_tree.specs.Meaning.{has_error}
+use Rattle.txn_codec.specs.Row.{has_error}
 use Rattle.data_tree.specs.Refused.{IsPartlyDone, IsLeftByRefused}
 use Rattle.data_tree.specs.Cells.{effect_in_cells, after_in_cells}
 use Rattle.apply_workers.specs.Works.{IsLeftByFirst, IsStopped}

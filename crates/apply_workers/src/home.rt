@@ -10,7 +10,7 @@ use apply_board::Group;
 use batcher::LentBatch;
 use data_tree::{Cells, Outcome, Tree};
 use std::alloc::Global;
-use txn_codec::{Body, Txn};
+use txn_codec::{SessionChange, Txn};
 use values::{Listed, NoMemory};
 
 /// The cells and the outcomes of the groups, in the order of the groups.
@@ -58,13 +58,13 @@ fn put_each(alloc: Global, tree: &mut Tree, each: Vec<Cells>) -> Result<(), NoMe
     Ok(())
 }
 
-// Sets the timeouts of the sessions that the transactions create, in their order.
+// Sets the timeouts of the sessions that begin, in their order.
 fn set_timeouts(tree: &mut Tree, txns: &[Txn]) -> Result<(), NoMemory>
     ensures { OnOk result (tree.new ≡ with_timeouts_set txns.now tree.old) }
 {
     for txn in txns {
-        if let Body::CreateSession(timeout) = &txn.body {
-            tree.put_session(txn.header.client_id, *timeout)?;
+        if let SessionChange::Begins(timeout) = txn.body.session_change() {
+            tree.put_session(txn.header.client_id, timeout)?;
         }
     }
     Ok(())

@@ -5,7 +5,8 @@ use Rattle.ephemerals.specs.Orders.{Bytes}
 use Rattle.txn_codec.specs.declared.txn.TxnHeader.{TxnHeader}
 use Rattle.txn_codec.specs.declared.txn.Operation.{Operation}
 use Rattle.data_tree.specs.State.{State}
-use Rattle.data_tree.specs.Meaning.{TxnEffect, of_operation, of_parts, of_failed, of_multi, has_error, error_of}
+use Rattle.txn_codec.specs.Row.{has_error, error_of}
+use Rattle.data_tree.specs.Meaning.{TxnEffect, of_operation, of_parts, of_failed, of_multi}
 use Rattle.data_tree.specs.declared.outcome.Trigger.{Trigger}
 use Rattle.audit.specs.declared.count.Count.{Count}
 use Rattle.audit.specs.Clean.{is_clean_operation, are_clean_parts}

@@ -27,7 +27,8 @@ use Rattle.txn_codec.specs.declared.txn.Body.TheVariants as body
 use Rattle.node_map.specs.Updates.{next_cversion, owner_of, with_data, with_acl}
 use Rattle.node_map.specs.declared.node.Node.{Node}
 use Rattle.data_tree.specs.State.{State, Nodes}
-use Rattle.data_tree.specs.Meaning.{TxnEffect, after_changes, gained_pair, create_under, create_taken, create_new, with_children, lost_pair, delete_at, set_data_at, set_acl_at, of_operation, of_parts, delete_operations, state_without_session, effect_of_body, effect_of_txn, state_after, error_of}
+use Rattle.txn_codec.specs.Row.{error_of}
+use Rattle.data_tree.specs.Meaning.{TxnEffect, after_changes, gained_pair, create_under, create_taken, create_new, with_children, lost_pair, delete_at, set_data_at, set_acl_at, of_operation, of_parts, delete_operations, state_without_session, effect_of_body, effect_of_txn, state_after}
 use Rattle.data_tree.specs.Meaning.Change.{Own, Disown}
 use Rattle.data_tree.specs.declared.outcome.Trigger.{Trigger}
 use Rattle.audit.specs.declared.count.Count.{Count}

@@ -17,7 +17,8 @@ use Rattle.txn_codec.specs.declared.txn.Body.{Body}
 use Rattle.txn_codec.specs.declared.txn.Body.TheVariants as body
 use Rattle.node_map.specs.declared.node.Node.{Node}
 use Rattle.data_tree.specs.State.{State, Nodes}
-use Rattle.data_tree.specs.Meaning.{error_of, of_operation, of_set_acl, effect_of_txn}
+use Rattle.txn_codec.specs.Row.{error_of}
+use Rattle.data_tree.specs.Meaning.{of_operation, of_set_acl, effect_of_txn}
 
 abbrev pub is_childless : Option Node → Bool
 is_childless None = true

@@ -1,8 +1,7 @@
 //! Whether the next transaction is clean.
 
-ghost use Rattle.std.specs.Prelude.{◌≡◌, is_none};
+ghost use Rattle.std.specs.Prelude.{◌≡◌};
 ghost use Rattle.std.specs.Option.{option_copied};
-ghost use Rattle.data_tree.specs.Meaning.{error_of};
 ghost use Rattle.audit.specs.Clean.{is_childless, are_childless, counts_up, is_orderly, closes_clean};
 ghost use Rattle.ephemerals.specs.Orders.{sorted_names};
 
@@ -40,17 +39,6 @@ pub(crate) fn is_orderly(operation: &Operation, tree: &Tree) -> bool
         ),
         Operation::Delete(path) => is_childless(tree.node(path.as_str())),
         Operation::SetData(_) | Operation::Check(_) | Operation::Error(_) => true,
-    }
-}
-
-/// Whether a part of a multi isn't an error part.
-pub(crate) fn is_no_error(part: &Operation) -> bool
-    ensures { result ≡ is_none (error_of part.now) }
-{
-    match part {
-        Operation::Error(_) => false,
-        Operation::Create(_) | Operation::Delete(_) | Operation::SetData(_) | Operation::Check(_) =>
-            true,
     }
 }
 

@@ -6,7 +6,7 @@ ghost use Rattle.data_tree.specs.Meaning.{of_operation, of_parts, effect_of_txn}
 ghost use Rattle.audit.specs.Clean.{is_clean_operation, are_clean_parts, is_clean};
 ghost use Rattle.audit.specs.Count.{count_after_triggers};
 
-use crate::clean::{closes_clean, is_no_error, is_orderly};
+use crate::clean::{closes_clean, is_orderly};
 use crate::count::Count;
 use data_tree::Tree;
 use std::alloc::Global;
@@ -79,7 +79,7 @@ fn take_parts(
         (of_parts header.now parts.now tree.old).triggers) }
 {
     for part in parts {
-        if !is_no_error(part) {
+        if part.error().is_some() {
             return Ok(false);
         }
         if !take_operation(alloc, tree, header, part, path, count)? {

@@ -15,7 +15,7 @@ use crate::group::Group;
 use crate::key::{PathKey, read_keys};
 use crate::limits::Limits;
 use crate::met::{Met, met_by};
-use footprint::{borrow_paths, is_barrier};
+use footprint::is_barrier;
 use std::alloc::Global;
 use std::collections::BTreeMap;
 use txn_codec::Txn;
@@ -201,7 +201,7 @@ impl<'a> Draft<'a> {
         let mut unowned = Vec::new(alloc);
         for txn in txns {
             paths.clear();
-            borrow_paths(txn, &mut paths)?;
+            txn.body.borrow_paths(&mut paths)?;
             if !draft.take(
                 alloc,
                 txn,

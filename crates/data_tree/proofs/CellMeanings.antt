@@ -9,7 +9,8 @@ use Rattle.txn_codec.specs.declared.txn.Txn.{Txn}
 use Rattle.txn_codec.specs.declared.txn.Body.{Body}
 use Rattle.txn_codec.specs.declared.txn.Body.TheVariants as body
 use Rattle.data_tree.specs.State.{State, SessionTimeouts}
-use Rattle.data_tree.specs.Meaning.{Change, after_change, after_changes, Effect, effect_of, set_acl_at, TxnEffect, of_effect, of_operation, of_parts, of_failed, has_error, first_error, delete_operations, state_without_session, effect_of_txn, effect_of_body}
+use Rattle.txn_codec.specs.Row.{has_error}
+use Rattle.data_tree.specs.Meaning.{Change, after_change, after_changes, Effect, effect_of, set_acl_at, TxnEffect, of_effect, of_operation, of_parts, of_failed, first_error, delete_operations, state_without_session, effect_of_txn, effect_of_body}
 use Rattle.data_tree.specs.Meaning.Change.{Put, Remove, Own, Disown}
 use Rattle.data_tree.specs.Refused.{IsPartlyDone, IsLeftByRefused}
 

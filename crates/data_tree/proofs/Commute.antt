@@ -10,9 +10,10 @@ use Rattle.txn_codec.specs.Paths.{parent_of, name_of}
 use Rattle.node_map.specs.Updates.{owner_of}
 use Rattle.node_map.specs.declared.node.Node.{Node}
 use Rattle.data_tree.specs.State.{State, Nodes}
-use Rattle.data_tree.specs.Meaning.{Effect, effect_of, create_under, create_taken, create_new, delete_at, set_data_at, set_acl_at, TxnEffect, answer_of, of_effect, of_operation, of_set_acl, of_parts, of_failed, has_error, first_error, effect_of_txn, effect_of_body, after_changes, of_create_session, of_close_session, delete_operations, state_without_session}
+use Rattle.txn_codec.specs.Row.{has_error, footprint_of_operation, footprint_of_parts, session_change}
+use Rattle.data_tree.specs.Meaning.{Effect, effect_of, create_under, create_taken, create_new, delete_at, set_data_at, set_acl_at, TxnEffect, answer_of, of_effect, of_operation, of_set_acl, of_parts, of_failed, first_error, effect_of_txn, effect_of_body, after_changes, of_create_session, of_close_session, delete_operations, state_without_session}
 use Rattle.data_tree.specs.Meaning.Change.{Put, Own, Disown}
-use Rattle.data_tree.specs.Footprint.{has_path, IsSameCell, AreSameAt, AreApart, footprint_of_operation, footprint_of_parts, footprint, KeepsToCells}
+use Rattle.data_tree.specs.Footprint.{has_path, IsSameCell, AreSameAt, AreApart, footprint, KeepsToCells}
 use Rattle.data_tree.specs.Commuting.{IsConfined, IsConfinedTo, TransactionsKeepToTheirFootprints, TransactionsSetTheirTimeouts, DisjointTransactionsCommute, with_timeout_of, with_timeouts}
 use Rattle.data_tree.specs.declared.outcome.Outcome.{Outcome}
 use Rattle.txn_codec.specs.declared.txn.TxnHeader.{TxnHeader}
@@ -277,7 +278,7 @@ transactions_keep_to_their_footprints t = by t.header t.body
     by h (body.CreateSession timeout) k =
         nothing-confined (of_create_session h timeout) (λ s q. record { node = refl; owners = λ w. refl })
         (λ s t. refl)
-    by h body.CloseSession k = absurd k
+    by h body.CloseSession k = absurd (true≢false k)
 
 -- ---- sessions
 
@@ -300,16 +301,16 @@ close-sessions h s =
     (state_without_session h.client_id s)
 
 pub mean-sessions : (t : Txn) (s : State) → KeepsToCells t
-    → (effect_of_txn s t).state.sessions ≡ with_timeout_of t.header t.body s.sessions
+    → (effect_of_txn s t).state.sessions ≡ with_timeout_of t.header (session_change t.body) s.sessions
 mean-sessions t s = by t.header t.body
   where
     by : (h : TxnHeader) (b : Body) → (let t : Txn = record { header = h; body = b } in KeepsToCells t)
-        → (effect_of_body h b s).state.sessions ≡ with_timeout_of h b s.sessions
+        → (effect_of_body h b s).state.sessions ≡ with_timeout_of h (session_change b) s.sessions
     by h (body.Single operation) k = after_changes-sessions s (effect_of h operation s.nodes).changes
     by h (body.SetAcl b) k = after_changes-sessions s (set_acl_at b (finmap.get s.nodes b.path)).changes
     by h (body.Multi parts) k = multi-sessions h parts s (has_error parts)
     by h (body.CreateSession timeout) k = refl
-    by h body.CloseSession k = absurd k
+    by h body.CloseSession k = absurd (true≢false k)
 
 pub transactions_set_their_timeouts : TransactionsSetTheirTimeouts
 transactions_set_their_timeouts [] s keep = refl
@@ -336,9 +337,10 @@ disjoint_transactions_commute a b s ka kb apart =
           (same_at_after (footprint a) (footprint b) (λ u. (effect_of_txn u a).state) ca.state apart s);
       state = λ orderless. same_state (effect_of_txn (effect_of_txn s a).state b).state
           (effect_of_txn (effect_of_txn s b).state a).state
-          (mean-sessions b (effect_of_txn s a).state kb ∙ ap (with_timeout_of b.header b.body) (mean-sessions a s ka)
+          (mean-sessions b (effect_of_txn s a).state kb
+          ∙ ap (with_timeout_of b.header (session_change b.body)) (mean-sessions a s ka)
           ∙ orderless
           ∙ sym (mean-sessions a (effect_of_txn s b).state ka
-          ∙ ap (with_timeout_of a.header a.body) (mean-sessions b s kb)))
+          ∙ ap (with_timeout_of a.header (session_change a.body)) (mean-sessions b s kb)))
           same;
     }

@@ -23,7 +23,8 @@ use Rattle.node_map.specs.declared.node.Node.{Node}
 use Rattle.node_map.proofs.Links.{each_of_all}
 use Rattle.node_map.proofs.Naming.{name_is, IsNamed, EachIsNamed, each_with, each_without, names_with, names_without, no_names}
 use Rattle.data_tree.specs.State.{State, Nodes}
-use Rattle.data_tree.specs.Meaning.{Change, after_change, after_changes, effect_of, create_under, create_taken, create_new, with_children, gained_pair, delete_at, lost_pair, set_data_at, set_acl_at, of_parts, of_multi, of_failed, has_error, delete_operations, state_without_session, effect_of_body, fresh_state}
+use Rattle.txn_codec.specs.Row.{has_error}
+use Rattle.data_tree.specs.Meaning.{Change, after_change, after_changes, effect_of, create_under, create_taken, create_new, with_children, gained_pair, delete_at, lost_pair, set_data_at, set_acl_at, of_parts, of_multi, of_failed, delete_operations, state_without_session, effect_of_body, fresh_state}
 use Rattle.data_tree.specs.Meaning.Change.{Put, Remove, Own, Disown}
 use Rattle.data_tree.specs.Making.{with_node, with_node_in_place}
 

@@ -9,7 +9,8 @@ use Rattle.txn_codec.specs.declared.txn.Operation.{Operation}
 use Rattle.txn_codec.specs.declared.txn.Operation.TheVariants as op
 use Rattle.data_tree.specs.State.{State}
 use Rattle.jute.specs.declared.codes.TheConstants.{RUNTIME_INCONSISTENCY}
-use Rattle.data_tree.specs.Meaning.{of_parts, of_operation, delete_operations, first_error, error_of, has_error, errors_of_failed, error_in_failed, answer_of}
+use Rattle.txn_codec.specs.Row.{error_of}
+use Rattle.data_tree.specs.Meaning.{of_parts, of_operation, delete_operations, first_error, errors_of_failed, error_in_failed, answer_of}
 use Rattle.data_tree.specs.Refused.{IsAfterFront}
 use Rattle.data_tree.specs.declared.outcome.Trigger.{Trigger}
 use Rattle.data_tree.specs.declared.outcome.Outcome.{Outcome}
@@ -130,14 +131,6 @@ closing_step h paths left left' path old now new before triggers triggers' first
 }
 
 -- ---- the errors of parts
-
-pub has_error-found : (ps : List Operation) (x : Operation) (rest : List Operation) → ps ≡ x ∷ rest
-    → is_some (error_of x) ≡ true → has_error ps ≡ true
-has_error-found ps x rest is found = ap has_error is ∙ ap (λ b. b || has_error rest) found
-
-pub has_error-passed : (ps : List Operation) (x : Operation) (rest : List Operation) → ps ≡ x ∷ rest
-    → is_some (error_of x) ≡ false → has_error ps ≡ has_error rest
-has_error-passed ps x rest is passed = ap has_error is ∙ ap (λ b. b || has_error rest) passed
 
 -- The errors of the parts after one, where this is the error of each part that isn't an error part.
 abbrev pub errors_behind : ℤ → List Operation → List ℤ

@@ -6,8 +6,9 @@ use Rattle.std.specs.FinMap as finmap
 use Rattle.ephemerals.specs.Orders.{Bytes}
 use Rattle.txn_codec.specs.declared.txn.Txn.{Txn}
 use Rattle.txn_codec.specs.declared.txn.TxnHeader.{TxnHeader}
-use Rattle.txn_codec.specs.declared.txn.Body.{Body}
-use Rattle.txn_codec.specs.declared.txn.Body.TheVariants as body
+use Rattle.txn_codec.specs.declared.row.SessionChange.{SessionChange}
+use Rattle.txn_codec.specs.declared.row.SessionChange.TheVariants.{Nothing, Begins, Ends}
+use Rattle.txn_codec.specs.Row.{session_change}
 use Rattle.data_tree.specs.State.{State, SessionTimeouts}
 use Rattle.data_tree.specs.Meaning.{TxnEffect, effect_of_txn, state_after, outcomes_of_txns, answer_of}
 use Rattle.data_tree.specs.Cells.{after_in_cells, outcomes_in_cells}
@@ -26,18 +27,16 @@ pub record IsConfinedTo (paths : List Bytes) (meant : State → TxnEffect) : Typ
 abbrev pub TransactionsKeepToTheirFootprints : Type 0
 TransactionsKeepToTheirFootprints = (t : Txn) → KeepsToCells t → IsConfinedTo (footprint t) (λ s. effect_of_txn s t)
 
--- A createSession sets its session's timeout.
-abbrev pub with_timeout_of : TxnHeader → Body → SessionTimeouts → SessionTimeouts
-with_timeout_of header (body.CreateSession timeout) sessions = finmap.insert sessions header.client_id timeout
-with_timeout_of header (body.Single operation) sessions = sessions
-with_timeout_of header (body.SetAcl body) sessions = sessions
-with_timeout_of header (body.Multi parts) sessions = sessions
-with_timeout_of header body.CloseSession sessions = sessions
+-- A session that begins gets its timeout.
+abbrev pub with_timeout_of : TxnHeader → SessionChange → SessionTimeouts → SessionTimeouts
+with_timeout_of header (Begins timeout) sessions = finmap.insert sessions header.client_id timeout
+with_timeout_of header Ends sessions = sessions
+with_timeout_of header Nothing sessions = sessions
 
 -- The sessions after the transactions' timeouts were set in order.
 abbrev pub with_timeouts : SessionTimeouts → List Txn → SessionTimeouts
 with_timeouts sessions [] = sessions
-with_timeouts sessions (t ∷ ts) = with_timeouts (with_timeout_of t.header t.body sessions) ts
+with_timeouts sessions (t ∷ ts) = with_timeouts (with_timeout_of t.header (session_change t.body) sessions) ts
 
 -- The sessions after a transaction depend on no cell.
 abbrev pub TransactionsSetTheirTimeouts : Type 0

@@ -1,53 +1,23 @@
 -- The cells that a transaction reads and writes. The cell at a path is the node there, if any, and the sessions that
 -- list the path.
-use Rattle.std.specs.Prelude.{◌≡◌, ℤ, List, [], ◌∷◌, ◌++◌, Bool, true, false, if◌then◌else◌}
+use Rattle.std.specs.Prelude.{◌≡◌, ℤ, List, Bool, true, false}
 use Rattle.std.specs.List.{list_any}
 use Rattle.std.specs.Ordering.{eq_by_cmp}
 use Rattle.std.specs.FinMap as finmap
 use Rattle.std.specs.FinSet as set
 use Rattle.ephemerals.specs.Orders.{Bytes, path_cmp}
-use Rattle.txn_codec.specs.Paths.{parent_of}
 use Rattle.txn_codec.specs.declared.txn.Txn.{Txn}
-use Rattle.txn_codec.specs.declared.txn.Operation.{Operation}
-use Rattle.txn_codec.specs.declared.txn.Operation.TheVariants as op
-use Rattle.txn_codec.specs.declared.txn.Body.{Body}
-use Rattle.txn_codec.specs.declared.txn.Body.TheVariants as body
+use Rattle.txn_codec.specs.Row.{footprint_of_body, ends_session}
 use Rattle.data_tree.specs.State.{State}
-use Rattle.data_tree.specs.Meaning.{has_error}
-
-abbrev pub footprint_of_operation : Operation → List Bytes
-footprint_of_operation (op.Create body) = body.path ∷ parent_of body.path ∷ []
-footprint_of_operation (op.Delete path) = path ∷ parent_of path ∷ []
-footprint_of_operation (op.SetData body) = body.path ∷ []
-footprint_of_operation (op.Check body) = []
-footprint_of_operation (op.Error error) = []
-
-abbrev pub footprint_of_parts : List Operation → List Bytes
-footprint_of_parts [] = []
-footprint_of_parts (o ∷ os) = footprint_of_operation o ++ footprint_of_parts os
 
 -- The footprint of a transaction that keeps to cells.
 abbrev pub footprint : Txn → List Bytes
-footprint t = of_body t.body
-  where
-    of_body : Body → List Bytes
-    of_body (body.Single operation) = footprint_of_operation operation
-    of_body (body.SetAcl body) = body.path ∷ []
-    of_body (body.Multi parts) = if has_error parts then [] else footprint_of_parts parts
-    of_body (body.CreateSession timeout) = []
-    of_body body.CloseSession = []
+footprint t = footprint_of_body t.body
 
--- Every transaction but a closeSession keeps to cells. A closeSession changes cells at every path that its session
+-- Every transaction but one that ends a session keeps to cells. That one changes cells at every path that the session
 -- lists.
 abbrev pub KeepsToCells : Txn → Type 0
-KeepsToCells t = keeps t.body
-  where
-    keeps : Body → Type 0
-    keeps (body.Single operation) = Unit {0}
-    keeps (body.SetAcl body) = Unit {0}
-    keeps (body.Multi parts) = Unit {0}
-    keeps (body.CreateSession timeout) = Unit {0}
-    keeps body.CloseSession = ⊥
+KeepsToCells t = ends_session t.body ≡ false
 
 abbrev pub has_path : List Bytes → Bytes → Bool
 has_path paths path = list_any (eq_by_cmp path_cmp path) paths

@@ -1,7 +1,6 @@
 -- The effect of a transaction on the state, and its outcome (ZooKeeper Programmer's Guide).
-use Rattle.std.specs.Prelude.{ℤ, pos, List, [], ◌∷◌, ◌++◌, if◌then◌else◌, Bool, Option, Some, None, is_some, map, int_lt, codes}
+use Rattle.std.specs.Prelude.{ℤ, pos, List, [], ◌∷◌, ◌++◌, if◌then◌else◌, Option, Some, None, is_some, map, int_lt, codes}
 use Rattle.std.specs.Option.{unwrap_or}
-use Rattle.std.specs.List.{list_any}
 use Rattle.std.specs.Ordering.{int_eq}
 use Rattle.std.specs.FinMap as finmap
 use Rattle.std.specs.FinSet as set
@@ -9,6 +8,7 @@ use Rattle.ephemerals.specs.Orders.{Bytes, Names, sorted_names}
 use Rattle.ephemerals.specs.Pairs.{paths_of_session, without_session}
 use Rattle.jute.specs.declared.codes.TheConstants.{NO_NODE, NODE_EXISTS, RUNTIME_INCONSISTENCY}
 use Rattle.txn_codec.specs.Paths.{parent_of, name_of}
+use Rattle.txn_codec.specs.Row.{error_of, has_error}
 use Rattle.txn_codec.specs.declared.txn.TxnHeader.{TxnHeader}
 use Rattle.txn_codec.specs.declared.txn.Create.{Create}
 use Rattle.txn_codec.specs.declared.txn.SetData.{SetData}
@@ -155,16 +155,6 @@ of_set_acl body s = of_effect (set_acl_at body (finmap.get s.nodes body.path)) s
 abbrev pub first_error : List ℤ → ℤ
 first_error [] = pos 0
 first_error (e ∷ es) = if int_eq e (pos 0) then first_error es else e
-
-abbrev pub error_of : Operation → Option ℤ
-error_of (op.Error error) = Some error
-error_of (op.Create body) = None
-error_of (op.Delete path) = None
-error_of (op.SetData body) = None
-error_of (op.Check body) = None
-
-abbrev pub has_error : List Operation → Bool
-has_error parts = list_any (λ (o : Operation). is_some (error_of o)) parts
 
 -- An error part has its own error, any other part -2.
 abbrev pub error_in_failed : Operation → ℤ

@@ -5,7 +5,8 @@ use Rattle.txn_codec.specs.declared.txn.Operation.{Operation}
 use Rattle.txn_codec.specs.declared.txn.Body.{Body}
 use Rattle.txn_codec.specs.declared.txn.Body.TheVariants as body
 use Rattle.data_tree.specs.State.{State}
-use Rattle.data_tree.specs.Meaning.{has_error, of_parts}
+use Rattle.txn_codec.specs.Row.{has_error}
+use Rattle.data_tree.specs.Meaning.{of_parts}
 
 -- A prefix of the parts was applied.
 abbrev pub IsAfterFront : TxnHeader → List Operation → State → State → Type 0

@@ -28,7 +28,6 @@ mod sessions;
 mod tree;
 
 pub use cells::Cells;
-pub use multi::has_error;
 pub use node_map::Node;
 pub use outcome::{Outcome, Trigger};
 pub use sessions::Timeouts;

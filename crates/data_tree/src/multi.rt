@@ -3,7 +3,7 @@
 //! Laws that go over this: `CellMeanings`, `Commute`, `KeepingNames`.
 
 ghost use Rattle.std.specs.Prelude.{◌≡◌, IfOk};
-ghost use Rattle.data_tree.specs.Meaning.{first_error, error_of, has_error, errors_of_failed, failed_outcome};
+ghost use Rattle.data_tree.specs.Meaning.{first_error, errors_of_failed, failed_outcome};
 
 use crate::outcome::Outcome;
 use jute::codes::RUNTIME_INCONSISTENCY;
@@ -23,28 +23,6 @@ pub(crate) fn first_error(errors: &[i32]) -> i32
     0
 }
 
-fn error_of(part: &Operation) -> Option<i32>
-    ensures { result ≡ error_of part.now }
-{
-    match part {
-        Operation::Error(error) => Some(*error),
-        Operation::Create(_) | Operation::Delete(_) | Operation::SetData(_) | Operation::Check(_) =>
-            None,
-    }
-}
-
-/// Whether a part of a multi is an error part.
-pub fn has_error(parts: &[Operation]) -> bool
-    ensures { result ≡ has_error parts.now }
-{
-    for part in parts {
-        if error_of(part).is_some() {
-            return true;
-        }
-    }
-    false
-}
-
 /// The outcome of a multi that has an error part. Fails only if an allocation is refused.
 pub(crate) fn failed_outcome(alloc: Global, parts: &[Operation]) -> Result<Outcome, NoMemory>
     ensures { IfOk result (λ o. o ≡ failed_outcome parts.now) }
@@ -52,7 +30,7 @@ pub(crate) fn failed_outcome(alloc: Global, parts: &[Operation]) -> Result<Outco
     let mut otherwise = 0;
     let mut errors = Vec::new(alloc);
     for part in parts {
-        match error_of(part) {
+        match part.error() {
             None => errors.push(otherwise)?,
             Some(error) => {
                 errors.push(error)?;

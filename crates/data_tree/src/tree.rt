@@ -13,14 +13,15 @@ ghost use Rattle.data_tree.specs.Making.{with_placed_node};
 ghost use Rattle.data_tree.specs.Making.{empty_state, with_session, with_node_in_place, has_place};
 ghost use Rattle.data_tree.specs.Inner.Placing.{with_new_node_placed};
 ghost use Rattle.data_tree.specs.Whole.{IsWhole};
-ghost use Rattle.data_tree.specs.Meaning.{of_operation, of_set_acl, of_create_session, of_close_session, of_parts, of_multi, delete_operations, has_error, effect_of_txn, answer_of, fresh_state};
+ghost use Rattle.txn_codec.specs.Row.{has_error};
+ghost use Rattle.data_tree.specs.Meaning.{of_operation, of_set_acl, of_create_session, of_close_session, of_parts, of_multi, delete_operations, effect_of_txn, answer_of, fresh_state};
 ghost use Rattle.data_tree.specs.Cells.{cells_at, without_cells, with_cells};
 ghost use Rattle.data_tree.specs.Refused.{IsAfterFront};
 ghost use Rattle.data_tree.specs.Refused.{IsPartlyDone, IsLeftByRefused};
 ghost use Rattle.data_tree.specs.Inner.Doing.{DoesEffect};
 ghost use Rattle.ephemerals.specs.Orders.{sorted_names};
 
-use crate::multi::{failed_outcome, first_error, has_error};
+use crate::multi::{failed_outcome, first_error};
 use crate::outcome::{Outcome, Trigger, fire_data_changed, fire_with_parent};
 use crate::sessions::Timeouts;
 use ephemerals::{Ephemerals, TextSet};
@@ -31,7 +32,7 @@ use std::alloc::Global;
 use std::collections::btree_map::Iter;
 use std::marker::Model;
 use txn_codec::{
-    Body, Create, Operation, Path, SetAcl, SetData, Txn, TxnHeader, name_of, parent_of,
+    Body, Create, Operation, Path, SetAcl, SetData, Txn, TxnHeader, has_error, name_of, parent_of,
 };
 use values::{Listed, NoMemory, Text};
 

@@ -7,12 +7,8 @@ use Rattle.std.proofs.lemmas.Map.Lookups.{exact_bytes}
 use Rattle.ephemerals.specs.Orders.{Bytes, Names, path_cmp}
 use Rattle.ephemerals.proofs.Totals.{path_total}
 use Rattle.txn_codec.specs.declared.txn.Txn.{Txn}
-use Rattle.txn_codec.specs.declared.txn.TxnHeader.{TxnHeader}
-use Rattle.txn_codec.specs.declared.txn.Operation.{Operation}
-use Rattle.txn_codec.specs.declared.txn.Body.{Body}
-use Rattle.txn_codec.specs.declared.txn.Body.TheVariants as body
 use Rattle.data_tree.specs.Footprint.{footprint}
-use Rattle.footprint.specs.Footprints.{most_paths, is_barrier}
+use Rattle.footprint.specs.Footprints.{most_paths, txn_paths}
 
 -- One more path is in the set.
 pub one_more : (paths : List Bytes) (i : ℕ) (p : Bytes) → i < length paths → p ≡ get_or paths i p
@@ -44,24 +40,10 @@ no_more (p ∷ ps) =
 below : (n m : ℕ) → n ≤ m → nat_lt m n ≡ false
 below n m le = grind (arith, nat_tests)
 
--- A multi with so few paths isn't a barrier.
-pub few_enough : (t : Txn) (paths : List Bytes) (parts : List Operation) → t.body ≡ body.Multi parts
-    → paths ≡ footprint t → length paths ≤ most_paths → false ≡ is_barrier t
-few_enough t paths parts multi is few =
+-- A transaction with so few paths isn't a barrier for their number.
+pub few_enough : (t : Txn) (paths : List Bytes) → paths ≡ footprint t → length paths ≤ most_paths
+    → nat_lt most_paths (set.len (txn_paths t)) ≡ false
+few_enough t paths is few =
     let more = no_more (footprint t) in
     let long = ap length is in
-    by t.header t.body multi
-    (sym (below (set.len (set.from_list {R = path_cmp} (footprint t))) most_paths (omega arith)))
-  where
-    by : (h : TxnHeader) (b : Body) → b ≡ body.Multi parts
-        → (let u : Txn = record { header = h; body = b } in
-        false ≡ nat_lt most_paths (set.len (set.from_list {R = path_cmp} (footprint u))))
-        → (let u : Txn = record { header = h; body = b } in false ≡ is_barrier u)
-    by h (body.Multi ps) e small = small
-    by h (body.Single o) e small = refl
-    by h (body.SetAcl a) e small = refl
-    by h (body.CreateSession a) e small = refl
-    by h body.CloseSession e small = absurd (other e)
-      where
-        other : body.CloseSession ≡ body.Multi parts → ⊥
-        other e = cc
+    below (set.len (txn_paths t)) most_paths (omega arith)

@@ -11,15 +11,13 @@
 //! }
 //! ```
 //!
-//! A caller that needs no order takes the paths as the transaction names them: `borrow_paths` copies none of them, and
-//! `is_barrier` says whether they are too many.
+//! A caller that needs no order takes the paths as the transaction names them: `borrow_paths` of `txn_codec` copies none
+//! of them, and `is_barrier` says whether they are too many.
 #![tactic(auto)]
 
-mod borrowing;
 mod cover;
 pub mod law;
 mod listing;
 
-pub use borrowing::borrow_paths;
 pub use cover::Footprint;
 pub use listing::{footprint, is_barrier};

@@ -6,14 +6,13 @@ ghost use Rattle.ephemerals.specs.Orders.{sorted_names};
 ghost use Rattle.data_tree.specs.Footprint as cells;
 ghost use Rattle.footprint.specs.Footprints.{is_barrier, txn_footprint};
 
-use crate::borrowing::borrow_paths;
 use crate::cover::Footprint;
 use ephemerals::TextSet;
 use std::alloc::Global;
-use txn_codec::{Body, Txn};
+use txn_codec::Txn;
 use values::{Listed, NoMemory, Str, Text};
 
-// A multi with more paths is applied alone.
+// A transaction with more paths is applied alone.
 const MOST_PATHS: usize = 16;
 
 fn gathered(alloc: Global, paths: &[Str<'_>]) -> Result<TextSet, NoMemory>
@@ -31,17 +30,14 @@ pub fn is_barrier(alloc: Global, txn: &Txn, paths: &[Str<'_>]) -> Result<bool, N
     requires { paths.now ≡ cells.footprint txn.now }
     ensures { IfOk result (λ barrier. barrier ≡ is_barrier txn.now) }
 {
-    match &txn.body {
-        Body::CloseSession => Ok(true),
-        Body::Multi(_) => {
-            // There can't be too many paths, even if they are all distinct.
-            if paths.len() <= MOST_PATHS {
-                return Ok(false);
-            }
-            Ok(gathered(alloc, paths)?.len() > MOST_PATHS)
-        }
-        Body::Single(_) | Body::SetAcl(_) | Body::CreateSession(_) => Ok(false),
+    if txn.body.ends_session() {
+        return Ok(true);
     }
+    // There can't be too many paths, even if they are all distinct.
+    if paths.len() <= MOST_PATHS {
+        return Ok(false);
+    }
+    Ok(gathered(alloc, paths)?.len() > MOST_PATHS)
 }
 
 fn listed(alloc: Global, paths: TextSet) -> Result<Listed<Text>, NoMemory>
@@ -61,7 +57,7 @@ pub fn footprint(alloc: Global, txn: &Txn) -> Result<Footprint, NoMemory>
     ensures { IfOk result (λ footprint. footprint ≡ txn_footprint txn.now) }
 {
     let mut paths = Vec::new(alloc);
-    borrow_paths(txn, &mut paths)?;
+    txn.body.borrow_paths(&mut paths)?;
     if is_barrier(alloc, txn, paths.as_slice())? {
         return Ok(Footprint::Barrier);
     }

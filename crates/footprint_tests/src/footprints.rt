@@ -1,7 +1,7 @@
 //! The paths that a transaction may touch.
 
 use crate::words::{operation_of, txn_of};
-use footprint::{Footprint, borrow_paths, footprint};
+use footprint::{Footprint, footprint};
 use std::alloc::Global;
 use std::test::Fail;
 use txn_codec::{Body, Path, SetAcl, Txn};
@@ -45,7 +45,7 @@ fn of_multi(alloc: Global, parts: &[(char, &str)]) -> Result<String, Fail> {
 // The paths borrowed from a transaction, each after a blank.
 fn lent(alloc: Global, txn: &Txn) -> Result<String, Fail> {
     let mut paths = Vec::new(alloc);
-    borrow_paths(txn, &mut paths)?;
+    txn.body.borrow_paths(&mut paths)?;
     let mut text = String::new(alloc);
     for path in paths.as_slice() {
         text.push_str(" ")?;

@@ -2,8 +2,9 @@
 use Rattle.std.specs.Prelude.{ℕ, zero, suc, ℤ, List, [], ◌∷◌, Option, Some, None, Result, Ok, Err, Bool, true, false, ◌||◌, length, nat_lt, if◌then◌else◌}
 use Rattle.values.specs.declared.fault.Fault.{Fault}
 use Rattle.txn_codec.specs.declared.txn.Txn.{Txn}
-use Rattle.txn_codec.specs.declared.txn.Body.{Body}
-use Rattle.txn_codec.specs.declared.txn.Body.TheVariants as bodies
+use Rattle.txn_codec.specs.declared.row.SessionChange.{SessionChange}
+use Rattle.txn_codec.specs.declared.row.SessionChange.TheVariants as changes
+use Rattle.txn_codec.specs.Row.{session_change}
 use Rattle.txn_codec.specs.Kinds.{code_of, body_kind}
 use Rattle.quorum_packet.specs.declared.packet.QuorumPacket.{QuorumPacket}
 use Rattle.learner_sync.specs.Answers.{ping_reply, session_rows}
@@ -87,16 +88,14 @@ abbrev pub reply_of : Clients → Txn → Option ℕ → Due
 reply_of c t None = Nothing
 reply_of c t (Some n) = reply_as n (answered_write (queue_of c.pending n) t.header.cxid (txn_number t))
 
-abbrev pub due_by : Clients → Txn → Body → Due
-due_by c t (bodies.CreateSession time_out) = admission_of (connecting_to c.pending t.header.client_id)
-due_by c t bodies.CloseSession = ending_of (connection_of c.sessions t.header.client_id)
-due_by c t (bodies.Single operation) = reply_of c t (connection_of c.sessions t.header.client_id)
-due_by c t (bodies.SetAcl set_acl) = reply_of c t (connection_of c.sessions t.header.client_id)
-due_by c t (bodies.Multi parts) = reply_of c t (connection_of c.sessions t.header.client_id)
+abbrev pub due_by : Clients → Txn → SessionChange → Due
+due_by c t (changes.Begins time_out) = admission_of (connecting_to c.pending t.header.client_id)
+due_by c t changes.Ends = ending_of (connection_of c.sessions t.header.client_id)
+due_by c t changes.Nothing = reply_of c t (connection_of c.sessions t.header.client_id)
 
 -- What the transaction brings to a client here.
 abbrev pub answer_due : Clients → Txn → Due
-answer_due c t = due_by c t t.body
+answer_due c t = due_by c t (session_change t.body)
 
 abbrev pub is_due : Due → Bool
 is_due Nothing = false

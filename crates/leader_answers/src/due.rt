@@ -5,7 +5,7 @@ ghost use Rattle.leader_answers.specs.Answering.{answer_due, reply_of, lets_answ
 
 use client_service::Clients;
 use forwarding::WriteKind;
-use txn_codec::{Body, Txn};
+use txn_codec::{SessionChange, Txn};
 
 /// What a transaction that was applied brings to a client of this observer.
 #[derive(Clone, Copy)]
@@ -41,18 +41,16 @@ pub fn answer_due(clients: &Clients, txn: &Txn) -> Due
     ensures { result ≡ answer_due clients.now txn.now }
 {
     let session = txn.header.client_id;
-    match &txn.body {
-        Body::CreateSession(_) => match clients.pending.connecting(session) {
+    match txn.body.session_change() {
+        SessionChange::Begins(_) => match clients.pending.connecting(session) {
             None => return Due::Nothing,
             Some(number) => Due::Admission(number),
         },
-        Body::CloseSession => match clients.sessions.connection(session) {
+        SessionChange::Ends => match clients.sessions.connection(session) {
             None => return Due::Nothing,
             Some(number) => Due::Ending(number),
         },
-        Body::Single(_) | Body::SetAcl(_) | Body::Multi(_) => {
-            reply_of(clients, txn, clients.sessions.connection(session))
-        }
+        SessionChange::Nothing => reply_of(clients, txn, clients.sessions.connection(session)),
     }
 }
 

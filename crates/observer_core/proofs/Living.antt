@@ -21,7 +21,8 @@ use Rattle.txn_codec.specs.declared.txn.Operation.{Operation}
 use Rattle.txn_codec.specs.declared.txn.Body.{Body}
 use Rattle.txn_codec.specs.declared.txn.Body.TheVariants as bodies
 use Rattle.data_tree.specs.State.{State, SessionTimeouts}
-use Rattle.data_tree.specs.Meaning.{Change, Put, Remove, Own, Disown, after_change, after_changes, effect_of, has_error, of_failed, of_parts, of_multi, of_close_session, effect_of_body, effect_of_txn, set_acl_at, delete_operations, state_without_session, fresh_state}
+use Rattle.txn_codec.specs.Row.{has_error, session_change}
+use Rattle.data_tree.specs.Meaning.{Change, Put, Remove, Own, Disown, after_change, after_changes, effect_of, of_failed, of_parts, of_multi, of_close_session, effect_of_body, effect_of_txn, set_acl_at, delete_operations, state_without_session, fresh_state}
 use Rattle.ephemerals.specs.Orders.{sorted_names}
 use Rattle.ephemerals.specs.Pairs.{paths_of_session}
 use Rattle.snapshot_codec.specs.Made.{Loading, with_loaded}
@@ -452,7 +453,7 @@ module _ (stays : ServingStays) (laws : LowerLaws) where
           (λ same. absurd (other (tells_apart exact_signed x session same))) (λ _. live n x e)
 
       by : (b : Body) → w.replica.tree.sessions ≡ (effect_of_body t.header b before).state.sessions
-          → SessionsLive (give_answer w t err (due_by w.clients t b)).after
+          → SessionsLive (give_answer w t err (due_by w.clients t (session_change b))).after
       by (bodies.CreateSession time_out) is =
           created time_out is (connecting_to w.clients.pending session) refl
       by bodies.CloseSession is =

@@ -2,8 +2,9 @@
 use Rattle.std.proofs.Common.{◌≡◌, ℕ, ℤ, Option, Some, None, refl, sym, ap, subst, ◌∙◌, arith}
 use Rattle.std.specs.Option.{unwrap_or}
 use Rattle.txn_codec.specs.declared.txn.Txn.{Txn}
-use Rattle.txn_codec.specs.declared.txn.Body.{Body}
-use Rattle.txn_codec.specs.declared.txn.Body.TheVariants as bodies
+use Rattle.txn_codec.specs.declared.row.SessionChange.{SessionChange}
+use Rattle.txn_codec.specs.declared.row.SessionChange.TheVariants as changes
+use Rattle.txn_codec.specs.Row.{session_change}
 use Rattle.forwarding.specs.declared.request.PendingConnect.{PendingConnect}
 use Rattle.forwarding.specs.declared.request.Settled.{Settled}
 use Rattle.forwarding.specs.declared.request.Settled.TheVariants.{NoSync, Gone, Of}
@@ -61,7 +62,7 @@ nothing_due c session = record {
 }
 
 due_is : (c : Clients) (t : Txn) → IsDueTo c t.header.client_id (answer_due c t)
-due_is c t = by t.body
+due_is c t = by (session_change t.body)
   where
     session : ℤ
     session = t.header.client_id
@@ -95,12 +96,10 @@ due_is c t = by t.body
     replied None is = nothing_due c session
     replied (Some m) is = replies_as m (answered_write (queue_of c.pending m) t.header.cxid (txn_number t)) is
 
-    by : (b : Body) → IsDueTo c session (due_by c t b)
-    by (bodies.CreateSession time_out) = admitted (connecting_to c.pending session) refl
-    by bodies.CloseSession = ended (connection_of c.sessions session) refl
-    by (bodies.Single operation) = replied (connection_of c.sessions session) refl
-    by (bodies.SetAcl set_acl) = replied (connection_of c.sessions session) refl
-    by (bodies.Multi parts) = replied (connection_of c.sessions session) refl
+    by : (change : SessionChange) → IsDueTo c session (due_by c t change)
+    by (changes.Begins time_out) = admitted (connecting_to c.pending session) refl
+    by changes.Ends = ended (connection_of c.sessions session) refl
+    by changes.Nothing = replied (connection_of c.sessions session) refl
 
 abbrev number_in : ℕ → Settled → ℕ
 number_in k NoSync = k

@@ -11,8 +11,9 @@ use Rattle.values.specs.declared.fault.Fault.{Fault}
 use Rattle.jute.specs.Stream.{Unread, items_in, place_at}
 use Rattle.snapshot_codec.specs.Made.{Loading}
 use Rattle.txn_codec.specs.declared.txn.Txn.{Txn}
-use Rattle.txn_codec.specs.declared.txn.Body.{Body}
-use Rattle.txn_codec.specs.declared.txn.Body.TheVariants as bodies
+use Rattle.txn_codec.specs.declared.row.SessionChange.{SessionChange}
+use Rattle.txn_codec.specs.declared.row.SessionChange.TheVariants as changes
+use Rattle.txn_codec.specs.Row.{session_change}
 use Rattle.quorum_packet.specs.declared.item.Item.{Item}
 use Rattle.learner_sync.specs.Learn.{start_in, checkpoint_in}
 use Rattle.learner_sync.specs.declared.phase.Phase.{Phase}
@@ -229,7 +230,7 @@ client_quiet n w (Some k) bytes q = by (word_at n w came)
 -- ---- where it is quiet, no news answer anybody
 
 none_due : (c : Clients) (t : Txn) → ClientsAgree c → IsQuiet c → answer_due c t ≡ dues.Nothing
-none_due c t a q = by t.body
+none_due c t a q = by (session_change t.body)
   where
     session : ℤ
     session = t.header.client_id
@@ -252,12 +253,10 @@ none_due c t a q = by t.body
             let f = a.pending.in_front session n e in
             absurd (true≢false (sym (none_waits c.pending q.nothing n) ∙ waits_busy c.pending n f.0 f.1.0))
 
-    by : (b : Body) → due_by c t b ≡ dues.Nothing
-    by (bodies.CreateSession time_out) = ap admission_of unwanted
-    by bodies.CloseSession = ap ending_of unowned
-    by (bodies.Single operation) = ap (reply_of c t) unowned
-    by (bodies.SetAcl set_acl) = ap (reply_of c t) unowned
-    by (bodies.Multi parts) = ap (reply_of c t) unowned
+    by : (change : SessionChange) → due_by c t change ≡ dues.Nothing
+    by (changes.Begins time_out) = ap admission_of unwanted
+    by changes.Ends = ap ending_of unowned
+    by changes.Nothing = ap (reply_of c t) unowned
 
 txn_quiet : (w : World) (err : ℤ) (o : Option Txn) → Agreeing w → IsQuiet w.clients
     → QuietAfter (answer_optional_txn w err o)

@@ -5,6 +5,9 @@
 //! of the given bytes, or returns the first fault in their order. `specs/Spelling.antt` defines the spellings in one
 //! table for operations and one for bodies.
 //!
+//! What is asked of a transaction, beside what it does, is in one place (`src/row.rt`, `specs/Row.antt`): the paths that
+//! it touches, the data that it brings, the path that its reply shows, what it does to sessions, and whether it failed.
+//!
 //! ```text
 //! let txn = decode_txn(alloc, bytes)?;
 //! txn.header.zxid
@@ -20,6 +23,7 @@ mod kind;
 mod law;
 mod path;
 mod place;
+mod row;
 mod txn;
 
 pub use acl_list::AclList;
@@ -28,4 +32,5 @@ pub use encode::encode_txn;
 pub use kind::TxnKind;
 pub use law::transactions;
 pub use path::{Path, child_of, is_path, name_of, parent_of};
+pub use row::{SessionChange, has_error};
 pub use txn::{Body, Check, Create, Operation, SetAcl, SetData, Txn, TxnHeader};

@@ -4,25 +4,12 @@ use Rattle.std.specs.Ordering.{int_eq}
 use Rattle.client_records.specs.declared.codes.TheConstants.{OK}
 use Rattle.client_records.specs.declared.kind.ReadKind.TheVariants.{Exists}
 use Rattle.txn_codec.specs.declared.txn.Body.{Body}
-use Rattle.txn_codec.specs.declared.txn.Body.TheVariants as bodies
-use Rattle.txn_codec.specs.declared.txn.Operation.TheVariants as operations
+use Rattle.txn_codec.specs.Row.{shown_path_of_body}
 use Rattle.data_tree.specs.State.{State}
 use Rattle.read_processor.specs.declared.shown.Look.{Look}
 use Rattle.read_processor.specs.Look.{look_at_state, look_of_path, without_body}
 use Rattle.forwarding.specs.declared.request.WriteKind.{WriteKind}
 use Rattle.forwarding.specs.declared.request.WriteKind.TheVariants as writes
-
--- The path of a create, a setData and a setACL.
-abbrev pub written_path : Body → Option (List ℕ)
-written_path (bodies.Single (operations.Create c)) = Some c.path
-written_path (bodies.Single (operations.SetData s)) = Some s.path
-written_path (bodies.Single (operations.Delete p)) = None
-written_path (bodies.Single (operations.Check c)) = None
-written_path (bodies.Single (operations.Error e)) = None
-written_path (bodies.SetAcl s) = Some s.path
-written_path (bodies.Multi parts) = None
-written_path (bodies.CreateSession timeout) = None
-written_path bodies.CloseSession = None
 
 -- The Stat of a node as it is now, as an exists shows it.
 abbrev pub stat_look : State → List ℕ → Look
@@ -39,4 +26,4 @@ look_of_write s writes.CloseSession (Some path) = without_body OK
 
 -- A write that failed is answered with its error alone.
 abbrev pub write_look : State → WriteKind → Body → ℤ → Look
-write_look s kind body err = if int_eq err (pos 0) then look_of_write s kind (written_path body) else without_body err
+write_look s kind body err = if int_eq err (pos 0) then look_of_write s kind (shown_path_of_body body) else without_body err

@@ -1,8 +1,8 @@
 //! What the reply to a write of a client shows.
 
 ghost use Rattle.std.specs.Prelude.{◌≡◌, IfOk};
-ghost use Rattle.std.specs.Option.{option_copied};
-ghost use Rattle.write_replies.specs.Replies.{written_path, stat_look, look_of_write, write_look};
+ghost use Rattle.txn_codec.specs.Row.{shown_path_of_body};
+ghost use Rattle.write_replies.specs.Replies.{stat_look, look_of_write, write_look};
 
 use client_records::ReadKind;
 use client_records::codes::OK;
@@ -10,30 +10,8 @@ use data_tree::Tree;
 use forwarding::WriteKind;
 use read_processor::{Look, Request, look};
 use std::alloc::Global;
-use txn_codec::{Body, Operation};
+use txn_codec::Body;
 use values::{NoMemory, Str};
-
-// The path of a create and a setData.
-fn path_of_operation(operation: &Operation) -> Option<&str>
-    ensures { option_copied result ≡ written_path (Body.Single operation.now) }
-{
-    match operation {
-        Operation::Create(create) => Some(create.path.as_str()),
-        Operation::SetData(set_data) => Some(set_data.path.as_str()),
-        Operation::Delete(_) | Operation::Check(_) | Operation::Error(_) => None,
-    }
-}
-
-// The path of a create, a setData and a setACL.
-fn written_path(body: &Body) -> Option<&str>
-    ensures { option_copied result ≡ written_path body.now }
-{
-    match body {
-        Body::Single(operation) => path_of_operation(operation),
-        Body::SetAcl(set_acl) => Some(set_acl.path.as_str()),
-        Body::Multi(_) | Body::CreateSession(_) | Body::CloseSession => None,
-    }
-}
 
 // The Stat of a node, as an exists shows it.
 fn stat_look(alloc: Global, tree: &Tree, path: &str) -> Result<Look, NoMemory>
@@ -49,9 +27,9 @@ fn stat_look(alloc: Global, tree: &Tree, path: &str) -> Result<Look, NoMemory>
 
 // What the reply to a write without an error shows.
 fn look_of_write(alloc: Global, tree: &Tree, kind: WriteKind, body: &Body) -> Result<Look, NoMemory>
-    ensures { IfOk result (λ seen. seen ≡ look_of_write tree.now kind (written_path body.now)) }
+    ensures { IfOk result (λ seen. seen ≡ look_of_write tree.now kind (shown_path_of_body body.now)) }
 {
-    let Some(path) = written_path(body) else {
+    let Some(path) = body.shown_path() else {
         return Look::without_body(alloc, OK);
     };
     match kind {

@@ -1,6 +1,6 @@
 use Rattle.std.proofs.Common.{◌≡◌, ◌++◌, drop}
-use Rattle.data_tree.specs.Footprint.{footprint_of_parts}
-use Rattle.footprint.proofs.borrowing.add_parts.Given as goal
+use Rattle.txn_codec.specs.Row.{footprint_of_parts}
+use Rattle.txn_codec.proofs.row.add_parts.Given as goal
 
 abbrev pub invariant-loop-part : goal.invariant-loop-part
 invariant-loop-part l =
