@@ -1,7 +1,5 @@
 -- A list that grew and was cut back.
 pub mod Lists
--- A map from signed numbers as a finite map.
-pub mod IntMaps
 -- A pair that was added and is removed again, and the changes of pairs.
 pub mod UndonePairs
 -- A create of a name that is taken, and one that is refused.

@@ -18,7 +18,8 @@ use Rattle.forwarding.specs.State.{RequestQueues, TouchedSessions, PendingTable}
 use Rattle.forwarding.specs.Pending.{nothing_pending, queue_in, queue_of, put_queue, is_idle, is_full, push_request, push_connect, push_sync, unsettled_sync, settle_first, without_connect, take_connect_as, connecting_to, without_owner, drop_connection, take_touched}
 use Rattle.forwarding.specs.Agreement.{is_connect, is_settled, places_of, QueueAgrees, PendingAgrees}
 use Rattle.forwarding.specs.Laws.{Stays, PendingAgreementIsKept}
-use Rattle.session_map.proofs.Maps.{none-some, some-some, apart, other, same_or_other, inserted, inserted_elsewhere, removed_elsewhere, at_inserted, at_removed}
+use Rattle.std.proofs.lemmas.Option.{none-some}
+use Rattle.values.proofs.Keyed.{some-some, apart, other, same_or_other, inserted, inserted_elsewhere, removed_elsewhere, at_inserted, at_removed}
 use Rattle.forwarding.proofs.Changing.{queue_put, put_filled, queue_inserted}
 use Rattle.forwarding.proofs.Counting.{pushed_here, taken_here, dropped_here}
 use Rattle.forwarding.proofs.QueueSteps.{no_connect, empty_agrees, connect_agrees, pushed_agrees, connect_pushed, answered_agrees, connect_answered, settled_agrees, connect_settled, taken_agrees}

@@ -9,7 +9,8 @@ use Rattle.forwarding.specs.Queue.{RequestQueue, is_write, is_answered_by, oldes
 use Rattle.forwarding.specs.State.{PendingTable}
 use Rattle.forwarding.specs.Pending.{queue_of, put_queue}
 use Rattle.forwarding.specs.Laws.{IsAnswered, AnswersAreMatched, IsSettledIn}
-use Rattle.session_map.proofs.Maps.{none-some, some-some}
+use Rattle.std.proofs.lemmas.Option.{none-some}
+use Rattle.values.proofs.Keyed.{some-some}
 use Rattle.forwarding.proofs.Changing.{queue_put, put_same}
 
 -- Where the oldest write stands.

@@ -8,7 +8,7 @@ use Rattle.forwarding.specs.Queue.{RequestQueue}
 use Rattle.forwarding.specs.State.{RequestQueues}
 use Rattle.forwarding.specs.Pending.{queue_in, with_queue}
 use Rattle.forwarding.specs.Inner.{has_empty, with_changed, without_empty}
-use Rattle.session_map.proofs.Maps.{other, same_or_other, inserted, inserted_elsewhere, removed, removed_elsewhere, insert_same, remove_absent, remove_inserted}
+use Rattle.values.proofs.Keyed.{other, same_or_other, inserted, inserted_elsewhere, removed, removed_elsewhere, insert_same, remove_absent, remove_inserted}
 
 -- The queue is changed, and the connection is taken out of the map if it has no request left.
 pub changed : (queues mid new : RequestQueues) (n : ℕ) (change : RequestQueue → RequestQueue) → change [] ≡ []

@@ -7,7 +7,8 @@ use Rattle.forwarding.specs.State.{PendingTable}
 use Rattle.forwarding.specs.Pending.{queue_in, without_owner, without_connect, drop_connection}
 use Rattle.forwarding.specs.Agreement.{PendingAgrees}
 use Rattle.forwarding.specs.Inner.{first_sync}
-use Rattle.session_map.proofs.Maps.{none-some, some-some}
+use Rattle.std.proofs.lemmas.Option.{none-some}
+use Rattle.values.proofs.Keyed.{some-some}
 use Rattle.forwarding.proofs.Counting.{dropped_nothing}
 use Rattle.forwarding.proofs.QueueSteps.{none_unsettled}
 

@@ -12,7 +12,8 @@ use Rattle.forwarding.specs.State.{RequestQueues, PendingTable}
 use Rattle.forwarding.specs.Pending.{queue_in, queue_of, has_no_request}
 use Rattle.forwarding.specs.Agreement.{PendingAgrees}
 use Rattle.forwarding.specs.Laws.{EmptinessIsTold}
-use Rattle.session_map.proofs.Maps.{none-some, inserted}
+use Rattle.std.proofs.lemmas.Option.{none-some}
+use Rattle.values.proofs.Keyed.{inserted}
 
 module _ {K X : Type 0} {R : K → K → Ordering} (o : IsTotalOrder R) (exact : CmpEqualImpliesEq R) where
   not_empty : (m : finmap.FinMap R X) (k : K) (v : X) → finmap.len (finmap.insert m k v) ≡ 0 → ⊥

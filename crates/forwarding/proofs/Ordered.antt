@@ -11,7 +11,8 @@ use Rattle.forwarding.specs.State.{PendingTable}
 use Rattle.forwarding.specs.Pending.{queue_of, put_queue, unsettled_sync, settle_first, settle_sync, take_connect_as}
 use Rattle.forwarding.specs.Agreement.{places_of, PendingAgrees}
 use Rattle.forwarding.specs.Laws.{IsOf, LeavesWithFrames, RequestsKeepOrder, IsSettledIn, SyncsKeepOrder, WaitsForLeader, NothingWaitsInVain}
-use Rattle.session_map.proofs.Maps.{none-some, some-some}
+use Rattle.std.proofs.lemmas.Option.{none-some}
+use Rattle.values.proofs.Keyed.{some-some}
 use Rattle.forwarding.proofs.Changing.{queue_put, queue_inserted, put_same}
 use Rattle.forwarding.proofs.Counting.{taken_here, dropped_here, dropped_length}
 use Rattle.forwarding.proofs.Answered.{settled_in}

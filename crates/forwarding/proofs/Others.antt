@@ -11,7 +11,7 @@ use Rattle.forwarding.specs.State.{PendingTable}
 use Rattle.forwarding.specs.Pending.{queue_in, queue_of, put_queue, push_request, unsettled_sync, settle_first, drop_connection, take_connect_as}
 use Rattle.forwarding.specs.Agreement.{places_of}
 use Rattle.forwarding.specs.Laws.{Stays, OtherQueuesStay}
-use Rattle.session_map.proofs.Maps.{other, removed_elsewhere}
+use Rattle.values.proofs.Keyed.{other, removed_elsewhere}
 use Rattle.forwarding.proofs.Changing.{put_elsewhere, insert_elsewhere}
 use Rattle.forwarding.proofs.Counting.{pushed_elsewhere, taken_elsewhere, dropped_elsewhere}
 

@@ -13,7 +13,7 @@ use Rattle.forwarding.specs.Queue.{RequestQueue, answered_write, after_answer, o
 use Rattle.forwarding.specs.State.{RequestQueues, TouchedSessions, PendingTable}
 use Rattle.forwarding.specs.Pending.{nothing_pending, queue_in, queue_of, has_no_request, with_queue, push_connect, push_write, push_sync, unsettled_sync, settle_sync, drop_connection, without_connect, take_connect_as, sorted_touched, with_timeout, live_rows, touched_limit, touched_rows}
 use Rattle.forwarding.specs.Rows.{held_frame, path_a, create_waits, create_answered, CreateIsAnswered, RequestsAreSeen, sync_then_write, WriteOvertakesSync, sync_of_gone, SyncOfGone, new_session, connect_waits, ConnectIsAnswered, CloseIsFound, three_touched, two_live, TouchedAreTold, WorkedRows}
-use Rattle.session_map.proofs.Maps.{inserted, remove_absent, remove_inserted, insert_inserted}
+use Rattle.values.proofs.Keyed.{inserted, remove_absent, remove_inserted, insert_inserted}
 use Rattle.forwarding.proofs.SessionSets.{items-sorted}
 use Rattle.forwarding.proofs.Changing.{queue_put}
 use Rattle.forwarding.proofs.Others.{others_stay, put_leaves}

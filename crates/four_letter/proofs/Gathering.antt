@@ -20,7 +20,8 @@ use Rattle.ephemerals.specs.Orders.{Bytes, path_cmp}
 use Rattle.ephemerals.proofs.Totals.{path_total}
 use Rattle.watch_manager.specs.Pairs.{same_path}
 use Rattle.watch_manager.specs.Ascending.{sorted_distinct}
-use Rattle.watch_manager.proofs.Ascending.{entries-empty, entries-in_order, ascending-nil, ascending-cons, insert-ascending}
+use Rattle.values.proofs.Keyed.{entries-empty, entries-in_order}
+use Rattle.watch_manager.proofs.Ascending.{ascending-nil, ascending-cons, insert-ascending}
 use Rattle.four_letter.specs.Watched.{watched_paths, watching_sessions}
 use Rattle.four_letter.specs.Texts.{path_block, wchp_text}
 use Rattle.four_letter.specs.Inner.Gathered.{SessionsByPath, sessions_by_path, AddsSession, sessions_on, sorted_sessions, GathersSessions, path_blocks}
@@ -243,7 +244,7 @@ module _ {X : Type 0} (f : Bytes → X) where
 
   entries-valued : (ks : List Bytes)
       → finmap.entries (finmap.from_entries {R = path_cmp} (valued ks)) ≡ valued (sorted_distinct path_cmp ks)
-  entries-valued [] = entries-empty path_total ∙ ap valued (sym (ascending-nil path_total))
+  entries-valued [] = entries-empty path_cmp ∙ ap valued (sym (ascending-nil path_total))
   entries-valued (k ∷ ks) =
       finmap.entries-insert path_total (finmap.from_entries {R = path_cmp} (valued ks)) k (f k)
       ∙ ap (put path_cmp k (f k)) (entries-valued ks)

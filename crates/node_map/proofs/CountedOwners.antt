@@ -15,8 +15,7 @@ use Rattle.node_map.specs.Inner.NodesView.{nodes_of}
 use Rattle.node_map.specs.Agreement.{is_owner, AreOwned}
 use Rattle.node_map.specs.declared.node.Node.{Node}
 use Rattle.ephemerals.proofs.Totals.{pair_total, pair_exact}
-use Rattle.node_map.proofs.TextMaps.{get-seen}
-use Rattle.ephemerals.proofs.TextKeys.{query}
+use Rattle.values.proofs.Keyed.{query, get-text_map_of}
 use Rattle.node_map.proofs.Counting.{AreDistinct, AreIn, as_many, all_counted}
 use Rattle.ephemerals.proofs.Ties.{same_session}
 use Rattle.node_map.proofs.OwnersOfNodes.{with_owner, owners, owners-any, owners-distinct, owners-push, found-at}
@@ -118,7 +117,7 @@ module _ {Z : Type 0} where
       where
         here : finmap.get nodes (string_bytes e.0) ≡ Some e.1
         here = ap (λ ns. finmap.get ns (string_bytes e.0)) c.all
-            ∙ get-seen (c.before ++ e ∷ rest) (string_bytes e.0)
+            ∙ get-text_map_of (c.before ++ e ∷ rest) (string_bytes e.0)
             ∙ found-at c.before e rest c.sorted
 
         itself : int_eq e.1.stat.ephemeral_owner e.1.stat.ephemeral_owner ≡ true
@@ -149,6 +148,6 @@ module _ {Z : Type 0} where
 
       found : (path : Bytes) → lookup (query path) c.before ≡ finmap.get nodes path
       found path =
-          sym (get-seen c.before path)
+          sym (get-text_map_of c.before path)
           ∙ ap (λ es. finmap.get (nodes_of es) path) (sym whole)
           ∙ ap (λ ns. finmap.get ns path) (sym c.all)

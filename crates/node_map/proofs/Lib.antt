@@ -1,7 +1,3 @@
--- A map from texts as a finite map from bytes.
-pub mod TextMaps
--- A map of sorted entries.
-pub mod EntriesInOrder
 -- A node that was borrowed mutably.
 pub mod NodeUpdates
 -- Nodes that are taken out of a map, and put into one.

@@ -22,8 +22,7 @@ use Rattle.node_map.specs.Children.{HasItsChildren}
 use Rattle.node_map.specs.declared.node.Node.{Node}
 use Rattle.ephemerals.proofs.Totals.{path_total}
 use Rattle.node_map.proofs.Deciding.{Decides}
-use Rattle.node_map.proofs.TextMaps.{get-seen}
-use Rattle.ephemerals.proofs.TextKeys.{query}
+use Rattle.values.proofs.Keyed.{query, get-text_map_of}
 
 pub each_of_all : {A : Type 0} (P : A → Type 0) (xs : List A) → All P xs → AllByRecursion P xs
 each_of_all P [] h = tt
@@ -97,10 +96,10 @@ module _ {Z : Type 0} (P : Bytes → Node → Type 0) where
       → AllByRecursion (λ (e : String Z × Node). P (string_bytes e.0) e.1) m.entries
       ↔ ((path : Bytes) (node : Node) → finmap.get (nodes_of m.entries) path ≡ Some node → P path node)
   all_nodes m found = (
-    (λ all path node is. each_entry path node m.entries all (sym (get-seen m.entries path) ∙ is)),
+    (λ all path node is. each_entry path node m.entries all (sym (get-text_map_of m.entries path) ∙ is)),
     (λ each. all_map (λ (e : String Z × Node). tree.get string_cmp m e.0 ≡ Some e.1)
         (λ (e : String Z × Node). P (string_bytes e.0) e.1)
-        (λ e is. each (string_bytes e.0) e.1 (get-seen m.entries (string_bytes e.0) ∙ is))
+        (λ e is. each (string_bytes e.0) e.1 (get-text_map_of m.entries (string_bytes e.0) ∙ is))
         m.entries (each_of_all (λ (e : String Z × Node). tree.get string_cmp m e.0 ≡ Some e.1) m.entries found)),
   )
 

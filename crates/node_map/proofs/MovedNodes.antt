@@ -22,7 +22,7 @@ use Rattle.node_map.specs.Agreement.{has_node}
 use Rattle.node_map.specs.Updates.{update_found, with_entries}
 use Rattle.node_map.specs.Inner.Moving.{IsRoomFor, with_replaced_node, without_nodes, with_moved_nodes}
 use Rattle.node_map.specs.declared.node.Node.{Node}
-use Rattle.node_map.proofs.TextMaps.{seen, get-seen, none_ahead}
+use Rattle.values.proofs.Keyed.{text_map_of, get-text_map_of, not_found_below}
 
 -- ---- the nodes
 
@@ -195,11 +195,11 @@ room_for_all paths nodes room all q = sym (or-false (has_node room q)) ∙ all q
 -- The first nodes with those of the others that aren't left.
 pub record IsJoining {Z : Type 0} (others old : Nodes) (left : List (String Z × Node)) (nodes : Nodes) : Type 0 where
   sorted : IsStrictlySortedBy string_cmp (keys_of left)
-  same : (q : Bytes) → option_or (finmap.get (seen left) q) (finmap.get nodes q)
+  same : (q : Bytes) → option_or (finmap.get (text_map_of left) q) (finmap.get nodes q)
       ≡ option_or (finmap.get others q) (finmap.get old q)
 
 pub joining : {Z : Type 0} (others old : Nodes) (all : List (String Z × Node))
-    → IsStrictlySortedBy string_cmp (keys_of all) → seen all ≡ others → IsJoining others old all old
+    → IsStrictlySortedBy string_cmp (keys_of all) → text_map_of all ≡ others → IsJoining others old all old
 joining others old all sorted is = record {
   sorted = sorted;
   same = λ q. ap (λ m. option_or (finmap.get m q) (finmap.get old q)) is;
@@ -212,21 +212,21 @@ joined_one others old nodes new e es before made = record {
   sorted = sorted_tail string_cmp e.0 (keys_of es) before.sorted;
   same =
       λ q.
-      ap (option_or (finmap.get (seen es) q))
+      ap (option_or (finmap.get (text_map_of es) q))
       (ap (λ m. finmap.get m q) made ∙ finmap.get-insert path_total nodes (string_bytes e.0) e.1 q)
       ∙ by q (eq_by_cmp path_cmp q (string_bytes e.0)) refl
       ∙ ap (λ o. option_or o (finmap.get nodes q))
-      (sym (finmap.get-insert path_total (seen es) (string_bytes e.0) e.1 q))
+      (sym (finmap.get-insert path_total (text_map_of es) (string_bytes e.0) e.1 q))
       ∙ before.same q;
 }
   where
     by : (q : Bytes) (b : Bool) → eq_by_cmp path_cmp q (string_bytes e.0) ≡ b
-        → option_or (finmap.get (seen es) q) (cond b (Some e.1) (finmap.get nodes q))
-        ≡ option_or (cond b (Some e.1) (finmap.get (seen es) q)) (finmap.get nodes q)
+        → option_or (finmap.get (text_map_of es) q) (cond b (Some e.1) (finmap.get nodes q))
+        ≡ option_or (cond b (Some e.1) (finmap.get (text_map_of es) q)) (finmap.get nodes q)
     by q true t = ap (λ o. option_or o (Some e.1))
-        (ap (finmap.get (seen es)) (tells_apart exact_bytes q (string_bytes e.0) t)
-        ∙ get-seen es (string_bytes e.0)
-        ∙ none_ahead (string_bytes e.0) es (sorted_head string_cmp e.0 (keys_of es) before.sorted))
+        (ap (finmap.get (text_map_of es)) (tells_apart exact_bytes q (string_bytes e.0) t)
+        ∙ get-text_map_of es (string_bytes e.0)
+        ∙ not_found_below (string_bytes e.0) es (sorted_head string_cmp e.0 (keys_of es) before.sorted))
     by q false t = refl
 
 pub all_joined : {Z : Type 0} (others old nodes : Nodes) → IsJoining {Z = Z} others old [] nodes

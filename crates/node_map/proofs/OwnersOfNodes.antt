@@ -14,8 +14,7 @@ use Rattle.ephemerals.specs.Orders.{Bytes, path_cmp, pair_cmp}
 use Rattle.node_map.specs.Agreement.{is_owner}
 use Rattle.node_map.specs.declared.node.Node.{Node}
 use Rattle.ephemerals.proofs.Totals.{path_total}
-use Rattle.node_map.proofs.TextMaps.{none_ahead}
-use Rattle.ephemerals.proofs.TextKeys.{query}
+use Rattle.values.proofs.Keyed.{query, not_found_below}
 use Rattle.node_map.proofs.Counting.{AreDistinct}
 use Rattle.std.proofs.Math.Bool.{and-false, and-true, or-false}
 use Rattle.ephemerals.proofs.Ties.{tied_then, same_session}
@@ -45,7 +44,7 @@ module _ {Z : Type 0} where
       none_left : eq_by_cmp path_cmp p (string_bytes e.0) ≡ true → lookup (query p) es ≡ None
       none_left t =
           ap (λ q. lookup (query q) es) (tells_apart exact_bytes p (string_bytes e.0) t)
-          ∙ none_ahead (string_bytes e.0) es (sorted_head string_cmp e.0 (keys_of es) sorted)
+          ∙ not_found_below (string_bytes e.0) es (sorted_head string_cmp e.0 (keys_of es) sorted)
 
       zero_owns : (o : ℤ) → int_eq o (pos 0) ≡ true → (not (int_eq s (pos 0)) && int_eq o s) ≡ false
       zero_owns o z = apart (int_eq o s) refl
@@ -98,7 +97,7 @@ module _ {Z : Type 0} where
       by rest false = (
         owners-any es (sorted_tail string_cmp e.0 (keys_of es) sorted) e.1.stat.ephemeral_owner (string_bytes e.0)
             ∙ ap (is_owner e.1.stat.ephemeral_owner)
-            (none_ahead (string_bytes e.0) es (sorted_head string_cmp e.0 (keys_of es) sorted)),
+            (not_found_below (string_bytes e.0) es (sorted_head string_cmp e.0 (keys_of es) sorted)),
         rest,
       )
 
@@ -130,7 +129,7 @@ module _ {Z : Type 0} where
           → cond t (Some x.1) (lookup (query (string_bytes e.0)) (before ++ e ∷ rest)) ≡ Some e.1
       by found true t =
           let none : lookup (query (string_bytes x.0)) (before ++ e ∷ rest) ≡ None =
-          none_ahead (string_bytes x.0) (before ++ e ∷ rest)
+          not_found_below (string_bytes x.0) (before ++ e ∷ rest)
           (sorted_head string_cmp x.0 (keys_of (before ++ e ∷ rest)) sorted) in
           let clash : None ≡ Some e.1 =
           sym none

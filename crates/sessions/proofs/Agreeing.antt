@@ -16,7 +16,8 @@ use Rattle.sessions.specs.Sessions.{no_sessions, close_connection, close_as, clo
 use Rattle.sessions.specs.Agreement.{SessionsAgree, SessionsAreApart}
 use Rattle.sessions.proofs.Cases.{first_of, second_of}
 use Rattle.sessions.proofs.Numbers.{first_below}
-use Rattle.session_map.proofs.Maps.{none-some, some-some, apart, other, same_or_other, inserted, inserted_elsewhere, removed, removed_elsewhere, at_inserted, at_removed, remove_absent, insert_removed, remove_past_insert}
+use Rattle.std.proofs.lemmas.Option.{none-some}
+use Rattle.values.proofs.Keyed.{some-some, apart, other, same_or_other, inserted, inserted_elsewhere, removed, removed_elsewhere, at_inserted, at_removed, remove_absent, insert_removed, remove_past_insert}
 
 -- A connection that has this session.
 abbrev pub Has : ℤ → ConnectedClients → ℕ → Type 0

@@ -18,7 +18,7 @@ use Rattle.sessions.specs.Agreement.{SessionsAgree, AgreementIsKept, ResponsesNa
 use Rattle.sessions.proofs.Ids.{digest_is_writable}
 use Rattle.sessions.proofs.Texts.{is_short}
 use Rattle.sessions.proofs.Cases.{at_if}
-use Rattle.session_map.proofs.Maps.{inserted}
+use Rattle.values.proofs.Keyed.{inserted}
 use Rattle.sessions.proofs.Agreeing.{starts, closed, closing_agrees, expires_closing, joins, joins_older, gives_free, gives_older, shows, counts}
 
 -- ---- close and expire

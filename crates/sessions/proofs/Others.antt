@@ -12,7 +12,7 @@ use Rattle.sessions.specs.State.{ConnectedClient, SessionTable}
 use Rattle.sessions.specs.Sessions.{ConnectResult, AuthResult, greatest_counter, are_within_limits, is_same_id, with_id, is_valid, connection_of, close_as, close_if_some, new_connection, give_session, connect_session, show_in, digest_text, auth_by}
 use Rattle.sessions.specs.Agreement.{OtherConnectionsStay}
 use Rattle.sessions.proofs.Cases.{at_if}
-use Rattle.session_map.proofs.Maps.{other, inserted_elsewhere, removed_elsewhere}
+use Rattle.values.proofs.Keyed.{other, inserted_elsewhere, removed_elsewhere}
 
 -- The connection is as it was.
 abbrev Stays : SessionTable → ℕ → SessionTable → Type 0

@@ -5,7 +5,8 @@ use Rattle.std.specs.Str.{bytes_eq, is_utf8}
 use Rattle.std.proofs.lemmas.Bool.{leb-true, lt-leb, le-leb}
 use Rattle.std.proofs.lemmas.Str.{IsUtf8-from_is_utf8, is_utf8-from_IsUtf8}
 use Rattle.sessions.specs.Sessions.{auth_limit, is_auth_text, digest_text}
-use Rattle.session_map.proofs.Maps.{none-some, some-some}
+use Rattle.std.proofs.lemmas.Option.{none-some}
+use Rattle.values.proofs.Keyed.{some-some}
 use mathlib.Core.Bool.{true≢false}
 
 is_not : (b : Bool) → false ≡ not b → b ≡ true

@@ -1,22 +1,16 @@
 -- Lists in ascending order: inserting one more value, and equality of two lists.
-use Rattle.std.proofs.Common.{◌≡◌, Bool, true, false, cond, ◌||◌, List, [], ◌∷◌, ◌++◌, map, length, Some, None, refl, sym, ap, ◌∙◌, arith, append-nil, append_assoc}
+use Rattle.std.proofs.Common.{◌≡◌, Bool, true, false, cond, ◌||◌, List, [], ◌∷◌, ◌++◌, map, Some, None, refl, sym, ap, ◌∙◌, append-nil, append_assoc}
 use Rattle.std.specs.declared.cmp.Ordering.{Ordering}
 use Rattle.std.specs.declared.cmp.Ordering.TheVariants.{Less, Equal, Greater}
 use Rattle.std.specs.BTreeSet.{insert_key}
 use Rattle.std.specs.FinMap as finmap
 use Rattle.std.specs.FinMap.Entries.{by_order}
-use Rattle.std.specs.List.{list_any, AllByRecursion}
-use Rattle.std.specs.List.Sorted.{IsStrictlySortedBy}
-use Rattle.std.specs.Map.{keys_of}
+use Rattle.std.specs.List.{list_any}
 use Rattle.std.specs.Ordering.{eq_by_cmp, match_ordering}
 use Rattle.std.specs.Cmp.{IsTotalOrder}
-use Rattle.std.proofs.lemmas.Map.Keys.{sorted_head, sorted_tail}
 use Rattle.std.proofs.lemmas.Map.Lookups.{CmpEqualImpliesEq}
+use Rattle.values.proofs.Keyed.{entries-empty}
 use Rattle.watch_manager.specs.Ascending.{sorted_distinct, with_inserted_keys}
-
-no_entries : {A : Type 0} (xs : List A) → length xs ≡ 0 → xs ≡ []
-no_entries [] e = refl
-no_entries (x ∷ xs) e = absurd (omega arith)
 
 pub any-push : {K : Type 0} (test : K → Bool) (ks : List K) (k : K)
     → list_any test (ks ++ k ∷ []) ≡ list_any test (k ∷ ks)
@@ -29,25 +23,6 @@ any-push test (x ∷ ks) k =
     or_swap true false c = refl
     or_swap false b c = refl
 
--- A map built from sorted entries has exactly these entries.
-module _ {K X : Type 0} {R : K → K → Ordering} (o : IsTotalOrder R) where
-  pub entries-empty : finmap.entries (finmap.empty {X = X} {R = R}) ≡ []
-  entries-empty = no_entries (finmap.entries (finmap.empty {R = R}))
-      (sym (finmap.len-entries (finmap.empty {R = R})) ∙ finmap.len-empty R X)
-
-  put_first : (e : K × X) (es : List (K × X)) → AllByRecursion (λ k. R e.0 k ≡ Less) (keys_of es)
-      → finmap.put R e.0 e.1 es ≡ e ∷ es
-  put_first e [] h = refl
-  put_first e (f ∷ fs) h = ap (λ r. by_order r (e ∷ f ∷ fs) ((f.0, e.1) ∷ fs) (f ∷ finmap.put R e.0 e.1 fs)) h.0
-
-  pub entries-in_order : (es : List (K × X)) → IsStrictlySortedBy R (keys_of es)
-      → finmap.entries (finmap.from_entries {R = R} es) ≡ es
-  entries-in_order [] s = entries-empty
-  entries-in_order (e ∷ es) s =
-      finmap.entries-insert o (finmap.from_entries {R = R} es) e.0 e.1
-      ∙ ap (finmap.put R e.0 e.1) (entries-in_order es (sorted_tail R e.0 (keys_of es) s))
-      ∙ put_first e es (sorted_head R e.0 (keys_of es) s)
-
 module _ {K : Type 0} {R : K → K → Ordering} (o : IsTotalOrder R) where
   abbrev marked : List K → List (K × Unit {0})
   marked ks = map (λ (k : K). (k, tt {0})) ks
@@ -56,7 +31,7 @@ module _ {K : Type 0} {R : K → K → Ordering} (o : IsTotalOrder R) where
   unmarked es = map (λ (e : K × Unit {0}). e.0) es
 
   pub ascending-nil : sorted_distinct R [] ≡ []
-  ascending-nil = ap unmarked (entries-empty o)
+  ascending-nil = ap unmarked (entries-empty R)
 
   unmarked-put : (k : K) (es : List (K × Unit {0}))
       → unmarked (finmap.put R k (tt {0}) es) ≡ insert_key R (unmarked es) k

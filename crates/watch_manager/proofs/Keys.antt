@@ -14,7 +14,8 @@ use Rattle.ephemerals.specs.Grouped.{pair_cmp, pairs_of, by_bytes}
 use Rattle.ephemerals.proofs.Ties.{tied_then}
 use Rattle.ephemerals.proofs.Grouped.{contains-found, emptied, forget, remove_through}
 use Rattle.watch_manager.specs.Inner.Grouped.{keys_in, keys_in_one, keys_beyond, HaveValues}
-use Rattle.watch_manager.proofs.SetCounts.{contains-kept, len-listed, len-kept-listed, found-named}
+use Rattle.values.proofs.Keyed.{len-set_of}
+use Rattle.watch_manager.proofs.SetCounts.{contains-kept, len-kept-listed, found-named}
 
 -- A set with a value isn't empty.
 pub with-value : {V : Type 0} {S : V → V → Ordering} → IsTotalOrder S → (s : set.FinSet S) (v : V)
@@ -203,7 +204,7 @@ module _ {K V : Type 0} {R : K → K → Ordering} {S : V → V → Ordering} (o
     length-names (x ∷ xs) = ap suc (length-names xs)
 
     pub len-stored : IsStrictlySortedBy R names → set.len (keys_in R stored) ≡ length es
-    len-stored sorted = ap set.len stored-names ∙ len-listed ok ek names sorted ∙ length-names es
+    len-stored sorted = ap set.len stored-names ∙ len-set_of ok ek names sorted ∙ length-names es
 
     -- Where there is no pair, nothing is stored.
     pub empty-entries : stored ≡ set.empty → length es ≡ 0

@@ -11,7 +11,7 @@ use Rattle.ephemerals.specs.Orders.{Bytes}
 use Rattle.watch_manager.specs.Pairs.{WatchPairs, watch_cmp, same_connection, watchers_of, without_connection}
 use Rattle.watch_manager.specs.Inner.Lasting.{HaveLengthsIn}
 use Rattle.watch_manager.proofs.Totals.{watch_total, watch_exact}
-use Rattle.watch_manager.proofs.ConnSets.{no_entries}
+use Rattle.std.proofs.lemmas.List.{nil_from_length}
 use Rattle.watch_manager.proofs.Watchers.{no_watcher, contains-without_connection}
 
 -- A path of another length has no watcher.
@@ -33,7 +33,7 @@ no_lengths lengths pairs have none = set.same_set watch_total watch_exact _ _ (�
   where
     by : (x : Bool) (n : ℕ) → (x ≡ true → sorted.contains nat_cmp lengths n ≡ true) → x ≡ false
     by true n here = absurd (true≢false (sym (here refl)
-        ∙ ap (λ ns. list_any (eq_by_cmp nat_cmp n) ns) (no_entries lengths.keys none)))
+        ∙ ap (λ ns. list_any (eq_by_cmp nat_cmp n) ns) (nil_from_length lengths.keys none)))
     by false n here = refl
 
 pub lengths-empty : (lengths : BTreeSet ℕ) (pairs : WatchPairs) → pairs ≡ set.empty → HaveLengthsIn lengths pairs

@@ -4,10 +4,6 @@ pub mod Totals
 mod SetCounts
 -- The keys of pairs that are stored as a set for each key.
 mod Keys
--- A map from numbers as a finite map.
-mod ConnMaps
--- A set of connections as a finite set of numbers.
-mod ConnSets
 -- The watchers of a path, and a table without a path or a connection. Public.
 pub mod Watchers
 -- The watchers of a path, found in the map by path.

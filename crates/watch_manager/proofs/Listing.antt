@@ -1,22 +1,18 @@
 -- The watches of a table, listed.
-use Rattle.std.proofs.Common.{◌≡◌, ℕ, List, [], ◌∷◌, ◌++◌, Bool, true, false, cond, T, ◌||◌, ◌&&◌, Option, Some, None, map, refl, sym, ap, subst, ◌∙◌, string_bytes, append_assoc}
+use Rattle.std.proofs.Common.{◌≡◌, ℕ, List, [], ◌∷◌, ◌++◌, Bool, true, false, cond, T, ◌||◌, ◌&&◌, Option, Some, None, map, refl, sym, ap, subst, ◌∙◌, append_assoc}
 use Rattle.std.specs.Prelude.{◌==◌, is_some}
 use Rattle.std.specs.declared.cmp.Ordering.{Ordering}
 use Rattle.std.specs.declared.cmp.Ordering.TheVariants.{Less, Equal, Greater}
 use Rattle.std.specs.BTreeSet.{insert_key}
 use Rattle.std.specs.FinMap as finmap
 use Rattle.std.specs.FinSet as set
-use Rattle.std.specs.List.{list_any, AllByRecursion}
-use Rattle.std.specs.List.Sorted.{IsStrictlySortedBy}
-use Rattle.std.specs.Map.{keys_of}
-use Rattle.std.specs.String.{string_cmp}
-use Rattle.std.specs.declared.string.String.{String}
+use Rattle.std.specs.List.{list_any}
 use Rattle.std.specs.Ordering.{eq_by_cmp, is_eq, nat_cmp, ordering_then}
 use Rattle.std.specs.Cmp.{nat_cmp_total}
 use Rattle.std.proofs.lemmas.List.Folds.{list_any-append}
 use Rattle.std.proofs.lemmas.Map.Lookups.{CmpEqualImpliesEq, exact_unsigned}
 use Rattle.ephemerals.specs.Orders.{Bytes, path_cmp}
-use Rattle.ephemerals.specs.Grouped.{all_pairs, by_bytes}
+use Rattle.ephemerals.specs.Grouped.{all_pairs}
 use Rattle.ephemerals.proofs.Ascending.{any-ascending}
 use Rattle.ephemerals.proofs.Ties.{tied_then}
 use Rattle.watch_manager.specs.Pairs.{ConnectionSet, WatchPairs, watch_cmp, sorted_connections}
@@ -163,18 +159,6 @@ any-table table es watches are q =
     ∙ ap (λ s. set.contains s (q.path, q.connection)) are
     ∙ set.contains-items watches (q.path, q.connection))
     ∙ sym (any-watched_in table (set.items watches) q)
-
--- The paths of sorted entries.
-pub sorted_bytes : {X Z : Type 0} (es : List (String Z × X)) → IsStrictlySortedBy string_cmp (keys_of es)
-    → IsStrictlySortedBy path_cmp (keys_of (by_bytes es))
-unfolding IsStrictlySortedBy
-sorted_bytes [] s = tt
-sorted_bytes {X} {Z} (e ∷ es) s = (each es s.0, sorted_bytes es s.1)
-  where
-    each : (fs : List (String Z × X)) → AllByRecursion (λ y. string_cmp e.0 y ≡ Less) (keys_of fs)
-        → AllByRecursion (λ y. path_cmp (string_bytes e.0) y ≡ Less) (keys_of (by_bytes fs))
-    each [] h = tt
-    each (f ∷ fs) h = (h.0, each fs h.1)
 
 -- ---- a table, added path by path
 

@@ -3,16 +3,16 @@ use Rattle.std.proofs.Common.{◌≡◌, ℕ, ◌+◌, ◌-◌, ◌≤◌, zero,
 use mathlib.Core.Bool.{true≢false}
 use Rattle.std.proofs.Math.Bool.{and-false}
 use Rattle.std.specs.declared.cmp.Ordering.{Ordering}
-use Rattle.std.specs.declared.cmp.Ordering.TheVariants.{Less}
-use Rattle.std.specs.List.{list_any, filter, AllByRecursion}
+use Rattle.std.specs.List.{list_any, filter}
 use Rattle.std.specs.List.Sorted.{IsStrictlySortedBy}
-use Rattle.std.specs.Ordering.{eq_by_cmp, is_eq}
+use Rattle.std.specs.Ordering.{eq_by_cmp}
 use Rattle.std.specs.Cmp.{IsTotalOrder}
-use Rattle.std.proofs.lemmas.Map.Keys.{sorted_head, sorted_tail}
+use Rattle.std.proofs.lemmas.Map.Keys.{sorted_tail}
 use Rattle.std.proofs.lemmas.Map.Views.{tells_apart}
 use Rattle.std.proofs.lemmas.Map.Lookups.{CmpEqualImpliesEq}
 use Rattle.std.specs.FinMap as finmap
 use Rattle.std.specs.FinSet as set
+use Rattle.values.proofs.Keyed.{not_among_later}
 use Rattle.values.proofs.SetSteps.{insert-present}
 
 module _ {K : Type 0} {R : K → K → Ordering} (o : IsTotalOrder R) (exact : CmpEqualImpliesEq R) where
@@ -205,20 +205,6 @@ module _ {K : Type 0} {R : K → K → Ordering} (o : IsTotalOrder R) (exact : C
 
   -- ---- a list in ascending order
 
-  none-tied : (k : K) (ks : List K) → AllByRecursion (λ y. R k y ≡ Less) ks → list_any (eq_by_cmp R k) ks ≡ false
-  none-tied k [] h = refl
-  none-tied k (x ∷ xs) h = (λ i. is_eq (h.0 i) || none-tied k xs h.1 i)
-
-  fresh : (k : K) (ks : List K) → IsStrictlySortedBy R (k ∷ ks) → set.contains (set.from_list {R = R} ks) k ≡ false
-  fresh k ks s = set.contains-from_list o ks k ∙ none-tied k ks (sorted_head R k ks s)
-
-  pub len-listed : (ks : List K) → IsStrictlySortedBy R ks → set.len (set.from_list {R = R} ks) ≡ length ks
-  len-listed [] s = set.len-empty R
-  len-listed (k ∷ ks) s =
-      let rest = len-listed ks (sorted_tail R k ks s) in
-      let more = len-insert-new (set.from_list ks) k (fresh k ks s) in
-      omega (arith, rest, more)
-
   pub len-kept-listed : (p : K → Bool) (ks : List K) → IsStrictlySortedBy R ks
       → set.len (set.retain (set.from_list {R = R} ks) p) ≡ length (filter p ks)
   len-kept-listed p [] s = none-kept p
@@ -226,7 +212,7 @@ module _ {K : Type 0} {R : K → K → Ordering} (o : IsTotalOrder R) (exact : C
     where
       by : set.len (set.retain (set.from_list {R = R} ks) p) ≡ length (filter p ks) → (b : Bool) → p k ≡ b
           → set.len (set.retain (set.insert (set.from_list {R = R} ks) k) p) ≡ length (cond b (k ∷ filter p ks) (filter p ks))
-      by rest true e = let more = len-kept-new (set.from_list ks) p k (fresh k ks s) e in omega (arith, rest, more)
+      by rest true e = let more = len-kept-new (set.from_list ks) p k (not_among_later o exact k ks s) e in omega (arith, rest, more)
       by rest false e = ap set.len (left-insert (set.from_list ks) p k e) ∙ rest
 
   -- ---- the keys of a map

@@ -1,7 +1,7 @@
 use Rattle.std.proofs.Common.{ap, sym, ◌∙◌}
 use Rattle.std.specs.Cmp.{int_cmp_total}
 use Rattle.std.specs.FinMap as finmap
-use Rattle.node_map.proofs.EntriesInOrder.{entries-in_order}
+use Rattle.values.proofs.Keyed.{entries-in_order}
 use Rattle.data_tree.proofs.sessions.Timeouts.iter.Goals as goal
 
 pub returns-clause-entries : goal.returns-clause-entries

@@ -5,12 +5,12 @@ use Rattle.std.proofs.lemmas.Int.{to_z-of_z}
 use Rattle.std.specs.FinMap as finmap
 use Rattle.forwarding.specs.Queue.{answered_write}
 use Rattle.forwarding.specs.Pending.{queue_in}
-use Rattle.session_map.proofs.Maps.{get-seen}
+use Rattle.values.proofs.Keyed.{get-map_of}
 use Rattle.forwarding.proofs.queues.Queues.answered_write.Goals as goal
 
 pub returns-in-None : goal.returns-in-None
 returns-in-None c = ap (λ o. answered_write (queue_in o) c.args.xid c.args.txn_kind)
-    (c.in-None.ensures.value ∙ sym (get-seen nat_cmp_total exact_unsigned c.self.inside.map c.args.number)
+    (c.in-None.ensures.value ∙ sym (get-map_of nat_cmp_total exact_unsigned c.self.inside.map c.args.number)
     ∙ ap (λ m. finmap.get m c.args.number) c.self.view_is)
 
 pub returns-in-Some : goal.returns-in-Some
@@ -19,5 +19,5 @@ returns-in-Some c =
     ∙ (λ i. answered_write c.in-Some.queue.now (to_z-of_z w32 c.args.xid c.ranges.xid i)
     (to_z-of_z w32 c.args.txn_kind c.ranges.txn_kind i))
     ∙ ap (λ o. answered_write (queue_in o) c.args.xid c.args.txn_kind)
-    (c.in-Some.ensures.value ∙ sym (get-seen nat_cmp_total exact_unsigned c.self.inside.map c.args.number)
+    (c.in-Some.ensures.value ∙ sym (get-map_of nat_cmp_total exact_unsigned c.self.inside.map c.args.number)
     ∙ ap (λ m. finmap.get m c.args.number) c.self.view_is)

@@ -4,17 +4,17 @@ use Rattle.std.proofs.lemmas.Map.Lookups.{exact_unsigned}
 use Rattle.std.specs.FinMap as finmap
 use Rattle.forwarding.specs.Queue.{waiting_connect}
 use Rattle.forwarding.specs.Pending.{queue_in}
-use Rattle.session_map.proofs.Maps.{get-seen}
+use Rattle.values.proofs.Keyed.{get-map_of}
 use Rattle.forwarding.proofs.queues.Queues.connect.Goals as goal
 
 pub returns-in-None : goal.returns-in-None
 returns-in-None c = ap (λ o. waiting_connect (queue_in o))
-    (c.in-None.ensures.value ∙ sym (get-seen nat_cmp_total exact_unsigned c.self.inside.map c.args.number)
+    (c.in-None.ensures.value ∙ sym (get-map_of nat_cmp_total exact_unsigned c.self.inside.map c.args.number)
     ∙ ap (λ m. finmap.get m c.args.number) c.self.view_is)
 
 pub returns-in-Some : goal.returns-in-Some
 returns-in-Some c =
     c.connect.ensures
     ∙ ap (λ o. waiting_connect (queue_in o))
-    (c.in-Some.ensures.value ∙ sym (get-seen nat_cmp_total exact_unsigned c.self.inside.map c.args.number)
+    (c.in-Some.ensures.value ∙ sym (get-map_of nat_cmp_total exact_unsigned c.self.inside.map c.args.number)
     ∙ ap (λ m. finmap.get m c.args.number) c.self.view_is)

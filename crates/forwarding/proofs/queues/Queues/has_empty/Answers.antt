@@ -5,12 +5,12 @@ use Rattle.std.proofs.lemmas.Bool.{eqb-true}
 use Rattle.std.specs.FinMap as finmap
 use Rattle.forwarding.specs.Queue.{RequestQueue}
 use Rattle.forwarding.specs.Inner.{has_empty}
-use Rattle.session_map.proofs.Maps.{get-seen}
+use Rattle.values.proofs.Keyed.{get-map_of}
 use Rattle.forwarding.proofs.queues.Queues.has_empty.Goals as goal
 
 pub returns-in-None : goal.returns-in-None
 returns-in-None c = ap has_empty
-    (c.in-None.ensures.value ∙ sym (get-seen nat_cmp_total exact_unsigned c.self.inside.map c.args.number)
+    (c.in-None.ensures.value ∙ sym (get-map_of nat_cmp_total exact_unsigned c.self.inside.map c.args.number)
     ∙ ap (λ m. finmap.get m c.args.number) c.self.view_is)
 
 is_empty : (q : RequestQueue) → (length q == 0) ≡ has_empty (Some q)
@@ -25,5 +25,5 @@ pub returns-in-Some : goal.returns-in-Some
 returns-in-Some c =
     c.is_empty.ensures ∙ is_empty c.in-Some.queue.now
     ∙ ap has_empty
-    (c.in-Some.ensures.value ∙ sym (get-seen nat_cmp_total exact_unsigned c.self.inside.map c.args.number)
+    (c.in-Some.ensures.value ∙ sym (get-map_of nat_cmp_total exact_unsigned c.self.inside.map c.args.number)
     ∙ ap (λ m. finmap.get m c.args.number) c.self.view_is)

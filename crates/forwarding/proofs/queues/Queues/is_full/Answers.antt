@@ -6,7 +6,7 @@ use Rattle.std.specs.FinMap as finmap
 use Rattle.std.proofs.lemmas.Bool.{ltb-true, ltb-false, leb-true, leb-false}
 use Rattle.forwarding.specs.Queue.{pending_limit}
 use Rattle.forwarding.specs.Pending.{queue_in}
-use Rattle.session_map.proofs.Maps.{get-seen}
+use Rattle.values.proofs.Keyed.{get-map_of}
 use Rattle.forwarding.proofs.queues.Queues.is_full.Goals as goal
 
 at_least : (a b : ℕ) → nat_le a b ≡ not (nat_lt b a)
@@ -20,7 +20,7 @@ at_least a b = by (nat_le a b) refl (nat_lt b a) refl
 
 pub returns-in-None : goal.returns-in-None
 returns-in-None c = ap (λ o. not (nat_lt (length (queue_in o)) pending_limit))
-    (c.in-None.ensures.value ∙ sym (get-seen nat_cmp_total exact_unsigned c.self.inside.map c.args.number)
+    (c.in-None.ensures.value ∙ sym (get-map_of nat_cmp_total exact_unsigned c.self.inside.map c.args.number)
     ∙ ap (λ m. finmap.get m c.args.number) c.self.view_is)
 
 pub returns-in-Some : goal.returns-in-Some
@@ -28,5 +28,5 @@ returns-in-Some c =
     ap (nat_le pending_limit) c.len.ensures
     ∙ at_least pending_limit (length c.in-Some.queue.now)
     ∙ ap (λ o. not (nat_lt (length (queue_in o)) pending_limit))
-    (c.in-Some.ensures.value ∙ sym (get-seen nat_cmp_total exact_unsigned c.self.inside.map c.args.number)
+    (c.in-Some.ensures.value ∙ sym (get-map_of nat_cmp_total exact_unsigned c.self.inside.map c.args.number)
     ∙ ap (λ m. finmap.get m c.args.number) c.self.view_is)

@@ -6,7 +6,7 @@ use Rattle.std.proofs.lemmas.Map.Lookups.{exact_signed}
 use Rattle.std.specs.FinMap as finmap
 use Rattle.forwarding.specs.State.{pending_table_of}
 use Rattle.forwarding.specs.Pending.{is_idle}
-use Rattle.session_map.proofs.Maps.{remove_absent, remove_inserted}
+use Rattle.values.proofs.Keyed.{remove_absent, remove_inserted}
 use Rattle.forwarding.proofs.Agreeing.{agreement_is_kept}
 use Rattle.forwarding.proofs.table.Pending.push_connect.Goals as goal
 

@@ -6,7 +6,7 @@ use Rattle.std.specs.Cmp.{int_cmp_total}
 use Rattle.std.proofs.lemmas.Map.Lookups.{exact_signed}
 use Rattle.std.specs.FinMap as finmap
 use Rattle.forwarding.specs.Pending.{live_rows, sorted_touched}
-use Rattle.session_map.proofs.Maps.{get-seen}
+use Rattle.values.proofs.Keyed.{get-map_of}
 use Rattle.forwarding.proofs.SessionSets.{items-sorted}
 use Rattle.forwarding.proofs.Touching.{lives, ended}
 use Rattle.forwarding.proofs.touched.Touched.live_rows.Goals as goal

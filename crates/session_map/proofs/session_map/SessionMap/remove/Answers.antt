@@ -3,17 +3,17 @@ use Rattle.std.specs.FinMap as finmap
 use Rattle.std.specs.Cmp.{int_cmp_total}
 use Rattle.std.proofs.lemmas.Map.Lookups.{exact_signed}
 use Rattle.std.proofs.lemmas.Int.{to_z-of_z}
-use Rattle.session_map.proofs.Maps.{get-seen, seen-remove}
+use Rattle.values.proofs.Keyed.{get-map_of, map_of-remove}
 use Rattle.session_map.proofs.session_map.SessionMap.remove.Goals as goal
 
 pub returns-clause-was : goal.returns-clause-was
 returns-clause-was c =
     c.remove.ensures.value
-    ∙ sym (get-seen int_cmp_total exact_signed c.self.inside.map (to_z w64 (of_z w64 c.args.session)))
+    ∙ sym (get-map_of int_cmp_total exact_signed c.self.inside.map (to_z w64 (of_z w64 c.args.session)))
     ∙ (λ i. finmap.get (c.self.view_is i) (to_z-of_z w64 c.args.session c.ranges.session i))
 
 pub returns-clause-removed : goal.returns-clause-removed
 returns-clause-removed c =
-    seen-remove int_cmp_total exact_signed (to_z w64
+    map_of-remove int_cmp_total exact_signed (to_z w64
     (of_z w64 c.args.session)) c.self.inside.map c.remove.new.self c.remove.ensures.updates
     ∙ (λ i. finmap.remove (c.self.view_is i) (to_z-of_z w64 c.args.session c.ranges.session i))

@@ -5,13 +5,13 @@ use Rattle.std.proofs.lemmas.Map.Lookups.{exact_unsigned}
 use Rattle.std.proofs.lemmas.Int.{to_z-of_z}
 use Rattle.jute.specs.declared.owned.Id.{Id}
 use Rattle.sessions.specs.State.{ConnectedClient}
-use Rattle.session_map.proofs.Maps.{seen-insert}
+use Rattle.values.proofs.Keyed.{map_of-insert}
 use Rattle.sessions.proofs.connections.Connections.add.Goals as goal
 
 pub returns-clause-ok : goal.returns-clause-ok
 returns-clause-ok c =
     let shown : ℤ → List Id → ConnectedClient = λ session ids. record { session = session; ids = ids } in
-    seen-insert nat_cmp_total exact_unsigned c.args.number c.self.inside.map c.insert.new.self
+    map_of-insert nat_cmp_total exact_unsigned c.args.number c.self.inside.map c.insert.new.self
     (shown (to_z w64 (of_z w64 c.args.session)) c.new.result.items) c.in_ok-insert.ensures.updates
     ∙ (λ i. finmap.insert (c.self.view_is i) c.args.number
     (shown (to_z-of_z w64 c.args.session c.ranges.session i) (c.new.ensures.items i)))

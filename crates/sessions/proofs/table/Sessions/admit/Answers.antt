@@ -4,7 +4,7 @@ use Rattle.std.specs.Cmp.{nat_cmp_total}
 use Rattle.std.proofs.lemmas.Map.Lookups.{exact_unsigned}
 use Rattle.std.proofs.lemmas.Int.{to_z-of_z}
 use Rattle.sessions.specs.State.{SessionTable}
-use Rattle.session_map.proofs.Maps.{remove_absent, remove_inserted, not-some}
+use Rattle.values.proofs.Keyed.{remove_absent, remove_inserted, not-some}
 use Rattle.sessions.proofs.Agreeing.{joins, joins_older, gives_older}
 use Rattle.sessions.proofs.table.Sessions.admit.Goals as goal
 

@@ -4,7 +4,7 @@ use Rattle.std.specs.FinMap as finmap
 use Rattle.std.specs.Cmp.{nat_cmp_total}
 use Rattle.std.proofs.lemmas.Map.Lookups.{exact_unsigned}
 use Rattle.std.proofs.lemmas.Int.{to_z-of_z}
-use Rattle.session_map.proofs.Maps.{remove_absent}
+use Rattle.values.proofs.Keyed.{remove_absent}
 use Rattle.sessions.proofs.Agreeing.{closed, unclosed}
 use Rattle.sessions.proofs.table.Sessions.close.Goals as goal
 

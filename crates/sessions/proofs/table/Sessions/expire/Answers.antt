@@ -3,7 +3,7 @@ use Rattle.std.specs.FinMap as finmap
 use Rattle.std.specs.Cmp.{int_cmp_total}
 use Rattle.std.proofs.lemmas.Map.Lookups.{exact_signed}
 use Rattle.std.proofs.lemmas.Int.{to_z-of_z}
-use Rattle.session_map.proofs.Maps.{remove_absent}
+use Rattle.values.proofs.Keyed.{remove_absent}
 use Rattle.sessions.proofs.Agreeing.{closing_agrees, expires_nothing, expires_closing}
 use Rattle.sessions.proofs.table.Sessions.expire.Goals as goal
 

@@ -1,11 +1,13 @@
 use Rattle.std.proofs.Common.{◌∙◌, to_z, of_z, w64}
+use Rattle.std.proofs.lemmas.Map.Lookups.{exact_signed}
+use Rattle.std.specs.Cmp.{int_cmp_total}
 use Rattle.std.specs.FinMap as finmap
 use Rattle.std.proofs.lemmas.Int.{to_z-of_z}
-use Rattle.data_tree.proofs.IntMaps.{seen-insert}
+use Rattle.values.proofs.Keyed.{map_of-insert}
 use Rattle.snapshot_codec.proofs.acl_table.AclTable.insert.Goals as goal
 
 pub returns-clause-ok : goal.returns-clause-ok
 returns-clause-ok c =
-    seen-insert (to_z w64 (of_z w64 c.args.key)) c.self.inside.map c.insert.new.self c.args.list
+    map_of-insert int_cmp_total exact_signed (to_z w64 (of_z w64 c.args.key)) c.self.inside.map c.insert.new.self c.args.list
     c.in_ok-insert.ensures.updates
     ∙ (λ i. finmap.insert (c.self.view_is i) (to_z-of_z w64 c.args.key c.ranges.key i) c.args.list)

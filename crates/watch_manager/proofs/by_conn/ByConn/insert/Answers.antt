@@ -11,7 +11,7 @@ use Rattle.std.proofs.lemmas.Map.Steps.{set_value_same}
 use Rattle.ephemerals.specs.Orders.{Names}
 use Rattle.ephemerals.proofs.Errors.{on_err}
 use Rattle.watch_manager.specs.Inner.Grouped.{conn_pairs, HaveValues}
-use Rattle.watch_manager.proofs.ConnMaps.{seen, get-seen, seen-insert}
+use Rattle.values.proofs.Keyed.{map_of, get-map_of, map_of-insert}
 use Rattle.ephemerals.proofs.Grouped.{insert_through, insert_first}
 use Rattle.watch_manager.proofs.Keys.{have-insert, with-value}
 use Rattle.watch_manager.proofs.by_conn.ByConn.insert.Goals as goal
@@ -24,7 +24,7 @@ unchanged m n k old new written found is =
 
 pub invariant_of-self : goal.invariant_of-self
 invariant_of-self c =
-    subst (λ es. HaveValues (seen es))
+    subst (λ es. HaveValues (map_of nat_cmp es))
     (sym (unchanged c.self.inside.map (c.get_mut.follows.lender c.insert.new.self) c.args.connection c.in-Some.paths.now
     c.insert.new.self (c.get_mut.follows.holds c.insert.new.self).0 c.in-Some.ensures.value
     c.in_err-insert-in-Some.ensures.err))
@@ -35,9 +35,9 @@ invariant_of-self-in-Some c =
     let n = c.get_mut.follows.lender c.insert.new.self in
     let is = c.in_ok-insert-in-Some.ensures.ok ∙ ap (λ p. set.insert c.in-Some.paths.now p) c.in_ok-path.ensures.ok in
     subst (λ m. HaveValues m)
-    (sym (seen-insert c.args.connection c.self.inside.map n c.insert.new.self
+    (sym (map_of-insert nat_cmp_total exact_unsigned c.args.connection c.self.inside.map n c.insert.new.self
     ((c.get_mut.follows.holds c.insert.new.self).3 (subst IsSome c.in-Some.ensures.value refl))))
-    (have-insert nat_cmp_total path_total exact_unsigned exact_bytes (seen c.self.inside.map.entries) c.args.connection
+    (have-insert nat_cmp_total path_total exact_unsigned exact_bytes (map_of nat_cmp c.self.inside.map.entries) c.args.connection
     c.insert.new.self c.self.invariant
     (λ e. with-value path_total c.in-Some.paths.now c.args.path.now (sym is ∙ e)))
 
@@ -46,11 +46,11 @@ invariant_of-self-in-None c =
     let m = c.get_mut.follows.lender-at-none in
     let is = c.in_ok-insert-in-None.ensures.ok ∙ ap (λ p. set.insert c.new-paths.result p) c.in_ok-path.ensures.ok in
     subst (λ m. HaveValues m)
-    (sym (seen-insert c.args.connection m c.insert-in-None-2.new.self c.insert-in-None.new.self
+    (sym (map_of-insert nat_cmp_total exact_unsigned c.args.connection m c.insert-in-None-2.new.self c.insert-in-None.new.self
     c.in_ok-insert-in-None-2.ensures.updates))
-    (have-insert nat_cmp_total path_total exact_unsigned exact_bytes (seen m.entries) c.args.connection
+    (have-insert nat_cmp_total path_total exact_unsigned exact_bytes (map_of nat_cmp m.entries) c.args.connection
     c.insert-in-None.new.self
-    (subst (λ x. HaveValues (seen x.entries)) (sym c.get_mut.follows.holds-at-none) c.self.invariant)
+    (subst (λ x. HaveValues (map_of nat_cmp x.entries)) (sym c.get_mut.follows.holds-at-none) c.self.invariant)
     (λ e. with-value path_total c.new-paths.result c.args.path.now (sym is ∙ e)))
 
 pub returns-in_err-insert-in-Some-clause-err : goal.returns-in_err-insert-in-Some-clause-err
@@ -65,11 +65,11 @@ returns-in_err-insert-in-Some-clause-err c =
 pub returns-in_ok-insert-in-Some-clause-ok : goal.returns-in_ok-insert-in-Some-clause-ok
 returns-in_ok-insert-in-Some-clause-ok c =
     let n = c.get_mut.follows.lender c.insert.new.self in
-    insert_through nat_cmp_total path_total exact_unsigned exact_bytes (seen c.self.inside.map.entries) (seen n.entries)
+    insert_through nat_cmp_total path_total exact_unsigned exact_bytes (map_of nat_cmp c.self.inside.map.entries) (map_of nat_cmp n.entries)
     c.args.connection c.args.path.now c.in-Some.paths.now c.insert.new.self
-    (seen-insert c.args.connection c.self.inside.map n c.insert.new.self
+    (map_of-insert nat_cmp_total exact_unsigned c.args.connection c.self.inside.map n c.insert.new.self
     ((c.get_mut.follows.holds c.insert.new.self).3 (subst IsSome c.in-Some.ensures.value refl)))
-    (get-seen c.self.inside.map c.args.connection ∙ sym c.in-Some.ensures.value)
+    (get-map_of nat_cmp_total exact_unsigned c.self.inside.map c.args.connection ∙ sym c.in-Some.ensures.value)
     (c.in_ok-insert-in-Some.ensures.ok ∙ ap (λ p. set.insert c.in-Some.paths.now p) c.in_ok-path.ensures.ok)
     ∙ ap (λ s. set.insert s (c.args.connection, c.args.path.now)) c.self.view_is
 
@@ -77,10 +77,10 @@ pub returns-in_ok-insert-in-None-2-clause-ok : goal.returns-in_ok-insert-in-None
 returns-in_ok-insert-in-None-2-clause-ok c =
     let m = c.get_mut.follows.lender-at-none in
     let n = c.insert-in-None-2.new.self in
-    insert_first nat_cmp_total path_total exact_unsigned exact_bytes (seen m.entries) (seen n.entries) c.args.connection
+    insert_first nat_cmp_total path_total exact_unsigned exact_bytes (map_of nat_cmp m.entries) (map_of nat_cmp n.entries) c.args.connection
     c.args.path.now c.new-paths.result c.insert-in-None.new.self
-    (seen-insert c.args.connection m n c.insert-in-None.new.self c.in_ok-insert-in-None-2.ensures.updates)
-    (get-seen m c.args.connection ∙ ap (λ x. tree.get nat_cmp x c.args.connection) c.get_mut.follows.holds-at-none
+    (map_of-insert nat_cmp_total exact_unsigned c.args.connection m n c.insert-in-None.new.self c.in_ok-insert-in-None-2.ensures.updates)
+    (get-map_of nat_cmp_total exact_unsigned m c.args.connection ∙ ap (λ x. tree.get nat_cmp x c.args.connection) c.get_mut.follows.holds-at-none
     ∙ sym c.in-None.ensures.value)
     c.new-paths.ensures
     (c.in_ok-insert-in-None.ensures.ok ∙ ap (λ p. set.insert c.new-paths.result p) c.in_ok-path.ensures.ok)

@@ -1,4 +1,5 @@
 use Rattle.std.proofs.Common.{ap, sym, ◌∙◌, subst, refl, IsSome}
+use Rattle.std.specs.Ordering.{nat_cmp}
 use mathlib.Core.Bool.{true≢false}
 use Rattle.std.specs.Cmp.{nat_cmp_total}
 use Rattle.std.proofs.lemmas.Map.Lookups.{exact_unsigned, exact_bytes}
@@ -6,7 +7,7 @@ use Rattle.ephemerals.proofs.Totals.{path_total}
 use Rattle.std.specs.FinMap as finmap
 use Rattle.std.specs.FinSet as set
 use Rattle.watch_manager.specs.Inner.Grouped.{conn_pairs, HaveValues}
-use Rattle.watch_manager.proofs.ConnMaps.{seen, get-seen, seen-insert, seen-remove}
+use Rattle.values.proofs.Keyed.{map_of, get-map_of, map_of-insert, map_of-remove}
 use Rattle.ephemerals.proofs.Grouped.{remove_through, remove_none}
 use Rattle.watch_manager.proofs.Keys.{have-insert, have-cut, remove_last}
 use Rattle.watch_manager.proofs.by_conn.ByConn.remove.Goals as goal
@@ -14,28 +15,28 @@ use Rattle.watch_manager.proofs.by_conn.ByConn.remove.Goals as goal
 pub returns-in-None : goal.returns-in-None
 returns-in-None c =
     ap (λ m. conn_pairs m.entries) c.get_mut.follows.holds-at-none
-    ∙ remove_none nat_cmp_total path_total exact_unsigned exact_bytes (seen c.self.inside.map.entries) c.args.connection
-    c.args.path.now (get-seen c.self.inside.map c.args.connection ∙ sym c.in-None.ensures.value)
+    ∙ remove_none nat_cmp_total path_total exact_unsigned exact_bytes (map_of nat_cmp c.self.inside.map.entries) c.args.connection
+    c.args.path.now (get-map_of nat_cmp_total exact_unsigned c.self.inside.map c.args.connection ∙ sym c.in-None.ensures.value)
     ∙ ap (λ s. set.remove s (c.args.connection, c.args.path.now)) c.self.view_is
 
 pub invariant_of-self-then-not-is_empty : goal.invariant_of-self-then-not-is_empty
 invariant_of-self-then-not-is_empty c =
     let n = c.get_mut.follows.lender c.remove.new.self in
     subst (λ m. HaveValues m)
-    (sym (seen-insert c.args.connection c.self.inside.map n c.remove.new.self
+    (sym (map_of-insert nat_cmp_total exact_unsigned c.args.connection c.self.inside.map n c.remove.new.self
     ((c.get_mut.follows.holds c.remove.new.self).3 (subst IsSome c.in-Some.ensures.value refl))))
-    (have-insert nat_cmp_total path_total exact_unsigned exact_bytes (seen c.self.inside.map.entries) c.args.connection
+    (have-insert nat_cmp_total path_total exact_unsigned exact_bytes (map_of nat_cmp c.self.inside.map.entries) c.args.connection
     c.remove.new.self c.self.invariant
     (λ e. true≢false (sym (c.is_empty.ensures.1 e) ∙ c.if-not-is_empty.true)))
 
 pub returns-then-not-is_empty : goal.returns-then-not-is_empty
 returns-then-not-is_empty c =
     let n = c.get_mut.follows.lender c.remove.new.self in
-    remove_through nat_cmp_total path_total exact_unsigned exact_bytes (seen c.self.inside.map.entries) (seen n.entries)
+    remove_through nat_cmp_total path_total exact_unsigned exact_bytes (map_of nat_cmp c.self.inside.map.entries) (map_of nat_cmp n.entries)
     c.args.connection c.args.path.now c.in-Some.paths.now c.remove.new.self
-    (seen-insert c.args.connection c.self.inside.map n c.remove.new.self
+    (map_of-insert nat_cmp_total exact_unsigned c.args.connection c.self.inside.map n c.remove.new.self
     ((c.get_mut.follows.holds c.remove.new.self).3 (subst IsSome c.in-Some.ensures.value refl)))
-    (get-seen c.self.inside.map c.args.connection ∙ sym c.in-Some.ensures.value)
+    (get-map_of nat_cmp_total exact_unsigned c.self.inside.map c.args.connection ∙ sym c.in-Some.ensures.value)
     c.remove.ensures.removed
     ∙ ap (λ s. set.remove s (c.args.connection, c.args.path.now)) c.self.view_is
 
@@ -43,21 +44,21 @@ pub invariant_of-self-2 : goal.invariant_of-self-2
 invariant_of-self-2 c =
     let n = c.get_mut.follows.lender c.remove.new.self in
     subst (λ m. HaveValues m)
-    (sym (seen-remove c.args.connection n c.remove-2.new.self c.remove-2.ensures.updates
-    ∙ ap (λ m. finmap.remove m c.args.connection) (seen-insert c.args.connection c.self.inside.map n c.remove.new.self
+    (sym (map_of-remove nat_cmp_total exact_unsigned c.args.connection n c.remove-2.new.self c.remove-2.ensures.updates
+    ∙ ap (λ m. finmap.remove m c.args.connection) (map_of-insert nat_cmp_total exact_unsigned c.args.connection c.self.inside.map n c.remove.new.self
     ((c.get_mut.follows.holds c.remove.new.self).3 (subst IsSome c.in-Some.ensures.value refl)))))
-    (have-cut nat_cmp_total path_total exact_unsigned exact_bytes (seen c.self.inside.map.entries) c.args.connection
+    (have-cut nat_cmp_total path_total exact_unsigned exact_bytes (map_of nat_cmp c.self.inside.map.entries) c.args.connection
     c.remove.new.self c.self.invariant)
 
 pub returns : goal.returns
 returns c =
     let n = c.get_mut.follows.lender c.remove.new.self in
-    remove_last nat_cmp_total path_total exact_unsigned exact_bytes (seen c.self.inside.map.entries) (seen n.entries)
-    (seen c.remove-2.new.self.entries) c.args.connection c.args.path.now c.in-Some.paths.now c.remove.new.self
-    (seen-insert c.args.connection c.self.inside.map n c.remove.new.self
+    remove_last nat_cmp_total path_total exact_unsigned exact_bytes (map_of nat_cmp c.self.inside.map.entries) (map_of nat_cmp n.entries)
+    (map_of nat_cmp c.remove-2.new.self.entries) c.args.connection c.args.path.now c.in-Some.paths.now c.remove.new.self
+    (map_of-insert nat_cmp_total exact_unsigned c.args.connection c.self.inside.map n c.remove.new.self
     ((c.get_mut.follows.holds c.remove.new.self).3 (subst IsSome c.in-Some.ensures.value refl)))
-    (get-seen c.self.inside.map c.args.connection ∙ sym c.in-Some.ensures.value)
+    (get-map_of nat_cmp_total exact_unsigned c.self.inside.map c.args.connection ∙ sym c.in-Some.ensures.value)
     c.remove.ensures.removed
     (c.is_empty.ensures.0 c.if-not-is_empty.false)
-    (seen-remove c.args.connection n c.remove-2.new.self c.remove-2.ensures.updates)
+    (map_of-remove nat_cmp_total exact_unsigned c.args.connection n c.remove-2.new.self c.remove-2.ensures.updates)
     ∙ ap (λ s. set.remove s (c.args.connection, c.args.path.now)) c.self.view_is

@@ -6,7 +6,7 @@ use Rattle.ephemerals.specs.Orders.{path_cmp}
 use Rattle.ephemerals.specs.Grouped.{by_bytes}
 use Rattle.ephemerals.specs.Orders.{Bytes}
 use Rattle.watch_manager.specs.Pairs.{ConnectionSet}
-use Rattle.watch_manager.proofs.Listing.{sorted_bytes}
+use Rattle.values.proofs.Keyed.{sorted_by_bytes}
 use Rattle.ephemerals.proofs.Totals.{path_total}
 use Rattle.std.specs.FinSet as set
 use Rattle.watch_manager.specs.Inner.Grouped.{keys_beyond, keys_in_one}
@@ -60,5 +60,5 @@ returns c =
     ∙ ap (λ es. length (filter (λ k. not (set.contains known k)) (map (λ (e : Bytes × ConnectionSet). e.0) (by_bytes es))))
     (c.into_iter-path-iterator.ensures.into_iter_gives ∙ c.iter-path-items.ensures.rest)
     ∙ sym (len-beyond path_total nat_cmp_total exact_bytes exact_unsigned (by_bytes c.self.inside.map.entries) c.self.invariant
-    c.args.first.now c.args.second.now c.args.third.now (sorted_bytes c.self.inside.map.entries c.iter-path-items.ensures.ordered))
+    c.args.first.now c.args.second.now c.args.third.now (sorted_by_bytes c.self.inside.map.entries c.iter-path-items.ensures.ordered))
     ∙ ap (λ s. set.len (keys_beyond path_cmp s c.args.first.now c.args.second.now c.args.third.now)) c.self.view_is

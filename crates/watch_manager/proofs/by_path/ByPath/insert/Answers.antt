@@ -10,10 +10,9 @@ use Rattle.std.specs.declared.string.String.{String}
 use Rattle.std.proofs.lemmas.Map.Steps.{set_value_same}
 use Rattle.ephemerals.specs.Orders.{Bytes}
 use Rattle.ephemerals.proofs.Errors.{on_err}
-use Rattle.ephemerals.proofs.TextKeys.{query}
 use Rattle.watch_manager.specs.Pairs.{ConnectionSet}
 use Rattle.watch_manager.specs.Inner.Grouped.{watch_pairs_of, HaveValues}
-use Rattle.ephemerals.proofs.PathMaps.{seen, get-seen, seen-insert}
+use Rattle.values.proofs.Keyed.{query, text_map_of, get-text_map_of, text_map_of-insert}
 use Rattle.ephemerals.proofs.Grouped.{insert_through, insert_first, contains-found}
 use Rattle.watch_manager.proofs.Keys.{have-insert, with-value}
 use Rattle.watch_manager.proofs.by_path.ByPath.insert.Goals as goal
@@ -27,7 +26,7 @@ unchanged m n path old new written found is =
 
 pub invariant_of-self : goal.invariant_of-self
 invariant_of-self c =
-    subst (λ es. HaveValues (seen es))
+    subst (λ es. HaveValues (text_map_of es))
     (sym (unchanged c.self.inside.map (c.get_mut.follows.lender c.insert.new.self) c.args.path.now c.in-Some.conns.now
     c.insert.new.self (c.get_mut.follows.holds c.insert.new.self).0 c.in-Some.ensures.value
     c.in_err-insert-in-Some.ensures.err))
@@ -37,9 +36,9 @@ pub invariant_of-self-in-Some : goal.invariant_of-self-in-Some
 invariant_of-self-in-Some c =
     let n = c.get_mut.follows.lender c.insert.new.self in
     subst (λ m. HaveValues m)
-    (sym (seen-insert c.args.path.now c.self.inside.map n c.insert.new.self
+    (sym (text_map_of-insert c.args.path.now c.self.inside.map n c.insert.new.self
     ((c.get_mut.follows.holds c.insert.new.self).3 (subst IsSome c.in-Some.ensures.value refl))))
-    (have-insert path_total nat_cmp_total exact_bytes exact_unsigned (seen c.self.inside.map.entries) c.args.path.now
+    (have-insert path_total nat_cmp_total exact_bytes exact_unsigned (text_map_of c.self.inside.map.entries) c.args.path.now
     c.insert.new.self c.self.invariant
     (λ e. with-value nat_cmp_total c.in-Some.conns.now c.args.connection (sym c.in_ok-insert-in-Some.ensures.ok ∙ e)))
 
@@ -48,11 +47,11 @@ invariant_of-self-in-None c =
     let m = c.get_mut.follows.lender-at-none in
     let new = c.insert-in-None.new.self in
     subst (λ m. HaveValues m)
-    (sym (seen-insert (string_bytes c.in_ok-from_str-in-None.field-0) m c.insert-in-None-2.new.self new
+    (sym (text_map_of-insert (string_bytes c.in_ok-from_str-in-None.field-0) m c.insert-in-None-2.new.self new
     c.in_ok-insert-in-None-2.ensures.updates
-    ∙ ap (λ p. finmap.insert (seen m.entries) p new) c.in_ok-from_str-in-None.ensures.ok))
-    (have-insert path_total nat_cmp_total exact_bytes exact_unsigned (seen m.entries) c.args.path.now new
-    (subst (λ x. HaveValues (seen x.entries)) (sym c.get_mut.follows.holds-at-none) c.self.invariant)
+    ∙ ap (λ p. finmap.insert (text_map_of m.entries) p new) c.in_ok-from_str-in-None.ensures.ok))
+    (have-insert path_total nat_cmp_total exact_bytes exact_unsigned (text_map_of m.entries) c.args.path.now new
+    (subst (λ x. HaveValues (text_map_of x.entries)) (sym c.get_mut.follows.holds-at-none) c.self.invariant)
     (λ e. with-value nat_cmp_total c.new-conns.result c.args.connection (sym c.in_ok-insert-in-None.ensures.ok ∙ e)))
 
 pub returns-in_err-insert-in-Some-clause-err : goal.returns-in_err-insert-in-Some-clause-err
@@ -66,19 +65,19 @@ returns-in_err-insert-in-Some-clause-err c =
 pub returns-in_ok-insert-in-Some-clause-ok : goal.returns-in_ok-insert-in-Some-clause-ok
 returns-in_ok-insert-in-Some-clause-ok c =
     let n = c.get_mut.follows.lender c.insert.new.self in
-    insert_through path_total nat_cmp_total exact_bytes exact_unsigned (seen c.self.inside.map.entries) (seen n.entries)
+    insert_through path_total nat_cmp_total exact_bytes exact_unsigned (text_map_of c.self.inside.map.entries) (text_map_of n.entries)
     c.args.path.now c.args.connection c.in-Some.conns.now c.insert.new.self
-    (seen-insert c.args.path.now c.self.inside.map n c.insert.new.self
+    (text_map_of-insert c.args.path.now c.self.inside.map n c.insert.new.self
     ((c.get_mut.follows.holds c.insert.new.self).3 (subst IsSome c.in-Some.ensures.value refl)))
-    (get-seen c.self.inside.map.entries c.args.path.now ∙ sym c.in-Some.ensures.value)
+    (get-text_map_of c.self.inside.map.entries c.args.path.now ∙ sym c.in-Some.ensures.value)
     c.in_ok-insert-in-Some.ensures.ok
     ∙ ap (λ s. set.insert s (c.args.path.now, c.args.connection)) c.self.view_is
 
 pub returns-in_ok-insert-in-Some-clause-added : goal.returns-in_ok-insert-in-Some-clause-added
 returns-in_ok-insert-in-Some-clause-added c =
     c.in_ok-insert-in-Some.ensures.added
-    ∙ ap not (sym (contains-found path_total nat_cmp_total exact_bytes exact_unsigned (seen c.self.inside.map.entries)
-    c.args.path.now (Some c.in-Some.conns.now) (get-seen c.self.inside.map.entries c.args.path.now
+    ∙ ap not (sym (contains-found path_total nat_cmp_total exact_bytes exact_unsigned (text_map_of c.self.inside.map.entries)
+    c.args.path.now (Some c.in-Some.conns.now) (get-text_map_of c.self.inside.map.entries c.args.path.now
     ∙ sym c.in-Some.ensures.value) c.args.connection)
     ∙ ap (λ s. set.contains s (c.args.path.now, c.args.connection)) c.self.view_is)
 
@@ -87,11 +86,11 @@ returns-in_ok-insert-in-None-2-clause-ok c =
     let m = c.get_mut.follows.lender-at-none in
     let n = c.insert-in-None-2.new.self in
     let new = c.insert-in-None.new.self in
-    insert_first path_total nat_cmp_total exact_bytes exact_unsigned (seen m.entries) (seen n.entries) c.args.path.now
+    insert_first path_total nat_cmp_total exact_bytes exact_unsigned (text_map_of m.entries) (text_map_of n.entries) c.args.path.now
     c.args.connection c.new-conns.result new
-    (seen-insert (string_bytes c.in_ok-from_str-in-None.field-0) m n new c.in_ok-insert-in-None-2.ensures.updates
-    ∙ ap (λ p. finmap.insert (seen m.entries) p new) c.in_ok-from_str-in-None.ensures.ok)
-    (get-seen m.entries c.args.path.now ∙ ap (λ x. lookup (query c.args.path.now) x.entries)
+    (text_map_of-insert (string_bytes c.in_ok-from_str-in-None.field-0) m n new c.in_ok-insert-in-None-2.ensures.updates
+    ∙ ap (λ p. finmap.insert (text_map_of m.entries) p new) c.in_ok-from_str-in-None.ensures.ok)
+    (get-text_map_of m.entries c.args.path.now ∙ ap (λ x. lookup (query c.args.path.now) x.entries)
     c.get_mut.follows.holds-at-none ∙ sym c.in-None.ensures.value)
     c.new-conns.ensures
     c.in_ok-insert-in-None.ensures.ok
@@ -101,7 +100,7 @@ returns-in_ok-insert-in-None-2-clause-ok c =
 
 pub returns-in_ok-insert-in-None-2-clause-added : goal.returns-in_ok-insert-in-None-2-clause-added
 returns-in_ok-insert-in-None-2-clause-added c =
-    ap not (sym (contains-found path_total nat_cmp_total exact_bytes exact_unsigned (seen c.self.inside.map.entries)
-    c.args.path.now None (get-seen c.self.inside.map.entries c.args.path.now ∙ sym c.in-None.ensures.value)
+    ap not (sym (contains-found path_total nat_cmp_total exact_bytes exact_unsigned (text_map_of c.self.inside.map.entries)
+    c.args.path.now None (get-text_map_of c.self.inside.map.entries c.args.path.now ∙ sym c.in-None.ensures.value)
     c.args.connection)
     ∙ ap (λ s. set.contains s (c.args.path.now, c.args.connection)) c.self.view_is)

@@ -2,11 +2,11 @@ use Rattle.std.proofs.Common.{ap, sym, ◌∙◌}
 use Rattle.std.specs.Cmp.{nat_cmp_total}
 use Rattle.std.proofs.lemmas.Map.Lookups.{exact_unsigned}
 use Rattle.std.specs.FinSet as set
-use Rattle.watch_manager.proofs.SetCounts.{len-listed}
+use Rattle.values.proofs.Keyed.{len-set_of}
 use Rattle.watch_manager.proofs.conn_set.ConnSet.len.Goals as goal
 
 pub returns : goal.returns
 returns c =
     c.len.ensures.len
-    ∙ sym (len-listed nat_cmp_total exact_unsigned c.self.inside.conns.keys c.len.ensures.ordered)
+    ∙ sym (len-set_of nat_cmp_total exact_unsigned c.self.inside.conns.keys c.len.ensures.ordered)
     ∙ ap set.len c.self.view_is

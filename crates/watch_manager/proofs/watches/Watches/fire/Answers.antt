@@ -1,6 +1,6 @@
 use Rattle.std.proofs.Common.{sym, ap, ◌∙◌, subst, T, eqb→eq}
 use Rattle.watch_manager.specs.Watches.{fire}
-use Rattle.watch_manager.proofs.ConnSets.{no_entries}
+use Rattle.std.proofs.lemmas.List.{nil_from_length}
 use Rattle.watch_manager.proofs.Silent.{silent}
 use Rattle.watch_manager.proofs.Unwatched.{no_events, none_left}
 use Rattle.watch_manager.proofs.watches.Watches.fire.Goals as goal
@@ -18,6 +18,6 @@ returns-then-is_empty-clause-left c =
 
 pub returns-then-is_empty-2-clause-left : goal.returns-then-is_empty-2-clause-left
 returns-then-is_empty-2-clause-left c =
-    let empty = no_entries c.in_ok-events.events.items (sym c.in_ok-events.events.ok.0
+    let empty = nil_from_length c.in_ok-events.events.items (sym c.in_ok-events.events.ok.0
     ∙ eqb→eq c.in_ok-events.events.len 0 (subst T (sym c.if-is_empty-2.true ∙ c.is_empty-2.ensures) tt)) in
     silent c.args.self.now c.args.triggers.now (sym c.in_ok-events.ensures ∙ empty)
