@@ -216,13 +216,15 @@ def hold_up(program, until):
 
 
 def test_a_server_that_is_held_up():
-    """Who asks for little isn't put off with those who ask for much, where the program was held up meanwhile."""
+    """Who asks for little isn't put off with those who ask for much where the program was held up at its request."""
     with Attacked() as server:
-        path = listed(server.leader, 100_000)
-        with Beside("long lists that nobody reads, and other work", server) as beside:
-            for _ in range(20):
-                beside.client().sendall(16 * list_of(path))
-            hold_up(server.program, beside.began + scaled(4, 20))
+        asked = 160 * list_of(listed(server.leader, 100_000))
+        with Beside("long lists, and a program that is held up", server, readers=6) as beside:
+            clients = [beside.client() for _ in range(20)]
+            with Reading(clients):
+                for it in clients:
+                    it.sendall(asked)
+                hold_up(server.program, beside.began + scaled(6, 20))
 
 
 def test_long_requests_over_and_over():
