@@ -63,8 +63,8 @@ impl<'a, R: Clock> TurnBudget<'a, R> {
 
 // Whether messages with so many bytes were costly, which were answered with so many, and took so many microseconds.
 fn is_costly(taken: usize, answered: usize, took: u64) -> bool
-    ensures small { 4 < taken.now → taken.now + answered.now ≤ 4096 → result ≡ false }
-    ensures long { 4096 < taken.now + answered.now → 4000 < took.now → 0 < taken.now → result ≡ true }
+    ensures small { 4 < taken → taken + answered ≤ 4096 → result ≡ false }
+    ensures long { 4096 < taken + answered → 4000 < took → 0 < taken → result ≡ true }
 {
     let is_small = taken > WORD_LEN && taken.saturating_add(answered) <= SMALL;
     // A checkpoint takes long, and brings no bytes of a client.
