@@ -2,6 +2,7 @@
 
 Where a whole attack would take long, a smaller one is tried, and the whole by `--long`.
 """
+import signal
 import socket
 import struct
 import threading
@@ -203,6 +204,27 @@ def test_long_lists():
                 for it in clients:
                     it.sendall(16 * list_of(path))
                 beside.lasts(scaled(2, 20))
+
+
+def hold_up(program, until):
+    """Stops the program for 10 ms, 40 ms after the last time, as a machine with other work does."""
+    while time.monotonic() < until:
+        program.send_signal(signal.SIGSTOP)
+        time.sleep(0.01)
+        program.send_signal(signal.SIGCONT)
+        time.sleep(0.04)
+
+
+def test_a_server_that_is_held_up():
+    """Who asks for little isn't put off with those who ask for much where the program was held up at its request."""
+    with Attacked() as server:
+        asked = 160 * list_of(listed(server.leader, 100_000))
+        with Beside("long lists, and a program that is held up", server, readers=6) as beside:
+            clients = [beside.client() for _ in range(20)]
+            with Reading(clients):
+                for it in clients:
+                    it.sendall(asked)
+                hold_up(server.program, beside.began + scaled(6, 20))
 
 
 def test_long_requests_over_and_over():

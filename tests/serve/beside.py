@@ -129,16 +129,17 @@ class Beside:
     """The good ones, from the beginning of an attack until its connections have gone.
 
     Whoever attacks gets the connections here. They are closed at the end, which is measured, too; then the figures are
-    judged. `most_held` during the attack and `most_left` of it are megabytes.
+    judged. `most_held` during the attack and `most_left` of it are megabytes. There may be several clients that read.
     """
 
-    def __init__(self, name, server, most_held=HELD, most_left=LEFT):
+    def __init__(self, name, server, most_held=HELD, most_left=LEFT, readers=1):
         self.name, self.server, self.most_held, self.most_left = name, server, most_held, most_left
-        self.connections = []
+        self.count, self.readers, self.connections = readers, [], []
 
     def __enter__(self):
         self.base = self.most = held(self.server)
-        self.reader, self.work = Apart(self.server.port), Apart()
+        self.readers = [Apart(self.server.port) for _ in range(self.count)]
+        self.work = Apart()
         self.pinging, self.began, self.stopped = Pinging(self.server.leader), time.monotonic(), threading.Event()
         threading.Thread(target=self.watch, daemon=True).start()
         return self
@@ -153,15 +154,15 @@ class Beside:
             if kind is None:
                 self.lasts(LEAST)
                 self.leave()
-                reads, work = self.reader.stop(), self.work.stop()
+                reads, work = sum((it.stop() for it in self.readers), []), self.work.stop()
                 # The leader goes on with its PINGs: at each, the program forgets which sessions it has heard of.
                 left, pings = self.left(), self.pinging.stop()
                 self.judge(sorted(reads), pings, work, left)
         finally:
             self.stopped.set()
             self.pinging.stopped.set()
-            self.reader.end()
-            self.work.end()
+            for it in (*self.readers, self.work):
+                it.end()
             for it in self.connections:
                 it.close()
 
@@ -181,7 +182,7 @@ class Beside:
 
     def are_closed(self, seconds):
         """Waits until the program has closed the connections of the attack."""
-        most = self.base.threads + 1
+        most = self.base.threads + len(self.readers)
         assert wait_until(lambda: self.server.threads() <= most, seconds), f"{self.server.threads()} threads"
 
     def leave(self):

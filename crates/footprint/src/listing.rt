@@ -4,7 +4,7 @@ ghost use Rattle.std.specs.Prelude.{◌≡◌, IfOk};
 ghost use Rattle.std.specs.FinSet as set;
 ghost use Rattle.ephemerals.specs.Orders.{sorted_names};
 ghost use Rattle.data_tree.specs.Footprint as cells;
-ghost use Rattle.footprint.specs.Footprints.{is_barrier, txn_footprint};
+ghost use Rattle.footprint.specs.Footprints.{has_too_many, is_barrier, txn_footprint};
 
 use crate::cover::Footprint;
 use ephemerals::TextSet;
@@ -25,6 +25,15 @@ fn gathered(alloc: Global, paths: &[Str<'_>]) -> Result<TextSet, NoMemory>
     Ok(names)
 }
 
+fn has_too_many(alloc: Global, paths: &[Str<'_>]) -> Result<bool, NoMemory>
+    ensures { IfOk result (λ too_many. too_many ≡ has_too_many paths.now) }
+{
+    if paths.len() <= MOST_PATHS {
+        return Ok(false);
+    }
+    Ok(gathered(alloc, paths)?.len() > MOST_PATHS)
+}
+
 /// Whether a transaction with these paths is a barrier. Fails only if an allocation is refused.
 pub fn is_barrier(alloc: Global, txn: &Txn, paths: &[Str<'_>]) -> Result<bool, NoMemory>
     requires { paths.now ≡ cells.footprint txn.now }
@@ -33,11 +42,7 @@ pub fn is_barrier(alloc: Global, txn: &Txn, paths: &[Str<'_>]) -> Result<bool, N
     if txn.body.ends_session() {
         return Ok(true);
     }
-    // There can't be too many paths, even if they are all distinct.
-    if paths.len() <= MOST_PATHS {
-        return Ok(false);
-    }
-    Ok(gathered(alloc, paths)?.len() > MOST_PATHS)
+    has_too_many(alloc, paths)
 }
 
 fn listed(alloc: Global, paths: TextSet) -> Result<Listed<Text>, NoMemory>

@@ -1,6 +1,6 @@
 //! What a turn of the hub may spend on clients before the leader is heard again.
 
-ghost use Rattle.std.specs.Prelude.{◌≡◌, ◌≤◌, ◌-◌};
+ghost use Rattle.std.specs.Prelude.{◌≡◌, ◌≤◌, ◌<◌, ◌-◌, ◌+◌, true, false};
 
 use crate::stopwatch::Stopwatch;
 use intake::Budget;
@@ -18,6 +18,12 @@ const MOST_ANSWERED: usize = 4 * 1024 * 1024;
 const COSTLY_TIME: u64 = 4000;
 
 const COSTLY_ANSWERED: usize = 1024 * 1024;
+
+// What is taken and answered with so few bytes isn't costly, however long it took: it takes that long only if this thread
+// is held up, and its client would wait for a pause. A word has 4 bytes, and may look at all watches.
+const SMALL: usize = 4096;
+
+const WORD_LEN: usize = 4;
 
 // Costly messages that take longer in a turn, in microseconds, are followed by a pause, which is so many times as long:
 // meanwhile no port is served whose last messages were costly. So the other clients seldom wait for one.
@@ -55,6 +61,16 @@ impl<'a, R: Clock> TurnBudget<'a, R> {
     }
 }
 
+// Whether messages with so many bytes were costly, which were answered with so many, and took so many microseconds.
+fn is_costly(taken: usize, answered: usize, took: u64) -> bool
+    ensures small { 4 < taken → taken + answered ≤ 4096 → result ≡ false }
+    ensures long { 4096 < taken + answered → 4000 < took → 0 < taken → result ≡ true }
+{
+    let is_small = taken > WORD_LEN && taken.saturating_add(answered) <= SMALL;
+    // A checkpoint takes long, and brings no bytes of a client.
+    taken > 0 && !is_small && (took > COSTLY_TIME || answered > COSTLY_ANSWERED)
+}
+
 impl<'a, R: Clock> Budget for TurnBudget<'a, R> {
     fn begin(&mut self) {
         self.began = self.clock.microseconds(self.rt);
@@ -66,8 +82,7 @@ impl<'a, R: Clock> Budget for TurnBudget<'a, R> {
         let took = now.saturating_sub(self.last);
         self.last = now;
         self.answered = self.answered.saturating_add(answered);
-        // A checkpoint takes long, and brings no bytes of a client.
-        let is_costly = taken > 0 && (took > COSTLY_TIME || answered > COSTLY_ANSWERED);
+        let is_costly = is_costly(taken, answered, took);
         if is_costly {
             self.costly = self.costly.saturating_add(took);
         }
