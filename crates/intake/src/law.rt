@@ -10,8 +10,9 @@ pub fn desks_agree()
     ensures { DesksAgree }
 {}
 
-/// Whatever a hub does, its desk agrees with all messages that it took since it began: its machine is the one that
-/// `play` leaves after them, and each open port has its part of the messages and its share of the outputs.
+/// As long as a hub's desk isn't closed, the desk agrees with all messages that the hub took since it began: its machine
+/// is the one that `play` leaves after them, and each open port has its part of the messages and its share of the
+/// outputs.
 pub fn hubs_run()
     ensures { HubsRun }
 {}
