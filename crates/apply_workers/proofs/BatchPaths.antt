@@ -10,18 +10,18 @@ use Rattle.txn_codec.specs.declared.txn.Txn.{Txn}
 use Rattle.txn_codec.specs.Row.{ends_session}
 use Rattle.data_tree.specs.Footprint.{has_path, footprint, KeepsToCells}
 use Rattle.data_tree.specs.Commuting.{GroupedTxn, txns_of_group, batch_of, KeepsToGroupPaths, entries_of_group}
-use Rattle.footprint.specs.Footprints.{is_barrier}
+use Rattle.footprint.specs.Footprints.{has_too_many, is_barrier}
 use Rattle.batcher.specs.Groups.{paths_in}
 use Rattle.batcher.specs.Laws.{AreAmong}
 
 -- ---- none of them is a barrier
 
 free : (t : Txn) → is_barrier t ≡ false → KeepsToCells t
-free t none = neither (ends_session t.body) none
+free t none = neither (ends_session t.body) (has_too_many (footprint t)) none
   where
-    neither : (a : Bool) {b : Bool} → (a || b) ≡ false → a ≡ false
-    neither true e = e
-    neither false e = refl
+    neither : (a b : Bool) → (a || b) ≡ false → a ≡ false
+    neither true b e = e
+    neither false b e = refl
 
 pub all_free : (txns : List Txn) → AllByRecursion (λ t. is_barrier t ≡ false) txns → AllByRecursion KeepsToCells txns
 all_free [] none = tt

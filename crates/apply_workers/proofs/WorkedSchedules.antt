@@ -30,7 +30,7 @@ timeouts_are : SchedulesAreTheBatch → TransactionsSetTheirTimeouts → (h : Tx
     → finmap.get (schedule_result s (two_timeouts h) steps).state.sessions h.client_id ≡ Some (pos 6000)
 timeouts_are law set_in_order h s steps =
     ap (λ d. finmap.get d.state.sessions h.client_id) (law s (two_timeouts h) steps)
-    ∙ ap (λ sessions. finmap.get sessions h.client_id) (set_in_order (two_timeouts h) s (tt, (tt, (tt, tt))))
+    ∙ ap (λ sessions. finmap.get sessions h.client_id) (set_in_order (two_timeouts h) s (refl, (refl, (refl, tt))))
     ∙ finmap.get-insert int_cmp_total before h.client_id (pos 6000) h.client_id
     ∙ ap (λ b. cond b (Some (pos 6000)) (finmap.get before h.client_id))
     ((eq_by_cmp_equiv int_cmp_total).refl h.client_id)
