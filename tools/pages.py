@@ -131,7 +131,7 @@ def wrong(page):
         yield (f"the option's line is `{line}`, and the program says `{wanted}`", line != wanted)
     for missing in options()[len(lines):]:
         yield (f"the page lacks `{missing}`", True)
-    lines = table(page, "| Fault | What to do, as the program says it | What is wrong | More |")
+    lines = table(page, "| Fault | What to do, as the program says it | What is wrong |")
     for wanted, line in zip(faults() + [""] * len(lines), lines):
         yield (f"the fault's line is `{line}`, and the program says `{wanted}`", not wanted or not line.startswith(wanted))
     for missing in faults()[len(lines):]:

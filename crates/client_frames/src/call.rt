@@ -13,7 +13,7 @@ use forwarding::WriteKind;
 use jute::{ReadRecord, Reader, RequestHeader};
 use read_processor::{Request, is_readable_path, may_watch};
 use std::alloc::Global;
-use values::{NoMemory, ReadError, Str};
+use values::{Fault, NoMemory, ReadError, Str};
 
 /// A request that this server answers from what it has.
 #[derive(Drop)]
@@ -174,4 +174,15 @@ pub fn read_call<'a>(alloc: Global, frame: &'a [u8]) -> Result<Call<'a>, ReadErr
     let xid = header.xid;
     let body = read_body(alloc, RequestKind::from_code(header.kind), &mut reader)?;
     Ok(Call { xid, body })
+}
+
+/// The call of a frame, or why its header can't be read. Fails only if an allocation is refused.
+pub fn call_in<'a>(alloc: Global, frame: &'a [u8]) -> Result<Result<Call<'a>, Fault>, NoMemory>
+    ensures { IfOk result (λ read. read ≡ call_in frame.now) }
+{
+    match read_call(alloc, frame) {
+        Ok(call) => Ok(Ok(call)),
+        Err(ReadError::NoMemory) => Err(NoMemory),
+        Err(ReadError::Fault(fault)) => Ok(Err(fault)),
+    }
 }

@@ -18,6 +18,6 @@ mod call;
 mod connecting;
 mod law;
 
-pub use call::{Call, CallBody, LocalCall, read_call};
+pub use call::{Call, CallBody, LocalCall, call_in, read_call};
 pub use connecting::{Connecting, answer_to_connect, read_connecting, session_request_of};
 pub use law::worked_calls;

@@ -158,6 +158,20 @@ kept_itself w = record {
   pending = λ k here. refl;
 }
 
+-- A connection that is heard after the answers has the session that it had.
+pub session_kept : OtherConnectionsStay → (n : ℕ) (asked : List AskedRead) (w : World)
+    → is_heard n (answer_all_asked asked w).after.clients ≡ true
+    → session_of_connection (answer_all_asked asked w).after.clients.sessions n
+    ≡ session_of_connection w.clients.sessions n
+session_kept stay n asked w heard =
+    let u = (answer_all_asked asked w).after in
+    ap session_in ((answered_kept stay asked w w (kept_itself w)).sessions n
+    (open_if (finmap.get u.clients.connections n) heard))
+  where
+    open_if : (o : Option OpenConnection) → is_some (heard_in o) ≡ true → is_some o ≡ true
+    open_if None heard = heard
+    open_if (Some c) heard = refl
+
 -- A connection that isn't heard stays unheard.
 
 unheard_then : (n k : ℕ) (w : World) (frame : Option (List ℕ)) → is_heard n w.clients ≡ false

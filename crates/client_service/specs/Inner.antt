@@ -6,6 +6,7 @@ use Rattle.values.specs.declared.fault.Fault.{Fault}
 use Rattle.sessions.specs.Sessions.{session_of_connection}
 use Rattle.four_letter.specs.declared.word.Word.{Word}
 use Rattle.client_frames.specs.Call.{call_in}
+use Rattle.client_frames.specs.declared.call.Call.{Call}
 use Rattle.client_frames.specs.declared.call.CallBody.TheVariants as bodies
 use Rattle.client_frames.specs.declared.call.LocalCall.TheVariants as locals
 use Rattle.forwarding.specs.Pending.{is_idle}
@@ -15,6 +16,7 @@ use Rattle.client_service.specs.Steps.{StepResult, no_output}
 use Rattle.client_service.specs.Clients.{heard_connection, is_heard}
 use Rattle.client_service.specs.Serve.{frames_of_client, client_frame_limit, close_client, tell_word}
 use Rattle.client_service.specs.Runs.{AskedRead}
+use Rattle.client_service.specs.declared.request.SessionCall.{SessionCall}
 
 -- The first frame and the bytes that it takes; or no frame is complete; or its length is out of bounds.
 abbrev pub IsFirstFrame : Result (Option (Bor (List ℕ) × ℕ)) Fault → List ℕ → Type 0
@@ -49,12 +51,23 @@ world_with_rest n rest w = record w {
   };
 }
 
--- The read that a frame asks for, of a connection that has a session and no request that waits.
-pub record IsReadIn (n : ℕ) (w : World) (frame : List ℕ) (read : AskedRead) : Type 0 where
-  pub session : ℤ
-  pub joined : session_of_connection w.clients.sessions n ≡ Some session
+-- What a frame asks in the session of its connection: it is a call, or its header can't be read.
+abbrev pub call_of_session : List ℕ → Option ℤ → Option SessionCall
+call_of_session frame None = None
+call_of_session frame (Some session) = Some (record { session = session; read = call_in frame })
+
+abbrev pub session_call : ℕ → World → List ℕ → Option SessionCall
+session_call n w frame = call_of_session frame (session_of_connection w.clients.sessions n)
+
+abbrev pub read_of_session : Option SessionCall → Option (Result Call Fault)
+read_of_session None = None
+read_of_session (Some asked) = Some asked.read
+
+-- A read that is asked for in a session, of a connection that has no request that waits.
+pub record IsReadIn (n : ℕ) (w : World) (request : Option SessionCall) (read : AskedRead) : Type 0 where
   pub idle : is_idle w.clients.pending n ≡ true
-  pub asked : call_in frame ≡ Ok (record { xid = read.xid; body = bodies.Local (locals.Read read.request) })
+  pub asked : read_of_session request
+      ≡ Some (Ok (record { xid = read.xid; body = bodies.Local (locals.Read read.request) }))
   pub number : read.number ≡ n
 
 -- ---- after the reads that wait were answered, which may have closed the connection

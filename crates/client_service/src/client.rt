@@ -14,30 +14,53 @@ ghost use Rattle.client_service.specs.Serve.{serve_as, serve_by, serve_frame, se
 ghost use Rattle.client_frames.specs.Call.{call_in};
 ghost use Rattle.client_service.specs.Results.{MeetsStep, MeetsOwing};
 ghost use Rattle.client_service.specs.Runs.{answer_all_asked, serve_if_heard};
-ghost use Rattle.client_service.specs.Inner.{IsFirstFrame, rest_at, world_with_rest, close_if_heard, tell_if_heard};
+ghost use Rattle.client_service.specs.Inner.{session_call, IsFirstFrame, rest_at, world_with_rest, close_if_heard, tell_if_heard};
 
 use crate::asked::AskedRead;
 use crate::calls::answer_call;
 use crate::joining::connect_or_hold;
 use crate::output::Output;
 use crate::reading::gathered_read;
+use crate::request::{SessionCall, session_call};
 use crate::sending::close_client;
 use crate::settling::settle_reads;
 use crate::word::{tell_word, word_at};
 use crate::world::World;
-use client_frames::read_call;
+use client_frames::{Call, call_in};
 use data_tree::Tree;
 use four_letter::Word;
 use jute::{Reader, read_frame};
 use read_processor::{Ask, Look};
 use std::alloc::Global;
-use values::{ByteQueue, Fault, NoMemory, ReadError};
+use values::{ByteQueue, Fault, NoMemory};
 
 /// The longest frame that a client may send, in bytes.
 pub const CLIENT_FRAME_LIMIT: u32 = 1_048_575;
 
 // The bytes of a request's header.
 const HEADER_LEN: usize = 8;
+
+// Serves a call of a session, which was read from the frame. A frame whose header can't be read closes the connection.
+fn serve_read_call(
+    alloc: Global,
+    number: u64,
+    session: i64,
+    world: &mut World,
+    frame: &[u8],
+    read: &Result<Call<'_>, Fault>,
+    outputs: &mut Vec<Output>,
+) -> Result<(), NoMemory>
+    requires fits { length frame.now ≤ client_frame_limit }
+    requires room { is_full world.old.clients.pending number ≡ false }
+    ensures { MeetsStep result outputs.old.items
+        (serve_as number session world.old frame.now read.now)
+        outputs.new.items world.new }
+{
+    match read {
+        Ok(call) => answer_call(alloc, number, session, world, frame, call, outputs),
+        Err(_) => close_client(number, world, outputs),
+    }
+}
 
 /// Serves a frame of a connection that has a session. A frame whose header can't be read closes the connection.
 ///
@@ -56,31 +79,29 @@ pub fn serve_call(
         (serve_as number session world.old frame.now (call_in frame.now))
         outputs.new.items world.new }
 {
-    match read_call(alloc, frame) {
-        Ok(call) => answer_call(alloc, number, session, world, frame, &call, outputs),
-        Err(ReadError::NoMemory) => Err(NoMemory),
-        Err(ReadError::Fault(_)) => close_client(number, world, outputs),
-    }
+    let read = call_in(alloc, frame)?;
+    serve_read_call(alloc, number, session, world, frame, &read, outputs)
 }
 
-// Serves one frame, which touches the session of its connection. It is refused if it is too short for a header, or if
-// as many requests wait as may.
+// Serves one frame, which asks `request` if its connection has a session, and touches the session. It is refused if it
+// is too short for a header, or if as many requests wait as may.
 fn serve(
     alloc: Global,
     serving: bool,
     number: u64,
     world: &mut World,
     frame: &[u8],
+    request: &Option<SessionCall<'_>>,
     outputs: &mut Vec<Output>,
 ) -> Result<(), NoMemory>
-    requires { length frame.now ≤ client_frame_limit }
+    requires fits { length frame.now ≤ client_frame_limit }
+    requires asks { request.now ≡ session_call number world.old frame.now }
     ensures { MeetsStep result outputs.old.items
         (serve_frame serving number world.old frame.now)
         outputs.new.items world.new }
 {
-    let session = world.clients.sessions.session(number);
-    if let Some(session) = session {
-        world.clients.pending.touch(session)?;
+    if let Some(asked) = request {
+        world.clients.pending.touch(asked.session)?;
     }
     if world.clients.pending.is_full(number) {
         return close_client(number, world, outputs);
@@ -88,9 +109,17 @@ fn serve(
     if frame.len() < HEADER_LEN {
         return close_client(number, world, outputs);
     }
-    match session {
+    match request {
         None => connect_or_hold(alloc, serving, number, world, frame, outputs),
-        Some(session) => serve_call(alloc, number, session, world, frame, outputs),
+        Some(asked) => serve_read_call(
+            alloc,
+            number,
+            asked.session,
+            world,
+            frame,
+            &asked.read,
+            outputs,
+        ),
     }
 }
 
@@ -100,9 +129,12 @@ fn serve_if_heard(
     number: u64,
     world: &mut World,
     frame: &[u8],
+    request: &Option<SessionCall<'_>>,
     outputs: &mut Vec<Output>,
 ) -> Result<(), NoMemory>
-    requires { length frame.now ≤ client_frame_limit }
+    requires fits { length frame.now ≤ client_frame_limit }
+    requires asks { is_heard number world.old.clients ≡ true
+        → request.now ≡ session_call number world.old frame.now }
     ensures { MeetsStep result outputs.old.items
         (serve_if_heard serving number frame.now world.old)
         outputs.new.items world.new }
@@ -110,12 +142,12 @@ fn serve_if_heard(
     if !world.clients.is_heard(number) {
         return Ok(());
     }
-    serve(alloc, serving, number, world, frame, outputs)
+    serve(alloc, serving, number, world, frame, request, outputs)
 }
 
-// Takes one frame of a connection that is heard. While reads are gathered, a read waits for its answer if its
-// connection has a session and no request that waits for the leader. Before any other frame is served, the reads that
-// wait are answered, which may close its connection.
+// Takes one frame of a connection that is heard, and reads it once. While reads are gathered, a read waits for its
+// answer if its connection has a session and no request that waits for the leader. Before any other frame is served,
+// the reads that wait are answered, which may close its connection; what was read of the frame stays.
 fn take_frame<L: Fn(&Tree, &[Ask<'_>]) -> Result<Vec<Look>, NoMemory>>(
     alloc: Global,
     looker: &L,
@@ -135,18 +167,19 @@ fn take_frame<L: Fn(&Tree, &[Ask<'_>]) -> Result<Vec<Look>, NoMemory>>(
         outputs.new.items asked.new.items world.new }
 {
     sessions::others_stay();
+    let request = session_call(alloc, number, world, frame)?;
     if gathers {
-        if let Some(read) = gathered_read(alloc, number, world, frame)? {
+        if let Some(read) = gathered_read(alloc, number, world, &request)? {
             asked.push(read)?;
             return Ok(());
         }
     }
     if asked.is_empty() {
         // Nothing is settled first, so the connection is still heard.
-        return serve(alloc, serving, number, world, frame, outputs);
+        return serve(alloc, serving, number, world, frame, &request, outputs);
     }
     settle_reads(alloc, looker, asked, world, outputs)?;
-    serve_if_heard(alloc, serving, number, world, frame, outputs)
+    serve_if_heard(alloc, serving, number, world, frame, &request, outputs)
 }
 
 // Returns the first frame and the bytes that it takes with its length; None while it is incomplete.

@@ -28,9 +28,9 @@
 //! when each is called, and what is sent. The leader is followed above this crate, and [`notify_each`] tells the
 //! watchers of a change.
 //!
-//! `client` cuts the bytes into frames, with `joining`, `calls`, `reading` and `session` for the requests of a frame,
-//! `settling` for reads that wait, `word` for four-letter words, and `sending` and `notice` for what is sent.
-//! specs/Inner has the contracts of their private functions; no public contract needs it.
+//! `client` cuts the bytes into frames, with `request` for what a frame asks, `joining`, `calls`, `reading` and
+//! `session` for what is done about it, `settling` for reads that wait, `word` for four-letter words, and `sending` and
+//! `notice` for what is sent. specs/Inner has the contracts of their private functions; no public contract needs it.
 //!
 //! ```text
 //! let clients = Clients::new(alloc, &settings)?;                       // no connection, and no session yet
@@ -52,6 +52,7 @@ mod law;
 mod notice;
 mod output;
 mod reading;
+mod request;
 mod sending;
 mod session;
 mod settling;

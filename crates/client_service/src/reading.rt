@@ -13,15 +13,16 @@ ghost use Rattle.client_service.specs.Inner.{IsReadIn};
 use crate::asked::AskedRead;
 use crate::notice::notify_all;
 use crate::output::Output;
+use crate::request::{SessionCall, readable_call};
 use crate::sending::{answer_without_body, send_reply};
 use crate::world::World;
-use client_frames::{Call, CallBody, LocalCall, read_call};
+use client_frames::{Call, CallBody, LocalCall};
 use client_records::codes::OK;
 use client_records::{AddWatch, SetWatches};
 use jute::codes::BAD_ARGUMENTS;
 use read_processor::{Renewal, Request, Watch, look, renew, watch_of, watch_to_add};
 use std::alloc::Global;
-use values::{NoMemory, ReadError};
+use values::NoMemory;
 use watch_manager::{WatchMode, Watches};
 
 // Sets a watch; it may be set already.
@@ -98,27 +99,23 @@ fn read_of_call(alloc: Global, number: u64, call: &Call<'_>) -> Result<Option<As
     }
 }
 
-/// The read that a frame asks for; None if its connection has no session, if an earlier request of it waits for the
-/// leader, or if it asks for anything else.
+/// The read that is asked for; None if an earlier request of its connection waits for the leader, or if anything else
+/// is asked.
 pub(crate) fn gathered_read(
     alloc: Global,
     number: u64,
     world: &World,
-    frame: &[u8],
+    request: &Option<SessionCall<'_>>,
 ) -> Result<Option<AskedRead>, NoMemory>
-    ensures { IfOk result (λ found. IfSome found (IsReadIn number world.now frame.now)) }
+    ensures { IfOk result (λ found. IfSome found (IsReadIn number world.now request.now)) }
 {
-    let Some(_session) = world.clients.sessions.session(number) else {
+    let Some(call) = readable_call(request) else {
         return Ok(None);
     };
     if !world.clients.pending.is_idle(number) {
         return Ok(None);
     }
-    match read_call(alloc, frame) {
-        Ok(call) => read_of_call(alloc, number, &call),
-        Err(ReadError::NoMemory) => Err(NoMemory),
-        Err(ReadError::Fault(_)) => Ok(None),
-    }
+    read_of_call(alloc, number, call)
 }
 
 /// Answers a read at the present state, and leaves its watch.
