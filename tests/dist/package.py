@@ -30,7 +30,7 @@ def test_what_the_package_says_of_itself(pack):
     least = ".".join(map(str, max(versions)))
     assert fields["Depends"] == f"libc6 (>= {least})", (fields, versions)
     with open(pages.PAGE, encoding="utf-8") as page:
-        assert f"where the system has glibc {least} or later" in page.read(), least
+        assert f"if the system has glibc {least} or later" in " ".join(page.read().split()), least
     assert {"conffiles", "control", "postinst", "prerm", "postrm"} <= set(re.findall(r"lines  [ *]+(\S+)", out)), out
     conffiles, _ = run("dpkg-deb", "--info", package_of(pack), "conffiles")
     assert conffiles == "/etc/default/observer\n", conffiles
