@@ -63,8 +63,12 @@ impl<'a, R: Clock> TurnBudget<'a, R> {
 
 // Whether messages with so many bytes were costly, which were answered with so many, and took so many microseconds.
 fn is_costly(taken: usize, answered: usize, took: u64) -> bool
+    ensures nothing { taken ≡ 0 → result ≡ false }
     ensures small { 4 < taken → taken + answered ≤ 4096 → result ≡ false }
+    ensures cheap { took ≤ 4000 → answered ≤ 1048576 → result ≡ false }
+    ensures word { 0 < taken → taken ≤ 4 → 4000 < took → result ≡ true }
     ensures long { 4096 < taken + answered → 4000 < took → 0 < taken → result ≡ true }
+    ensures large { 1048576 < answered → 0 < taken → result ≡ true }
 {
     let is_small = taken > WORD_LEN && taken.saturating_add(answered) <= SMALL;
     // A checkpoint takes long, and brings no bytes of a client.
