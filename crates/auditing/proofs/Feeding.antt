@@ -6,7 +6,7 @@ use Rattle.ephemerals.specs.Orders.{Bytes}
 use Rattle.learner_sync.specs.Learn.{whole_log}
 use Rattle.observer_core.specs.declared.engine.Stop.{Stop}
 use Rattle.observer_core.specs.declared.event.Event.{Event}
-use Rattle.client_service.specs.declared.output.Output.{Output}
+use Rattle.world.specs.declared.output.Output.{Output}
 use Rattle.observer_core.specs.Machine.{Machine}
 use Rattle.observer_core.specs.Plays.{PlaysEvents}
 use Rattle.observer_core.specs.Play.{play}

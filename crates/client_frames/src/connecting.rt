@@ -8,7 +8,7 @@ use client_records::{ConnectRequest, ConnectResponse};
 use jute::{ReadRecord, Reader, WriteRecord, put_frame, put_int};
 use sessions::{SessionRequest, SessionResponse};
 use std::alloc::Global;
-use values::{Blob, NoMemory, ReadError};
+use values::{Blob, Bytes, NoMemory, ReadError};
 
 // The length of the answer's frame body, its last byte included.
 const LONGER_ANSWER_LEN: i32 = 37;
@@ -35,13 +35,14 @@ pub fn read_connecting<'a>(alloc: Global, frame: &'a [u8]) -> Result<Connecting<
 }
 
 /// The session that the client asks for.
-pub fn session_request_of<'a>(request: ConnectRequest<'a>) -> SessionRequest<'a>
-    ensures { result ≡ session_request_of request.entry }
+pub fn session_request_of<'a>(request: &ConnectRequest<'a>) -> SessionRequest<'a>
+    ensures { result ≡ session_request_of request.now }
 {
+    let password = request.passwd.as_ref().map(Bytes::as_slice);
     SessionRequest {
         time_out: request.time_out,
         session_id: request.session_id,
-        password: request.passwd,
+        password: password.map(Bytes::new),
     }
 }
 

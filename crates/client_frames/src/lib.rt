@@ -8,7 +8,7 @@
 //!
 //! ```text
 //! let connecting = read_connecting(alloc, frame)?;
-//! let connected = sessions.connect(alloc, number, lives, &session_request_of(connecting.request))?; // if the id lives
+//! let connected = sessions.connect(alloc, number, lives, &session_request_of(&connecting.request))?; // if the id lives
 //! answer_to_connect(alloc, &connected.response, connecting.has_byte)?     // the answer's frame
 //! let call = read_call(alloc, frame)?;                                   // Call { xid: 1, body: CallBody::Local(..) }
 //! ```

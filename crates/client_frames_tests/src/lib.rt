@@ -109,7 +109,7 @@ fn is_fifth(connecting: Connecting<'_>, has_byte: bool) -> bool {
     if connecting.has_byte != has_byte || connecting.request.last_zxid_seen != 9 {
         return false;
     }
-    let request = session_request_of(connecting.request);
+    let request = session_request_of(&connecting.request);
     request.time_out == 10_000 && request.session_id == 5 && has_secret(&request)
 }
 

@@ -1,10 +1,7 @@
-pub mod NatMaps
-pub mod Heard
 pub mod Streams
-pub mod Steps
 pub mod Serving
 pub mod Touching
 pub mod Headers
-pub mod Connecting
 pub mod Running
+pub mod Emptied
 pub mod Answering

@@ -1,6 +1,7 @@
 -- Reads that wait for their answers are answered as if at once.
-use Rattle.std.proofs.Common.{◌≡◌, ◌≢◌, ℕ, ℤ, List, [], ◌∷◌, ◌++◌, map, take, Option, Some, None, Result, Ok, Err, Bool, true, false, cond, refl, sym, ap, subst, ◌∙◌, append_assoc}
+use Rattle.std.proofs.Common.{◌≡◌, ◌≢◌, ℕ, ℤ, List, [], ◌∷◌, ◌++◌, map, take, drop, Option, Some, None, Result, Ok, Err, Bool, true, false, cond, refl, sym, ap, subst, ◌∙◌, append_assoc}
 use Rattle.std.specs.Prelude.{is_some, not, nat_lt, length, ◌||◌, if◌then◌else◌}
+use Rattle.std.specs.Option.{unwrap_or}
 use Rattle.std.specs.FinMap as finmap
 use Rattle.std.specs.Ordering.{eq_by_cmp, nat_cmp}
 use Rattle.std.specs.Cmp.{nat_cmp_total}
@@ -20,25 +21,29 @@ use Rattle.read_processor.specs.Look.{look_at_state}
 use Rattle.read_processor.specs.Watch.{watch_of}
 use Rattle.read_processor.specs.Reply.{reply_frame}
 use Rattle.client_frames.specs.Call.{call_in}
+use Rattle.client_frames.specs.declared.call.Call.{Call}
 use Rattle.client_frames.specs.declared.call.CallBody.TheVariants as bodies
 use Rattle.client_frames.specs.declared.call.LocalCall.TheVariants as locals
 use Rattle.forwarding.specs.Queue.{RequestQueue, pending_limit}
 use Rattle.forwarding.specs.Pending.{queue_in, is_idle, hold_frame}
 use Rattle.replica.specs.Replica.{Replica}
 use Rattle.values.specs.declared.fault.NoMemory.{NoMemory}
-use Rattle.client_service.specs.declared.output.Output.{Output}
-use Rattle.client_service.specs.World.{OpenConnection, OpenConnections, World}
-use Rattle.client_service.specs.Steps.{StepResult, prepend_outputs, no_output, and_then}
-use Rattle.client_service.specs.Clients.{is_open, heard_in, heard_connection, is_heard, without_client}
-use Rattle.client_service.specs.Serve.{close_client, send_or_close, with_watch_if, with_watches, send_reply, answer_read, with_pending, touch_client, header_len, is_refused_frame, serve_by, serve_as, serve_frame, serve_all, wait_if_heard, wait_at, word_without_session, word_at, tell_or_serve, take_client_bytes, frames_of_client}
-use Rattle.client_service.specs.Inner.{rest_at, with_rest, world_with_rest, close_if_heard, tell_if_heard}
-use Rattle.client_service.specs.Results.{MeetsStep, SoFar, MeetsOwing}
-use Rattle.client_service.specs.Runs.{AskedRead, answer_asked, answer_all_asked, look_asked, show_asked, show_all_asked, serve_if_heard, RunsAreReads}
-use Rattle.client_service.proofs.NatMaps.{same_key, eq_is, get-removed, get-kept}
-use Rattle.client_service.proofs.Heard.{heard_open, heard_still}
+use Rattle.world.specs.declared.output.Output.{Output}
+use Rattle.world.specs.World.{OpenConnection, OpenConnections, World}
+use Rattle.world.specs.Steps.{StepResult, prepend_outputs, no_output, and_then}
+use Rattle.world.specs.Clients.{is_open, heard_in, heard_connection, is_heard, without_client}
+use Rattle.world.specs.Sending.{close_client, send_or_close, with_watches, send_reply, with_pending}
+use Rattle.client_service.specs.Serve.{with_watch_if, answer_read, touch_client, header_len, is_refused_frame, serve_by, serve_as, serve_frame, serve_all, wait_if_heard, wait_at, word_without_session, word_at, tell_or_serve, take_client_bytes, frames_of_client}
+use Rattle.world.specs.Clients.{rest_at, with_rest}
+use Rattle.client_service.specs.Inner.{world_with_rest, stage_with_rest, call_of_session, session_call, read_of_session, IsReadIn, close_if_heard, tell_if_heard}
+use Rattle.client_service.specs.declared.request.SessionCall.{SessionCall}
+use Rattle.world.specs.Results.{MeetsStep, SoFar}
+use Rattle.client_service.specs.Runs.{MeetsOwing, MakesOwing, AskedRead, answer_asked, answer_all_asked, look_asked, show_asked, show_all_asked, serve_if_heard, RunsAreReads}
+use Rattle.world.proofs.NatMaps.{same_key, eq_is, get-removed, get-kept}
+use Rattle.world.proofs.Heard.{heard_open, heard_still}
 use Rattle.client_service.proofs.Touching.{with_touched, touch_is}
 use Rattle.client_service.proofs.Headers.{has_header}
-use Rattle.client_service.proofs.Steps.{behind_behind, happening_on, then_meets, stops, same_left}
+use Rattle.world.proofs.Steps.{behind_behind, happening_on, begins, then_meets, stops, same_left}
 use Rattle.client_service.proofs.Serving.{none_of, served_first, all_passed_over, none_whole, bad_length, not_heard, at_heard}
 
 -- ---- what answers leave
@@ -158,15 +163,19 @@ kept_itself w = record {
   pending = λ k here. refl;
 }
 
--- A connection that is heard after the answers has the session that it had.
-pub session_kept : OtherConnectionsStay → (n : ℕ) (asked : List AskedRead) (w : World)
-    → is_heard n (answer_all_asked asked w).after.clients ≡ true
-    → session_of_connection (answer_all_asked asked w).after.clients.sessions n
-    ≡ session_of_connection w.clients.sessions n
-session_kept stay n asked w heard =
-    let u = (answer_all_asked asked w).after in
-    ap session_in ((answered_kept stay asked w w (kept_itself w)).sessions n
-    (open_if (finmap.get u.clients.connections n) heard))
+-- What a frame asks stays the same while reads that wait are answered, if its connection is still heard.
+pub call_kept : OtherConnectionsStay → (n : ℕ) (frame : List ℕ) (asked : List AskedRead) (old new : StepResult World)
+    (request : Option SessionCall) → prepend_outputs old.outputs (answer_all_asked asked old.after) ≡ new
+    → request ≡ session_call n old.after frame → is_heard n new.after.clients ≡ true
+    → request ≡ session_call n new.after frame
+call_kept stay n frame asked old new request made is heard =
+    let after : (answer_all_asked asked old.after).after ≡ new.after = ap (λ (h : StepResult World). h.after) made in
+    is
+    ∙ sym (ap (λ (o : Option ConnectedClient). call_of_session frame (session_in o))
+    ((answered_kept stay asked old.after old.after (kept_itself old.after)).sessions n
+    (open_if (finmap.get (answer_all_asked asked old.after).after.clients.connections n)
+    (ap (λ (u : World). is_heard n u.clients) after ∙ heard))))
+    ∙ ap (λ (u : World). session_call n u frame) after
   where
     open_if : (o : Option OpenConnection) → is_some (heard_in o) ≡ true → is_some o ≡ true
     open_if None heard = heard
@@ -206,9 +215,6 @@ unheard_after n (a ∷ asked) w unheard =
 
 -- ---- bytes that are kept
 
-abbrev pub rested : ℕ → List ℕ → StepResult World → StepResult World
-rested n rest h = record { outputs = h.outputs; after = world_with_rest n rest h.after }
-
 -- What is asked of a connection has the same answer with other bytes.
 same_as : (is : Option OpenConnection → Bool) (m : OpenConnections) (n k : ℕ) (o : Option OpenConnection) (rest : List ℕ)
     → heard_in (finmap.get m n) ≡ o
@@ -230,7 +236,7 @@ open_as : (m : OpenConnections) (n k : ℕ) (o : Option OpenConnection) (rest : 
 open_as m n k o rest at = same_as is_some m n k o rest at
     (λ c here. sym (ap is_some (heard_open (finmap.get m n) c here)))
 
-heard_with : (m : OpenConnections) (n k : ℕ) (o : Option OpenConnection) (rest : List ℕ)
+pub heard_with : (m : OpenConnections) (n k : ℕ) (o : Option OpenConnection) (rest : List ℕ)
     → heard_in (finmap.get m n) ≡ o
     → is_some (heard_in (finmap.get (with_rest m n o rest) k)) ≡ is_some (heard_in (finmap.get m k))
 heard_with m n k o rest at = same_as (λ (o : Option OpenConnection). is_some (heard_in o)) m n k o rest at
@@ -302,7 +308,7 @@ waiting_is n rest w = by (heard_connection n w.clients)
 
 module _ (n : ℕ) (rest : List ℕ) where
   sent_rested : (k : ℕ) (w : World) (frame : Option (List ℕ))
-      → send_or_close k (world_with_rest n rest w) frame ≡ rested n rest (send_or_close k w frame)
+      → send_or_close k (world_with_rest n rest w) frame ≡ stage_with_rest n rest (send_or_close k w frame)
   sent_rested k w (Some bytes) = refl
   sent_rested k w None =
       ap (λ (m : OpenConnections).
@@ -312,7 +318,7 @@ module _ (n : ℕ) (rest : List ℕ) where
         after = record w { clients = record c { connections = m } };
       }) (rest_removed w.clients.connections n k (heard_connection n w.clients) rest refl)
 
-  one_rested : (w : World) (a : AskedRead) → answer_asked (world_with_rest n rest w) a ≡ rested n rest (answer_asked w a)
+  one_rested : (w : World) (a : AskedRead) → answer_asked (world_with_rest n rest w) a ≡ stage_with_rest n rest (answer_asked w a)
   one_rested w a =
       ap (λ b. cond b (answered (touch_client a.number (world_with_rest n rest w))) (no_output (world_with_rest n rest w)))
       (open_as w.clients.connections n a.number (heard_connection n w.clients) rest refl)
@@ -323,7 +329,7 @@ module _ (n : ℕ) (rest : List ℕ) where
 
       by : (b : Bool)
           → cond b (answered (touch_client a.number (world_with_rest n rest w))) (no_output (world_with_rest n rest w))
-          ≡ rested n rest (cond b (answered (touch_client a.number w)) (no_output w))
+          ≡ stage_with_rest n rest (cond b (answered (touch_client a.number w)) (no_output w))
       by false = refl
       by true =
           let seen = look_asked w a in
@@ -331,10 +337,10 @@ module _ (n : ℕ) (rest : List ℕ) where
           ∙ sent_rested a.number
           (with_watches (with_touched a.number w) (with_watch_if a.number w.clients.watches (watch_of a.request seen.error)))
           (reply_frame a.xid w.replica.learner.last_zxid seen)
-          ∙ ap (λ (u : World). rested n rest (answered u)) (sym (touch_is a.number w))
+          ∙ ap (λ (u : World). stage_with_rest n rest (answered u)) (sym (touch_is a.number w))
 
   pub answered_rested : (asked : List AskedRead) (w : World)
-      → answer_all_asked asked (world_with_rest n rest w) ≡ rested n rest (answer_all_asked asked w)
+      → answer_all_asked asked (world_with_rest n rest w) ≡ stage_with_rest n rest (answer_all_asked asked w)
   answered_rested [] w = refl
   answered_rested (a ∷ asked) w =
       ap (λ (h : StepResult World). and_then h (answer_all_asked asked)) (one_rested w a)
@@ -483,6 +489,28 @@ runs_are_reads stay = record {
       w (record { number = n; xid = xid; request = r }) session others heard joined idle reads;
 }
 
+-- A call of a session is that of the frame, and the session is the connection's.
+asked_in : (o : Option ℤ) (frame : List ℕ) (read : Result Call Fault)
+    → read_of_session (call_of_session frame o) ≡ Some read
+    → (session : ℤ) × ((o ≡ Some session) × (call_in frame ≡ read))
+asked_in None frame read e = absurd (true≢false (sym (ap is_some e)))
+asked_in (Some s) frame read e = (s, (refl, ap (λ (o : Option (Result Call Fault)). unwrap_or o read) e))
+
+-- The read of a frame was gathered.
+pub gathered : OtherConnectionsStay → (serving : Bool) (n : ℕ) (frame : List ℕ) (h : StepResult World)
+    (asked : List AskedRead) (request : Option SessionCall) (read : AskedRead) (left : List AskedRead)
+    → is_heard n h.after.clients ≡ true → request ≡ session_call n h.after frame → IsReadIn n h.after request read
+    → left ≡ asked ++ read ∷ [] → MakesOwing (Ok tt) h asked (serve_if_heard serving n frame) h left
+gathered stay serving n frame h asked request read left heard is reads added =
+    let asks = asked_in (session_of_connection h.after.clients.sessions n) frame _
+    (ap read_of_session (sym is) ∙ reads.asked) in
+    same_left _ _ _ _ _
+    (ap (λ (k : ℕ). and_then (answer_all_asked asked h.after) (serve_if_heard serving k frame)) (sym reads.number)
+    ∙ read_waits serving frame stay asked h.after read asks.0 (rw reads.number heard) (rw reads.number asks.1.0)
+    (rw reads.number reads.idle) asks.1.1
+    ∙ ap (λ (reads : List AskedRead). answer_all_asked reads h.after) (sym added))
+    (begins h.outputs (and_then (answer_all_asked asked h.after) (serve_if_heard serving n frame)))
+
 -- ---- a connection's frames, after the reads that wait
 
 module _ (serving : Bool) (n : ℕ) (asked : List AskedRead) (w : World) (found : Items (Unit {0}) (List ℕ)) where
@@ -619,17 +647,6 @@ module _ (serving : Bool) (n : ℕ) (asked : List AskedRead) (w : World) (bytes 
         by true here = refl
         by false unheard = sym (all_passed_over serving n u (items_in frames_of_client (place_at tt came)) unheard)
 
--- ---- what was looked up is shown
-
-pub looks_shown : RunsAreReads → (asked seen_first seen_then : List AskedRead) (looks : List Look) (w : World)
-    → seen_first ≡ asked → seen_then ≡ asked → looks ≡ map (look_asked w) seen_first
-    → show_all_asked seen_then looks w ≡ answer_all_asked asked w
-looks_shown runs asked seen_first seen_then looks w once twice are =
-    ap (λ (others : List AskedRead). show_all_asked others looks w) twice
-    ∙ ap (λ (ls : List Look). show_all_asked asked ls w)
-    (are ∙ ap (λ (others : List AskedRead). map (look_asked w) others) once)
-    ∙ sym (runs.looks asked w)
-
 -- ---- what is still owed
 
 -- All that waited was answered, and then a step was tried.
@@ -680,13 +697,23 @@ ends_owing (Ok u) old whole now new left last asked after is made s = record {
 ends_owing (Err e) old whole now new left last asked after is m s =
     stops old whole now new last m (same_left old whole now left last is s)
 
--- No read waits, so a frame is served at once.
-pub served_at_once : (r : Result (Unit {0}) NoMemory) (old new : List Output) (serving : Bool) (n : ℕ) (frame : List ℕ)
-    (w : World) (asked : List AskedRead) (after : World) → asked ≡ [] → is_heard n w.clients ≡ true
-    → MeetsStep r old (serve_frame serving n w frame) new after
-    → MeetsOwing r old (and_then (answer_all_asked asked w) (serve_if_heard serving n frame)) new asked after
-served_at_once r old new serving n frame w asked after none here made =
-    settled_first r old old new (answer_all_asked asked w) (serve_if_heard serving n frame) w asked after
-    (ap (λ (reads : List AskedRead). prepend_outputs old (answer_all_asked reads w)) none
-    ∙ ap (λ (os : List Output). record { outputs = os; after = w }) (append-nil old)) none
-    (subst (λ (b : Bool). MeetsStep r old (cond b (serve_frame serving n w frame) (no_output w)) new after) (sym here) made)
+-- One frame was taken of a connection's bytes, and what is left completes what was to be done.
+pub frame_taken : {old : List Output} {whole : StepResult World} (serving : Bool) (n : ℕ) (now new : StepResult World)
+    (asked left : List AskedRead) (bytes shown rest frame : List ℕ) (used : ℕ)
+    → shown ≡ bytes
+    → items_in frames_of_client (place_at tt shown)
+    ≡ with_first frame (items_in frames_of_client (place_at tt (drop used shown)))
+    → rest ≡ drop used bytes
+    → SoFar now.outputs (and_then (answer_all_asked asked now.after) (serve_if_heard serving n frame)) new.outputs
+    (answer_all_asked left new.after)
+    → SoFar old whole now.outputs (all_after serving n asked now.after (items_in frames_of_client (place_at tt bytes)))
+    → SoFar old whole new.outputs (all_after serving n left new.after (items_in frames_of_client (place_at tt rest)))
+frame_taken {old = old} {whole = whole} serving n now new asked left bytes shown rest frame used seen first left_is made so_far =
+    let items : List ℕ → Items (Unit {0}) (List ℕ) = λ bytes. items_in frames_of_client (place_at tt bytes) in
+    let is : items bytes ≡ with_first frame (items rest) =
+    ap items (sym seen) ∙ first
+    ∙ ap (λ (b : List ℕ). with_first frame (items b)) (ap (drop used) seen ∙ sym left_is) in
+    steps_owing old whole now.outputs new.outputs
+    (and_then (answer_all_asked asked now.after) (serve_if_heard serving n frame)) (answer_all_asked left new.after)
+    (λ (u : World). serve_all serving n u (items rest)) (all_after serving n asked now.after (items bytes))
+    (one_frame serving n asked now.after (items bytes) frame (items rest) is) made so_far

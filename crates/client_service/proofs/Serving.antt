@@ -6,16 +6,19 @@ use Rattle.std.proofs.lemmas.List.{length-append, drop_at}
 use mathlib.Core.Bool.{true≢false}
 use Rattle.values.specs.declared.fault.Fault.{Fault}
 use Rattle.values.specs.declared.fault.Fault.TheVariants.{Short}
-use Rattle.jute.specs.Frame.{frame_format}
+use Rattle.jute.specs.Format.{judged_at}
+use Rattle.jute.specs.Frame.{frame_at, frame_format}
 use Rattle.jute.specs.Laws.{IsBytes}
 use Rattle.jute.specs.Stream.{items_in, place_at, with_first, no_items, Items, Unread}
 use Rattle.jute.proofs.Public.{items_whole, items_short, items_refused, shorter_rest, refused_other}
-use Rattle.client_service.specs.World.{OpenConnection, World}
-use Rattle.client_service.specs.Steps.{StepResult, prepend_outputs, no_output, and_then, fold_steps}
-use Rattle.client_service.specs.Clients.{heard_connection, is_heard}
-use Rattle.client_service.specs.Serve.{close_client, serve_frame, serve_all, word_at, is_unheard, wait_if_heard, wait_at, tell_or_serve, take_client_bytes, frames_of_client, client_frame_limit}
-use Rattle.client_service.specs.Inner.{rest_at, with_rest, world_with_rest}
-use Rattle.client_service.proofs.Steps.{behind_behind, passed_over, goes_on}
+use Rattle.world.specs.World.{OpenConnection, World}
+use Rattle.world.specs.Steps.{StepResult, prepend_outputs, no_output, and_then, fold_steps}
+use Rattle.world.specs.Clients.{heard_connection, is_heard}
+use Rattle.world.specs.Sending.{close_client}
+use Rattle.client_service.specs.Serve.{serve_frame, serve_all, word_at, is_unheard, wait_if_heard, wait_at, tell_or_serve, take_client_bytes, frames_of_client, client_frame_limit}
+use Rattle.world.specs.Clients.{rest_at, with_rest}
+use Rattle.client_service.specs.Inner.{world_with_rest}
+use Rattle.world.proofs.Steps.{behind_behind, passed_over, goes_on}
 use Rattle.client_service.proofs.Streams.{client_frame_sound, frames_streamed}
 
 -- ---- frames
@@ -48,6 +51,11 @@ frame_whole bytes rest f fits e =
 pub frame_short : (bytes : List ℕ) → (frame_format client_frame_limit).read bytes ≡ Err Short
     → items_in frames_of_client (place_at tt bytes) ≡ no_items (place_at tt bytes)
 frame_short bytes e = items_short frames_of_client frames_streamed tt bytes e
+
+-- Nothing is no frame.
+pub nothing_found : items_in frames_of_client (place_at tt []) ≡ no_items (place_at tt [])
+unfolding frame_at judged_at
+nothing_found = frame_short [] refl
 
 pub frame_refused : (bytes : List ℕ) (e : Fault) → (e ≡ Short → ⊥)
     → (frame_format client_frame_limit).read bytes ≡ Err e

@@ -3,8 +3,9 @@ use Rattle.std.proofs.Common.{◌≡◌, ℕ, ℤ, Option, Some, None, refl}
 use Rattle.std.specs.FinSet as set
 use Rattle.sessions.specs.Sessions.{session_of_connection}
 use Rattle.forwarding.specs.State.{TouchedSessions}
-use Rattle.client_service.specs.World.{World}
-use Rattle.client_service.specs.Serve.{with_pending, touched_as, touch_client}
+use Rattle.world.specs.World.{World}
+use Rattle.world.specs.Sending.{with_pending}
+use Rattle.client_service.specs.Serve.{touched_as, touch_client}
 
 abbrev touched_with : TouchedSessions → Option ℤ → TouchedSessions
 touched_with touched None = touched

@@ -1,7 +1,7 @@
 -- The contracts of the private functions. No public contract cites this.
-use Rattle.std.specs.Prelude.{◌≡◌, ℕ, ℤ, List, Result, Ok, Err, Option, Some, None, Bool, true, length, drop, ◌<◌, ◌≤◌, if◌then◌else◌}
-use Rattle.std.specs.FinMap as finmap
+use Rattle.std.specs.Prelude.{◌≡◌, ℕ, ℤ, List, [], Result, Ok, Err, Option, Some, None, Bool, true, length, drop, ◌<◌, ◌≤◌, if◌then◌else◌}
 use Rattle.std.specs.Borrow.{Bor}
+use Rattle.std.specs.Option.{unwrap_or}
 use Rattle.values.specs.declared.fault.Fault.{Fault}
 use Rattle.sessions.specs.Sessions.{session_of_connection}
 use Rattle.four_letter.specs.declared.word.Word.{Word}
@@ -11,10 +11,11 @@ use Rattle.client_frames.specs.declared.call.CallBody.TheVariants as bodies
 use Rattle.client_frames.specs.declared.call.LocalCall.TheVariants as locals
 use Rattle.forwarding.specs.Pending.{is_idle}
 use Rattle.jute.specs.Stream.{place_at, items_in, with_first, no_items}
-use Rattle.client_service.specs.World.{OpenConnection, OpenConnections, World}
-use Rattle.client_service.specs.Steps.{StepResult, no_output}
-use Rattle.client_service.specs.Clients.{heard_connection, is_heard}
-use Rattle.client_service.specs.Serve.{frames_of_client, client_frame_limit, close_client, tell_word}
+use Rattle.world.specs.World.{World}
+use Rattle.world.specs.Steps.{StepResult, no_output}
+use Rattle.world.specs.Clients.{heard_connection, is_heard, rest_at, with_rest}
+use Rattle.client_service.specs.Serve.{frames_of_client, client_frame_limit, tell_word}
+use Rattle.world.specs.Sending.{close_client}
 use Rattle.client_service.specs.Runs.{AskedRead}
 use Rattle.client_service.specs.declared.request.SessionCall.{SessionCall}
 
@@ -29,20 +30,9 @@ IsFirstFrame (Ok None) bytes = items_in frames_of_client (place_at tt bytes) ≡
 IsFirstFrame (Err e) bytes = items_in frames_of_client (place_at tt bytes)
     ≡ no_items (record { phase = tt; unread = Err e })
 
--- The waiting bytes of a connection that is heard.
-abbrev pub rest_at : Option OpenConnection → Option (List ℕ)
-rest_at None = None
-rest_at (Some connection) = Some connection.rest
-
--- Replaces the waiting bytes of a connection, if it is heard; of no other a byte is kept.
-abbrev pub with_rest : OpenConnections → ℕ → Option OpenConnection → List ℕ → OpenConnections
-with_rest connections n None rest = connections
-with_rest connections n (Some connection) rest = finmap.insert connections n (record connection { rest = rest })
-
--- An open connection is leaving from now on.
-abbrev pub with_leaver : OpenConnections → ℕ → Option OpenConnection → OpenConnections
-with_leaver connections n None = connections
-with_leaver connections n (Some connection) = finmap.insert connections n (record connection { is_leaving = true })
+-- The waiting bytes of a connection; none if it isn't heard.
+abbrev pub waiting_bytes : ℕ → World → List ℕ
+waiting_bytes n w = unwrap_or (rest_at (heard_connection n w.clients)) []
 
 abbrev pub world_with_rest : ℕ → List ℕ → World → World
 world_with_rest n rest w = record w {
@@ -50,6 +40,9 @@ world_with_rest n rest w = record w {
     connections = with_rest w.clients.connections n (heard_connection n w.clients) rest;
   };
 }
+
+abbrev pub stage_with_rest : ℕ → List ℕ → StepResult World → StepResult World
+stage_with_rest n rest h = record { outputs = h.outputs; after = world_with_rest n rest h.after }
 
 -- What a frame asks in the session of its connection: it is a call, or its header can't be read.
 abbrev pub call_of_session : List ℕ → Option ℤ → Option SessionCall

@@ -1,7 +1,3 @@
-pub mod World
-pub mod Steps
-pub mod Clients
 pub mod Serve
 pub mod Runs
-pub mod Results
 pub mod Inner

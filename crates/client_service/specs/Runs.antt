@@ -1,5 +1,5 @@
 -- Reads that wait for their answers: a run of reads, with nothing else to be done between them.
-use Rattle.std.specs.Prelude.{◌≡◌, ℕ, ℤ, List, [], ◌∷◌, ◌++◌, map, Some, Ok, Bool, true, false, if◌then◌else◌}
+use Rattle.std.specs.Prelude.{Result, Err, ◌≡◌, ℕ, ℤ, List, [], ◌∷◌, ◌++◌, map, Some, Ok, Bool, true, false, if◌then◌else◌}
 use Rattle.jute.specs.Stream.{Items, with_first}
 use Rattle.sessions.specs.Sessions.{session_of_connection, ids_of}
 use Rattle.read_processor.specs.declared.request.Request.{Request}
@@ -10,10 +10,15 @@ use Rattle.client_frames.specs.Call.{call_in}
 use Rattle.client_frames.specs.declared.call.CallBody.TheVariants as bodies
 use Rattle.client_frames.specs.declared.call.LocalCall.TheVariants as locals
 use Rattle.forwarding.specs.Pending.{is_idle}
-use Rattle.client_service.specs.World.{World}
-use Rattle.client_service.specs.Steps.{StepResult, no_output, and_then, fold_steps}
-use Rattle.client_service.specs.Clients.{is_open, is_heard}
-use Rattle.client_service.specs.Serve.{with_watch_if, with_watches, send_reply, answer_read, touch_client, serve_frame, serve_all, wait_at}
+use Rattle.values.specs.Gains.{Gains}
+use Rattle.values.specs.declared.fault.NoMemory.{NoMemory}
+use Rattle.world.specs.declared.output.Output.{Output}
+use Rattle.world.specs.World.{World}
+use Rattle.world.specs.Results.{SoFar}
+use Rattle.world.specs.Steps.{StepResult, no_output, and_then, fold_steps}
+use Rattle.world.specs.Clients.{is_open, is_heard}
+use Rattle.client_service.specs.Serve.{with_watch_if, answer_read, touch_client, serve_frame, serve_all, wait_at}
+use Rattle.world.specs.Sending.{with_watches, send_reply}
 
 -- A read that a connection asked for, with the xid of its reply.
 pub record AskedRead : Type 0 where
@@ -33,6 +38,18 @@ answer_all_asked asked w = fold_steps (λ (w : World). false) answer_asked w ask
 -- A frame is served after them, if its connection is still heard.
 abbrev pub serve_if_heard : Bool → ℕ → List ℕ → World → StepResult World
 serve_if_heard serving n frame w = if is_heard n w.clients then serve_frame serving n w frame else no_output w
+
+-- A step was made but for the answers to the reads that wait now; or an allocation was refused.
+abbrev pub MeetsOwing : Result (Unit {0}) NoMemory → List Output → StepResult World → List Output → List AskedRead
+    → World → Type 0
+MeetsOwing (Ok u) old whole new asked after = SoFar old whole new (answer_all_asked asked after)
+MeetsOwing (Err e) old whole new asked after = Gains old whole.outputs new
+
+-- The same of a stage: the reads that waited are answered, and then a step is made on what they leave.
+abbrev pub MakesOwing : Result (Unit {0}) NoMemory → StepResult World → List AskedRead → (World → StepResult World)
+    → StepResult World → List AskedRead → Type 0
+MakesOwing result old asked step new left =
+    MeetsOwing result old.outputs (and_then (answer_all_asked asked old.after) step) new.outputs left new.after
 
 -- ---- what they show is looked up first
 

@@ -29,12 +29,10 @@ use Rattle.read_processor.specs.declared.request.Request.{Request}
 use Rattle.read_processor.specs.declared.watch.Watch.{Watch}
 use Rattle.read_processor.specs.declared.watch.Watch.TheVariants as tables
 use Rattle.read_processor.specs.declared.renewal.Renewal.{Renewal}
-use Rattle.read_processor.specs.declared.shown.Look.{Look}
 use Rattle.read_processor.specs.Look.{look_at_state, without_body}
 use Rattle.read_processor.specs.Watch.{watch_of, watch_to_add}
 use Rattle.read_processor.specs.Renewal.{renew_watches}
 use Rattle.read_processor.specs.Reply.{reply_frame}
-use Rattle.client_service.specs.declared.output.Output.TheVariants.{ToLeader, ToClient, CloseClient}
 use Rattle.client_frames.specs.declared.call.Call.{Call}
 use Rattle.client_frames.specs.declared.call.CallBody.{CallBody}
 use Rattle.client_frames.specs.declared.call.CallBody.TheVariants as bodies
@@ -44,40 +42,14 @@ use Rattle.forwarding.specs.State.{PendingTable}
 use Rattle.forwarding.specs.declared.request.WriteKind.{WriteKind}
 use Rattle.forwarding.specs.Queue.{is_close}
 use Rattle.forwarding.specs.Pending.{is_idle, is_full, connecting_to, push_connect, push_write, push_sync, hold_frame, touch_session}
-use Rattle.quorum_packet.specs.Packet.{packet_format}
-use Rattle.quorum_packet.specs.declared.packet.QuorumPacket.{QuorumPacket}
 use Rattle.learner_sync.specs.Answers.{request_of, session_request}
-use Rattle.client_service.specs.declared.output.Output.{Output}
 use Rattle.client_frames.specs.declared.connecting.Connecting.{Connecting}
-use Rattle.client_service.specs.World.{OpenConnection, Clients, World}
+use Rattle.world.specs.World.{OpenConnection, Clients, World}
 use Rattle.client_frames.specs.Call.{call_in}
 use Rattle.client_frames.specs.Connect.{connecting_in, session_request_of, answer_to_connect}
-use Rattle.client_service.specs.Steps.{StepResult, prepend_outputs, no_output, and_then, fold_steps}
-use Rattle.client_service.specs.Clients.{idle_connection, is_open, heard_connection, is_heard, with_connection, without_client, notices_to}
-
--- ---- what is sent
-
-abbrev pub to_leader : QuorumPacket → Output
-to_leader p = ToLeader (packet_format.written p)
-
-abbrev pub close_client : ℕ → World → StepResult World
-close_client n w = record { outputs = CloseClient n ∷ []; after = record w { clients = without_client n w.clients } }
-
--- A reply that is too long for a frame isn't sent, and closes the connection.
-abbrev pub send_or_close : ℕ → World → Option (List ℕ) → StepResult World
-send_or_close n w None = close_client n w
-send_or_close n w (Some bytes) = record { outputs = ToClient n bytes ∷ []; after = w }
-
--- Sends a frame, and then closes the connection.
-abbrev pub send_last : ℕ → World → Option (List ℕ) → StepResult World
-send_last n w frame = and_then (send_or_close n w frame) (close_client n)
-
--- The reply has the zxid of the tree that it shows.
-abbrev pub send_reply : ℕ → World → ℤ → Look → StepResult World
-send_reply n w xid seen = send_or_close n w (reply_frame xid w.replica.learner.last_zxid seen)
-
-abbrev pub send_reply_last : ℕ → World → ℤ → Look → StepResult World
-send_reply_last n w xid seen = send_last n w (reply_frame xid w.replica.learner.last_zxid seen)
+use Rattle.world.specs.Steps.{StepResult, prepend_outputs, no_output, and_then, fold_steps}
+use Rattle.world.specs.Sending.{to_leader, close_client, send_or_close, send_last, send_reply, send_reply_last, with_watches, with_sessions, with_pending, close_client_if_some}
+use Rattle.world.specs.Clients.{idle_connection, is_open, heard_connection, is_heard, with_connection, without_client, notices_to}
 
 -- ---- reads and watches
 
@@ -93,9 +65,6 @@ with_each_watch n w (watch ∷ others) = with_each_watch n (with_watch n w watch
 abbrev pub with_watch_if : ℕ → WatchTables → Option Watch → WatchTables
 with_watch_if n w None = w
 with_watch_if n w (Some watch) = with_watch n w watch
-
-abbrev pub with_watches : World → WatchTables → World
-with_watches w watches = record w { clients = record w.clients { watches = watches } }
 
 -- A read is answered at the present state, and leaves its watch.
 abbrev pub answer_read : ℕ → World → ℤ → Request → StepResult World
@@ -118,12 +87,6 @@ answer_add_watch n w xid (Some watch) =
 
 -- ---- sessions
 
-abbrev pub with_sessions : World → Sessions → World
-with_sessions w sessions = record w { clients = record w.clients { sessions = sessions } }
-
-abbrev pub with_pending : World → PendingTable → World
-with_pending w pending = record w { clients = record w.clients { pending = pending } }
-
 abbrev pub touched_as : World → Option ℤ → World
 touched_as w None = w
 touched_as w (Some session) = with_pending w (touch_session w.clients.pending session)
@@ -145,11 +108,6 @@ show_id n w xid packet = send_auth_result n w xid (add_auth w.clients.sessions n
 abbrev pub answer_auth : ℕ → World → ℤ → Option AuthPacket → StepResult World
 answer_auth n w xid None = send_reply n w xid (without_body BAD_ARGUMENTS)
 answer_auth n w xid (Some packet) = show_id n w xid packet
-
--- Closes the connection that has lost its session.
-abbrev pub close_client_if_some : World → Option ℕ → StepResult World
-close_client_if_some w None = no_output w
-close_client_if_some w (Some n) = close_client n w
 
 -- Sends the ConnectResponse; after a refusal the connection is closed.
 abbrev pub send_connect_response : ℕ → Bool → SessionResponse → World → StepResult World
@@ -179,13 +137,15 @@ ask_for_session n has_byte w response =
 abbrev pub is_new_session : ConnectRequest → SessionResponse → Bool
 is_new_session request response = int_eq request.session_id (pos 0) && not (int_eq response.session_id (pos 0))
 
--- A session that lives is taken up at once, which touches it; a refusal is sent at once.
+-- A new session is asked for. One that lives is taken up at once, which touches it; a refusal is sent at once.
+abbrev pub ask_or_answer : ℕ → Connecting → Connected → World → StepResult World
+ask_or_answer n asked connected w =
+    if is_new_session asked.request connected.response
+    then ask_for_session n asked.has_byte w connected.response
+    else answer_connect n asked.has_byte (touch_client n w) connected
+
 abbrev pub finish_connect : ℕ → World → Connecting → ConnectResult → StepResult World
-finish_connect n w asked c =
-    let v = with_sessions w c.after in
-    if is_new_session asked.request c.connected.response
-    then ask_for_session n asked.has_byte v c.connected.response
-    else answer_connect n asked.has_byte (touch_client n v) c.connected
+finish_connect n w asked c = ask_or_answer n asked c.connected (with_sessions w c.after)
 
 -- A client may connect where clients are served, if it hasn't seen a zxid above the last one.
 abbrev pub may_connect : Bool → World → ConnectRequest → Bool
@@ -195,13 +155,16 @@ may_connect serving w request = serving && not (int_lt w.replica.learner.last_zx
 abbrev pub is_live : ℤ → World → Bool
 is_live session w = finmap.contains_key w.replica.tree.sessions session
 
+-- What the sessions make of a connect.
+abbrev pub connect_result : ℕ → World → ConnectRequest → ConnectResult
+connect_result n w request =
+    connect_session w.clients.sessions n (is_live request.session_id w) (session_request_of request)
+
 abbrev pub handle_connect : Bool → ℕ → World → Result Connecting Fault → StepResult World
 handle_connect serving n w (Err e) = close_client n w
 handle_connect serving n w (Ok c) =
     if may_connect serving w c.request
-    then finish_connect n w c
-    (connect_session w.clients.sessions n (is_live c.request.session_id w) (session_request_of c.request))
-    else close_client n w
+    then finish_connect n w c (connect_result n w c.request) else close_client n w
 
 -- ---- requests that this server answers
 

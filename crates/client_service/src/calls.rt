@@ -1,21 +1,13 @@
 //! What a client's request does: it is answered here, held until its turn, or forwarded to the leader.
-//!
-//! Laws of `observer_core` that go over this: `Agreeing`, `Apart`, `Closing`, `GivenIds`, `Joined`, `Leaderless`,
-//! `Served`, `Taking`, `Unmoved`.
 
-ghost use Rattle.std.specs.Prelude.{◌≡◌, ◌≤◌, ◌∷◌, [], length, false, OnOk};
-ghost use Rattle.values.specs.Gains.{Puts};
-ghost use Rattle.sessions.specs.Sessions.{ids_of};
-ghost use Rattle.forwarding.specs.Pending.{is_idle, is_full, push_write, push_sync, hold_frame};
-ghost use Rattle.learner_sync.specs.Answers.{request_of};
-ghost use Rattle.client_service.specs.Serve.{with_pending, to_leader, client_frame_limit, leave_if_closing, handle_local, handle_or_hold, forward_frame, answer_auth, handle_call};
-ghost use Rattle.client_service.specs.Results.{MeetsStep};
+ghost use Rattle.std.specs.Prelude.{◌≡◌, ◌≤◌, length, false, OnOk};
+ghost use Rattle.forwarding.specs.Pending.{is_idle, is_full, hold_frame};
+ghost use Rattle.world.specs.Sending.{with_pending};
+ghost use Rattle.client_service.specs.Serve.{client_frame_limit, leave_if_closing, handle_local, handle_or_hold, forward_frame, answer_auth, handle_call};
+ghost use Rattle.world.specs.Results.{MakesStep};
 
-use crate::output::Output;
 use crate::reading::{answer_add_watch, answer_renewal, answer_request};
-use crate::sending::{answer_without_body, answer_without_body_last, send_to_leader};
 use crate::session::show_id;
-use crate::world::World;
 use client_frames::{Call, CallBody, LocalCall};
 use client_records::AuthPacket;
 use client_records::codes::{NOT_READ_ONLY, OK, PING_XID, UNIMPLEMENTED};
@@ -24,6 +16,7 @@ use jute::codes::BAD_ARGUMENTS;
 use learner_sync::request_of;
 use std::alloc::Global;
 use values::{Blob, NoMemory, Text};
+use world::{Stage, World, send_to_leader};
 
 /// Answers a request at the present state.
 ///
@@ -31,44 +24,20 @@ use values::{Blob, NoMemory, Text};
 pub fn answer_local(
     alloc: Global,
     number: u64,
-    world: &mut World,
+    stage: &mut Stage,
     xid: i32,
     call: &LocalCall<'_>,
-    outputs: &mut Vec<Output>,
 ) -> Result<(), NoMemory>
-    ensures { MeetsStep result outputs.old.items
-        (handle_local number world.old xid call.now)
-        outputs.new.items world.new }
+    ensures { MakesStep result stage.old (λ w. handle_local number w xid call.now) stage.new }
 {
     match call {
-        LocalCall::Read(asked) => answer_request(alloc, number, world, xid, asked, outputs),
-        LocalCall::SetWatches(asked) => answer_renewal(alloc, number, world, xid, asked, outputs),
-        LocalCall::AddWatch(asked) => answer_add_watch(alloc, number, world, xid, asked, outputs),
-        LocalCall::Unreadable => answer_without_body(
-            alloc,
-            number,
-            world,
-            xid,
-            BAD_ARGUMENTS,
-            outputs,
-        ),
-        LocalCall::Ping => answer_without_body(alloc, number, world, PING_XID, OK, outputs),
-        LocalCall::Refused => answer_without_body(
-            alloc,
-            number,
-            world,
-            xid,
-            NOT_READ_ONLY,
-            outputs,
-        ),
-        LocalCall::Unknown => answer_without_body_last(
-            alloc,
-            number,
-            world,
-            xid,
-            UNIMPLEMENTED,
-            outputs,
-        ),
+        LocalCall::Read(asked) => answer_request(alloc, number, stage, xid, asked),
+        LocalCall::SetWatches(asked) => answer_renewal(alloc, number, stage, xid, asked),
+        LocalCall::AddWatch(asked) => answer_add_watch(alloc, number, stage, xid, asked),
+        LocalCall::Unreadable => stage.answer_without_body(alloc, number, xid, BAD_ARGUMENTS),
+        LocalCall::Ping => stage.answer_without_body(alloc, number, PING_XID, OK),
+        LocalCall::Refused => stage.answer_without_body(alloc, number, xid, NOT_READ_ONLY),
+        LocalCall::Unknown => stage.answer_without_body_last(alloc, number, xid, UNIMPLEMENTED),
     }
 }
 
@@ -82,32 +51,24 @@ pub fn hold(alloc: Global, number: u64, world: &mut World, frame: &[u8]) -> Resu
     world.clients.pending.hold(alloc, number, frame)
 }
 
-/// Whether the connection has no request that waits.
-pub fn is_idle(number: u64, world: &World) -> bool
-    ensures { result ≡ is_idle world.now.clients.pending number }
-{
-    world.clients.pending.is_idle(number)
-}
-
 // Answers a request in its turn: it is held while an earlier one of its connection waits.
 fn answer_or_hold(
     alloc: Global,
     number: u64,
-    world: &mut World,
+    idle: bool,
+    stage: &mut Stage,
     frame: &[u8],
     xid: i32,
     call: &LocalCall<'_>,
-    outputs: &mut Vec<Output>,
 ) -> Result<(), NoMemory>
-    requires { is_full world.old.clients.pending number ≡ false }
-    ensures { MeetsStep result outputs.old.items
-        (handle_or_hold number world.old frame.now xid call.now)
-        outputs.new.items world.new }
+    requires idle { idle ≡ is_idle stage.old.after.clients.pending number }
+    requires room { is_full stage.old.after.clients.pending number ≡ false }
+    ensures { MakesStep result stage.old (λ w. handle_or_hold number w frame.now xid call.now) stage.new }
 {
-    if is_idle(number, world) {
-        return answer_local(alloc, number, world, xid, call, outputs);
+    if idle {
+        return answer_local(alloc, number, stage, xid, call);
     }
-    hold(alloc, number, world, frame)
+    hold(alloc, number, &mut stage.world, frame)
 }
 
 // Sends a frame to the leader as it came, with the ids of its connection.
@@ -115,18 +76,15 @@ fn forward(
     alloc: Global,
     number: u64,
     session: i64,
-    world: &World,
+    stage: &mut Stage,
     frame: &[u8],
-    outputs: &mut Vec<Output>,
 ) -> Result<(), NoMemory>
     requires { length frame.now ≤ client_frame_limit }
-    ensures { Puts result outputs.old.items
-        (to_leader (request_of session frame.now (ids_of world.now.clients.sessions number)) ∷ [])
-        outputs.new.items }
+    ensures { MakesStep result stage.old (λ w. forward_frame number session w frame.now w.clients.pending) stage.new }
 {
-    let ids = world.clients.sessions.ids(number);
+    let ids = stage.world.clients.sessions.ids(number);
     let request = request_of(alloc, session, frame, ids)?;
-    send_to_leader(alloc, &request, outputs)
+    send_to_leader(alloc, &request, &mut stage.outputs)
 }
 
 // After a closeSession nothing more is taken of the connection.
@@ -143,22 +101,21 @@ fn forward_write(
     alloc: Global,
     number: u64,
     session: i64,
-    world: &mut World,
+    stage: &mut Stage,
     frame: &[u8],
     xid: i32,
     kind: WriteKind,
-    outputs: &mut Vec<Output>,
 ) -> Result<(), NoMemory>
     requires fits { length frame.now ≤ client_frame_limit }
-    requires room { is_full world.old.clients.pending number ≡ false }
-    ensures { let waits = push_write world.old.clients.pending number xid kind in
-        MeetsStep result outputs.old.items
-        (forward_frame number session (leave_if_closing number kind world.old) frame.now waits)
-        outputs.new.items world.new }
+    requires room { is_full stage.old.after.clients.pending number ≡ false }
+    ensures { MakesStep result stage.old
+        (λ w. handle_call number session w frame.now xid (CallBody.Forward kind))
+        stage.new }
 {
-    leave_if_closing(number, kind, world);
-    forward(alloc, number, session, world, frame, outputs)?;
-    world.clients.pending.push_write(alloc, number, xid, kind)
+    leave_if_closing(number, kind, &mut stage.world);
+    forward(alloc, number, session, stage, frame)?;
+    let pending = &mut stage.world.clients.pending;
+    pending.push_write(alloc, number, xid, kind)
 }
 
 // Forwards a sync, which waits until the leader has done it.
@@ -166,78 +123,72 @@ fn forward_sync(
     alloc: Global,
     number: u64,
     session: i64,
-    world: &mut World,
+    stage: &mut Stage,
     frame: &[u8],
     xid: i32,
     path: &str,
-    outputs: &mut Vec<Output>,
 ) -> Result<(), NoMemory>
     requires fits { length frame.now ≤ client_frame_limit }
-    requires room { is_full world.old.clients.pending number ≡ false }
-    ensures { let waits = push_sync world.old.clients.pending number xid path.now in
-        MeetsStep result outputs.old.items
-        (forward_frame number session world.old frame.now waits)
-        outputs.new.items world.new }
+    requires room { is_full stage.old.after.clients.pending number ≡ false }
+    ensures { MakesStep result stage.old
+        (λ w. handle_call number session w frame.now xid (CallBody.Sync path.now))
+        stage.new }
 {
     let path = Text::new(alloc, path)?;
-    forward(alloc, number, session, world, frame, outputs)?;
-    world.clients.pending.push_sync(alloc, number, xid, path)
+    forward(alloc, number, session, stage, frame)?;
+    let pending = &mut stage.world.clients.pending;
+    pending.push_sync(alloc, number, xid, path)
 }
 
 // Adds an id, or says that the body can't be read.
 fn answer_auth(
     alloc: Global,
     number: u64,
-    world: &mut World,
+    stage: &mut Stage,
     xid: i32,
     packet: &Option<AuthPacket<'_>>,
-    outputs: &mut Vec<Output>,
 ) -> Result<(), NoMemory>
-    ensures { MeetsStep result outputs.old.items
-        (answer_auth number world.old xid packet.now)
-        outputs.new.items world.new }
+    ensures { MakesStep result stage.old (λ w. answer_auth number w xid packet.now) stage.new }
 {
     match packet {
-        None => answer_without_body(alloc, number, world, xid, BAD_ARGUMENTS, outputs),
-        Some(packet) => show_id(alloc, number, world, xid, packet, outputs),
+        None => stage.answer_without_body(alloc, number, xid, BAD_ARGUMENTS),
+        Some(packet) => show_id(alloc, number, stage, xid, packet),
     }
 }
 
-/// Answers, holds or forwards a request of a connection that has the session. `frame` is the frame that the request was
-/// read from.
+/// Answers, holds or forwards a request of a connection that has the session. `idle` says whether the connection has no
+/// request that waits; `frame` is the frame that the request was read from.
 ///
 /// Fails only if an allocation is refused; then a prefix of the outputs has been appended.
 pub(crate) fn answer_call(
     alloc: Global,
     number: u64,
+    idle: bool,
     session: i64,
-    world: &mut World,
+    stage: &mut Stage,
     frame: &[u8],
     call: &Call<'_>,
-    outputs: &mut Vec<Output>,
 ) -> Result<(), NoMemory>
     requires fits { length frame.now ≤ client_frame_limit }
-    requires room { is_full world.old.clients.pending number ≡ false }
-    ensures { MeetsStep result outputs.old.items
-        (handle_call number session world.old frame.now call.now.xid call.now.body)
-        outputs.new.items world.new }
+    requires idle { idle ≡ is_idle stage.old.after.clients.pending number }
+    requires room { is_full stage.old.after.clients.pending number ≡ false }
+    ensures { MakesStep result stage.old
+        (λ w. handle_call number session w frame.now call.now.xid call.now.body)
+        stage.new }
 {
     let xid = call.xid;
     match &call.body {
-        CallBody::Forward(kind) => forward_write(
-            alloc, number, session, world, frame, xid, *kind, outputs,
-        ),
+        CallBody::Forward(kind) => forward_write(alloc, number, session, stage, frame, xid, *kind),
         CallBody::Sync(path) => forward_sync(
             alloc,
             number,
             session,
-            world,
+            stage,
             frame,
             xid,
             path.as_str(),
-            outputs,
         ),
-        CallBody::Auth(packet) => answer_auth(alloc, number, world, xid, packet, outputs),
-        CallBody::Local(call) => answer_or_hold(alloc, number, world, frame, xid, call, outputs),
+        CallBody::Auth(packet) => answer_auth(alloc, number, stage, xid, packet),
+        CallBody::Local(call) => answer_or_hold(alloc, number, idle, stage, frame, xid, call),
     }
 }

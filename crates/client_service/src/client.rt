@@ -1,38 +1,33 @@
 //! What a client's bytes do: frames and four-letter words.
-//!
-//! Laws of `observer_core` that go over this: `Agreeing`, `Apart`, `Closing`, `GivenIds`, `Joined`, `Leaderless`,
-//! `Logs`, `Playing`, `Served`, `Taking`, `Unmoved`, `WholeImages`.
 
-ghost use Rattle.std.specs.Prelude.{◌≡◌, ◌≤◌, length, true, false, OnOk};
+ghost use Rattle.std.specs.Prelude.{◌≡◌, ◌≤◌, [], length, true, false, OnOk};
 ghost use Rattle.jute.specs.Stream.{items_in, place_at};
-ghost use Rattle.forwarding.specs.Pending.{is_full};
+ghost use Rattle.forwarding.specs.Pending.{is_idle, is_full};
 ghost use Rattle.read_processor.specs.Asking.{LooksAtAsks};
-ghost use Rattle.client_service.specs.Clients.{heard_connection, is_heard};
-ghost use Rattle.sessions.specs.Sessions.{session_of_connection};
-ghost use Rattle.client_service.specs.Steps.{and_then};
-ghost use Rattle.client_service.specs.Serve.{serve_as, serve_by, serve_frame, serve_all, frames_of_client, client_frame_limit, take_client_bytes, open_client, end_client};
+ghost use Rattle.world.specs.Clients.{heard_connection, is_heard};
+ghost use Rattle.client_service.specs.Serve.{serve_as, serve_frame, serve_all, frames_of_client, client_frame_limit, take_client_bytes, open_client, end_client};
 ghost use Rattle.client_frames.specs.Call.{call_in};
-ghost use Rattle.client_service.specs.Results.{MeetsStep, MeetsOwing};
-ghost use Rattle.client_service.specs.Runs.{answer_all_asked, serve_if_heard};
-ghost use Rattle.client_service.specs.Inner.{session_call, IsFirstFrame, rest_at, world_with_rest, close_if_heard, tell_if_heard};
+ghost use Rattle.client_service.specs.Runs.{MakesOwing, serve_if_heard};
+ghost use Rattle.client_service.specs.Inner.{session_call, IsFirstFrame, waiting_bytes, stage_with_rest, close_if_heard, tell_if_heard};
+ghost use Rattle.world.specs.Clients.{rest_at};
+ghost use Rattle.world.specs.Results.{MakesStep};
 
 use crate::asked::AskedRead;
 use crate::calls::answer_call;
 use crate::joining::connect_or_hold;
-use crate::output::Output;
 use crate::reading::gathered_read;
 use crate::request::{SessionCall, session_call};
-use crate::sending::close_client;
 use crate::settling::settle_reads;
 use crate::word::{tell_word, word_at};
-use crate::world::World;
 use client_frames::{Call, call_in};
 use data_tree::Tree;
+use forwarding::Occupancy;
 use four_letter::Word;
 use jute::{Reader, read_frame};
 use read_processor::{Ask, Look};
 use std::alloc::Global;
 use values::{ByteQueue, Fault, NoMemory};
+use world::{Stage, World};
 
 /// The longest frame that a client may send, in bytes.
 pub const CLIENT_FRAME_LIMIT: u32 = 1_048_575;
@@ -41,24 +36,24 @@ pub const CLIENT_FRAME_LIMIT: u32 = 1_048_575;
 const HEADER_LEN: usize = 8;
 
 // Serves a call of a session, which was read from the frame. A frame whose header can't be read closes the connection.
+// `idle` says whether the connection has no request that waits.
 fn serve_read_call(
     alloc: Global,
     number: u64,
+    idle: bool,
     session: i64,
-    world: &mut World,
+    stage: &mut Stage,
     frame: &[u8],
     read: &Result<Call<'_>, Fault>,
-    outputs: &mut Vec<Output>,
 ) -> Result<(), NoMemory>
     requires fits { length frame.now ≤ client_frame_limit }
-    requires room { is_full world.old.clients.pending number ≡ false }
-    ensures { MeetsStep result outputs.old.items
-        (serve_as number session world.old frame.now read.now)
-        outputs.new.items world.new }
+    requires idle { idle ≡ is_idle stage.old.after.clients.pending number }
+    requires room { is_full stage.old.after.clients.pending number ≡ false }
+    ensures { MakesStep result stage.old (λ w. serve_as number session w frame.now read.now) stage.new }
 {
     match read {
-        Ok(call) => answer_call(alloc, number, session, world, frame, call, outputs),
-        Err(_) => close_client(number, world, outputs),
+        Ok(call) => answer_call(alloc, number, idle, session, stage, frame, call),
+        Err(_) => stage.close_client(number),
     }
 }
 
@@ -69,18 +64,16 @@ pub fn serve_call(
     alloc: Global,
     number: u64,
     session: i64,
-    world: &mut World,
+    stage: &mut Stage,
     frame: &[u8],
-    outputs: &mut Vec<Output>,
 ) -> Result<(), NoMemory>
     requires fits { length frame.now ≤ client_frame_limit }
-    requires room { is_full world.old.clients.pending number ≡ false }
-    ensures { MeetsStep result outputs.old.items
-        (serve_as number session world.old frame.now (call_in frame.now))
-        outputs.new.items world.new }
+    requires room { is_full stage.old.after.clients.pending number ≡ false }
+    ensures { MakesStep result stage.old (λ w. serve_as number session w frame.now (call_in frame.now)) stage.new }
 {
     let read = call_in(alloc, frame)?;
-    serve_read_call(alloc, number, session, world, frame, &read, outputs)
+    let idle = stage.world.clients.pending.is_idle(number);
+    serve_read_call(alloc, number, idle, session, stage, frame, &read)
 }
 
 // Serves one frame, which asks `request` if its connection has a session, and touches the session. It is refused if it
@@ -89,97 +82,100 @@ fn serve(
     alloc: Global,
     serving: bool,
     number: u64,
-    world: &mut World,
+    stage: &mut Stage,
     frame: &[u8],
     request: &Option<SessionCall<'_>>,
-    outputs: &mut Vec<Output>,
 ) -> Result<(), NoMemory>
     requires fits { length frame.now ≤ client_frame_limit }
-    requires asks { request.now ≡ session_call number world.old frame.now }
-    ensures { MeetsStep result outputs.old.items
-        (serve_frame serving number world.old frame.now)
-        outputs.new.items world.new }
+    requires asks { request.now ≡ session_call number stage.old.after frame.now }
+    ensures { MakesStep result stage.old (λ w. serve_frame serving number w frame.now) stage.new }
 {
     if let Some(asked) = request {
-        world.clients.pending.touch(asked.session)?;
+        stage.world.clients.pending.touch(asked.session)?;
     }
-    if world.clients.pending.is_full(number) {
-        return close_client(number, world, outputs);
+    let occupancy = stage.world.clients.pending.occupancy(number);
+    if matches!(occupancy, Occupancy::Full) || frame.len() < HEADER_LEN {
+        return stage.close_client(number);
     }
-    if frame.len() < HEADER_LEN {
-        return close_client(number, world, outputs);
-    }
+    let idle = matches!(occupancy, Occupancy::Idle);
     match request {
-        None => connect_or_hold(alloc, serving, number, world, frame, outputs),
+        None => connect_or_hold(alloc, serving, number, idle, stage, frame),
         Some(asked) => serve_read_call(
             alloc,
             number,
+            idle,
             asked.session,
-            world,
+            stage,
             frame,
             &asked.read,
-            outputs,
         ),
     }
+}
+
+// Whether the connection is open and not leaving.
+fn is_heard(number: u64, stage: &Stage) -> bool
+    ensures { result ≡ is_heard number stage.now.after.clients }
+{
+    stage.world.clients.is_heard(number)
 }
 
 fn serve_if_heard(
     alloc: Global,
     serving: bool,
     number: u64,
-    world: &mut World,
+    stage: &mut Stage,
     frame: &[u8],
     request: &Option<SessionCall<'_>>,
-    outputs: &mut Vec<Output>,
 ) -> Result<(), NoMemory>
     requires fits { length frame.now ≤ client_frame_limit }
-    requires asks { is_heard number world.old.clients ≡ true
-        → request.now ≡ session_call number world.old frame.now }
-    ensures { MeetsStep result outputs.old.items
-        (serve_if_heard serving number frame.now world.old)
-        outputs.new.items world.new }
+    requires asks { is_heard number stage.old.after.clients ≡ true
+        → request.now ≡ session_call number stage.old.after frame.now }
+    ensures { MakesStep result stage.old (serve_if_heard serving number frame.now) stage.new }
 {
-    if !world.clients.is_heard(number) {
+    if !is_heard(number, stage) {
         return Ok(());
     }
-    serve(alloc, serving, number, world, frame, request, outputs)
+    serve(alloc, serving, number, stage, frame, request)
 }
 
 // Takes one frame of a connection that is heard, and reads it once. While reads are gathered, a read waits for its
 // answer if its connection has a session and no request that waits for the leader. Before any other frame is served,
-// the reads that wait are answered, which may close its connection; what was read of the frame stays.
+// the reads that wait are answered, which may close its connection; what was read of the frame stays. No frame leaves
+// bytes with its connection.
+#[tactic(auto, using(values::proofs::Gaining::gains_nothing))]
 fn take_frame<L: Fn(&Tree, &[Ask<'_>]) -> Result<Vec<Look>, NoMemory>>(
     alloc: Global,
     looker: &L,
     serving: bool,
     gathers: bool,
     number: u64,
-    world: &mut World,
+    stage: &mut Stage,
     asked: &mut Vec<AskedRead>,
     frame: &[u8],
-    outputs: &mut Vec<Output>,
 ) -> Result<(), NoMemory>
-    requires heard { is_heard number world.old.clients ≡ true }
+    requires heard { is_heard number stage.old.after.clients ≡ true }
+    requires taken { waiting_bytes number stage.old.after ≡ [] }
     requires fits { length frame.now ≤ client_frame_limit }
     requires looks { LooksAtAsks (L.pre looker.now) (L.post looker.now) }
-    ensures { MeetsOwing result outputs.old.items
-        (and_then (answer_all_asked asked.old.items world.old) (serve_if_heard serving number frame.now))
-        outputs.new.items asked.new.items world.new }
+    ensures made { MakesOwing result stage.old asked.old.items
+        (serve_if_heard serving number frame.now)
+        stage.new asked.new.items }
+    ensures taken { OnOk result (waiting_bytes number stage.new.after ≡ []) }
 {
     sessions::others_stay();
-    let request = session_call(alloc, number, world, frame)?;
+    let request = session_call(alloc, number, &stage.world, frame)?;
     if gathers {
-        if let Some(read) = gathered_read(alloc, number, world, &request)? {
+        if let Some(read) = gathered_read(alloc, number, &stage.world, &request)? {
             asked.push(read)?;
             return Ok(());
         }
     }
     if asked.is_empty() {
         // Nothing is settled first, so the connection is still heard.
-        return serve(alloc, serving, number, world, frame, &request, outputs);
+        return serve(alloc, serving, number, stage, frame, &request);
     }
-    settle_reads(alloc, looker, asked, world, outputs)?;
-    serve_if_heard(alloc, serving, number, world, frame, &request, outputs)
+    settle_reads(alloc, looker, asked, stage)?;
+    serve_if_heard(alloc, serving, number, stage, frame, &request)
 }
 
 // Returns the first frame and the bytes that it takes with its length; None while it is incomplete.
@@ -199,115 +195,112 @@ fn first_frame(bytes: &[u8]) -> Result<Option<(&[u8], usize)>, Fault>
     }
 }
 
-fn close_if_heard(number: u64, world: &mut World, outputs: &mut Vec<Output>) -> Result<(), NoMemory>
-    ensures { MeetsStep result outputs.old.items
-        (close_if_heard number world.old)
-        outputs.new.items world.new }
+fn close_if_heard(number: u64, stage: &mut Stage) -> Result<(), NoMemory>
+    ensures { MakesStep result stage.old (close_if_heard number) stage.new }
 {
-    if !world.clients.is_heard(number) {
+    if !is_heard(number, stage) {
         return Ok(());
     }
-    close_client(number, world, outputs)
+    stage.close_client(number)
 }
 
 // Replaces the waiting bytes of a connection and returns the old ones; None if it isn't open or is leaving.
-fn replace_rest(number: u64, world: &mut World, rest: ByteQueue) -> Option<ByteQueue>
-    ensures old { result ≡ rest_at (heard_connection number world.old.clients) }
-    ensures new { world.new ≡ world_with_rest number rest world.old }
+fn replace_rest(number: u64, stage: &mut Stage, rest: ByteQueue) -> Option<ByteQueue>
+    ensures old { result ≡ rest_at (heard_connection number stage.old.after.clients) }
+    ensures new { stage.new ≡ stage_with_rest number rest stage.old }
 {
-    world.clients.connections.replace_rest(number, rest)
+    stage.world.clients.connections.replace_rest(number, rest)
 }
 
 // Answers the reads that wait, and closes the connection if they haven't.
+#[tactic(auto, using(crate::proofs::Running::settled_first))]
 fn settle_and_close<L: Fn(&Tree, &[Ask<'_>]) -> Result<Vec<Look>, NoMemory>>(
     alloc: Global,
     looker: &L,
     number: u64,
-    world: &mut World,
+    stage: &mut Stage,
     asked: &mut Vec<AskedRead>,
-    outputs: &mut Vec<Output>,
 ) -> Result<(), NoMemory>
     requires { LooksAtAsks (L.pre looker.now) (L.post looker.now) }
-    ensures { MeetsOwing result outputs.old.items
-        (and_then (answer_all_asked asked.old.items world.old) (close_if_heard number))
-        outputs.new.items asked.new.items world.new }
+    ensures { MakesOwing result stage.old asked.old.items (close_if_heard number) stage.new asked.new.items }
 {
-    settle_reads(alloc, looker, asked, world, outputs)?;
-    close_if_heard(number, world, outputs)
+    settle_reads(alloc, looker, asked, stage)?;
+    close_if_heard(number, stage)
 }
 
-// Takes the complete frames while the connection is heard. The rest waits for more bytes.
+// Takes the complete frames of a connection that is heard, as long as it is. Its waiting bytes were taken out of it,
+// and what is left of them waits for more.
 fn serve_all<L: Fn(&Tree, &[Ask<'_>]) -> Result<Vec<Look>, NoMemory>>(
     alloc: Global,
     looker: &L,
     serving: bool,
     gathers: bool,
     number: u64,
-    world: &mut World,
+    stage: &mut Stage,
     asked: &mut Vec<AskedRead>,
     mut waiting: ByteQueue,
-    outputs: &mut Vec<Output>,
 ) -> Result<(), NoMemory>
-    requires { LooksAtAsks (L.pre looker.now) (L.post looker.now) }
-    ensures { MeetsOwing result outputs.old.items
-        (and_then (answer_all_asked asked.old.items world.old)
-        (λ w. serve_all serving number w (items_in frames_of_client (place_at tt waiting))))
-        outputs.new.items asked.new.items world.new }
+    requires heard { is_heard number stage.old.after.clients ≡ true }
+    requires taken { waiting_bytes number stage.old.after ≡ [] }
+    requires looks { LooksAtAsks (L.pre looker.now) (L.post looker.now) }
+    ensures { MakesOwing result stage.old asked.old.items
+        (λ w. serve_all serving number w (items_in frames_of_client (place_at tt waiting)))
+        stage.new asked.new.items }
 {
-    'frame: while world.clients.is_heard(number) {
+    'frame: loop {
         match first_frame(waiting.as_slice()) {
             Ok(Some((frame, used))) => {
-                take_frame(
-                    alloc, looker, serving, gathers, number, world, asked, frame, outputs,
-                )?;
+                take_frame(alloc, looker, serving, gathers, number, stage, asked, frame)?;
                 waiting.drop_front(used);
+                if waiting.is_empty() {
+                    return Ok(());
+                }
+                if !is_heard(number, stage) {
+                    return Ok(());
+                }
             }
             Ok(None) => {
-                replace_rest(number, world, waiting);
+                replace_rest(number, stage, waiting);
                 return Ok(());
             }
-            Err(_) => return settle_and_close(alloc, looker, number, world, asked, outputs),
+            Err(_) => return settle_and_close(alloc, looker, number, stage, asked),
         }
     }
-    Ok(())
 }
 
 fn tell_if_heard(
     alloc: Global,
     serving: bool,
     number: u64,
-    world: &mut World,
+    stage: &mut Stage,
     word: Word,
-    outputs: &mut Vec<Output>,
 ) -> Result<(), NoMemory>
-    ensures { MeetsStep result outputs.old.items
-        (tell_if_heard serving number word world.old)
-        outputs.new.items world.new }
+    ensures { MakesStep result stage.old (tell_if_heard serving number word) stage.new }
 {
-    if !world.clients.is_heard(number) {
+    if !is_heard(number, stage) {
         return Ok(());
     }
-    tell_word(alloc, serving, number, world, word, outputs)
+    tell_word(alloc, serving, number, stage, word)
 }
 
 // Answers the reads that wait, and then a four-letter word.
+#[tactic(auto, using(crate::proofs::Running::settled_first))]
 fn settle_and_tell<L: Fn(&Tree, &[Ask<'_>]) -> Result<Vec<Look>, NoMemory>>(
     alloc: Global,
     looker: &L,
     serving: bool,
     number: u64,
-    world: &mut World,
+    stage: &mut Stage,
     asked: &mut Vec<AskedRead>,
     word: Word,
-    outputs: &mut Vec<Output>,
 ) -> Result<(), NoMemory>
     requires { LooksAtAsks (L.pre looker.now) (L.post looker.now) }
-    ensures { MeetsOwing result outputs.old.items
-        (and_then (answer_all_asked asked.old.items world.old) (tell_if_heard serving number word))
-        outputs.new.items asked.new.items world.new }
+    ensures { MakesOwing result stage.old asked.old.items
+        (tell_if_heard serving number word)
+        stage.new asked.new.items }
 {
-    settle_reads(alloc, looker, asked, world, outputs)?;
-    tell_if_heard(alloc, serving, number, world, word, outputs)
+    settle_reads(alloc, looker, asked, stage)?;
+    tell_if_heard(alloc, serving, number, stage, word)
 }
 
 /// Takes a piece of a client's stream: a four-letter word, if the connection begins with one and has no session and
@@ -325,27 +318,25 @@ pub fn take_client_bytes<L: Fn(&Tree, &[Ask<'_>]) -> Result<Vec<Look>, NoMemory>
     serving: bool,
     gathers: bool,
     number: u64,
-    world: &mut World,
+    stage: &mut Stage,
     asked: &mut Vec<AskedRead>,
     bytes: &[u8],
-    outputs: &mut Vec<Output>,
 ) -> Result<(), NoMemory>
     requires { LooksAtAsks (L.pre looker.now) (L.post looker.now) }
-    ensures { MeetsOwing result outputs.old.items
-        (and_then (answer_all_asked asked.old.items world.old)
-        (λ w. take_client_bytes serving number w (heard_connection number w.clients) bytes.now))
-        outputs.new.items asked.new.items world.new }
+    ensures { MakesOwing result stage.old asked.old.items
+        (λ w. take_client_bytes serving number w (heard_connection number w.clients) bytes.now)
+        stage.new asked.new.items }
 {
     let none = ByteQueue::new(alloc);
-    let Some(mut waiting) = replace_rest(number, world, none) else {
+    let Some(mut waiting) = replace_rest(number, stage, none) else {
         return Ok(());
     };
     waiting.add(bytes)?;
     sessions::others_stay();
-    match word_at(number, world, waiting.as_slice()) {
-        Some(word) => settle_and_tell(alloc, looker, serving, number, world, asked, word, outputs),
+    match word_at(number, &stage.world, waiting.as_slice()) {
+        Some(word) => settle_and_tell(alloc, looker, serving, number, stage, asked, word),
         None => serve_all(
-            alloc, looker, serving, gathers, number, world, asked, waiting, outputs,
+            alloc, looker, serving, gathers, number, stage, asked, waiting,
         ),
     }
 }

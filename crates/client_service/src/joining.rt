@@ -1,29 +1,24 @@
 //! How a client asks for a session, and is answered.
-//!
-//! Laws of `observer_core` that go over this: `Agreeing`, `Apart`, `Closing`, `GivenIds`, `Joined`, `Leaderless`,
-//! `Served`, `Taking`, `Unmoved`.
 
-ghost use Rattle.std.specs.Prelude.{◌≡◌, ◌&&◌, None, true, false, not, pos, IfOk, OnOk};
-ghost use Rattle.std.specs.Ordering.{int_eq};
+ghost use Rattle.std.specs.Prelude.{◌≡◌, None, true, false, IfOk, OnOk};
 ghost use Rattle.std.specs.FinMap as finmap;
-ghost use Rattle.client_frames.specs.Connect.{connecting_in, session_request_of};
-ghost use Rattle.client_service.specs.Serve.{with_sessions, touch_client, send_connect_response, answer_connect, ask_for_session, finish_connect, may_connect, is_live, handle_connect, connect_or_hold};
-ghost use Rattle.sessions.specs.Sessions.{connect_session, refusal_response};
+ghost use Rattle.client_frames.specs.Connect.{connecting_in};
+ghost use Rattle.world.specs.Sending.{with_sessions};
+ghost use Rattle.client_service.specs.Serve.{send_connect_response, answer_connect, ask_for_session, is_new_session, ask_or_answer, finish_connect, may_connect, is_live, connect_result, handle_connect, connect_or_hold};
+ghost use Rattle.sessions.specs.Sessions.{refusal_response};
 ghost use Rattle.forwarding.specs.Pending.{is_idle, is_full};
-ghost use Rattle.client_service.specs.Results.{MeetsStep};
+ghost use Rattle.world.specs.Results.{MakesStep};
 
-use crate::calls::{hold, is_idle};
-use crate::output::Output;
-use crate::sending::{close_client, send_frame, send_frame_last, send_to_leader};
-use crate::session::{close_client_if_some, touch_client};
-use crate::world::World;
+use crate::calls::hold;
+use crate::session::touch_client;
 use client_frames::{Connecting, answer_to_connect, read_connecting, session_request_of};
 use client_records::ConnectRequest;
 use forwarding::PendingConnect;
 use learner_sync::session_request;
-use sessions::{Connected, PASSWORD_LEN, SessionRequest, SessionResponse};
+use sessions::{Connected, PASSWORD_LEN, SessionResponse};
 use std::alloc::Global;
 use values::{NoMemory, ReadError};
+use world::{Stage, World, send_to_leader};
 
 // A client may connect if clients are served and it hasn't seen a zxid above the last one of this replica.
 fn may_connect(serving: bool, world: &World, request: &ConnectRequest<'_>) -> bool
@@ -38,38 +33,32 @@ fn send_connect_response(
     number: u64,
     has_byte: bool,
     response: &SessionResponse,
-    world: &mut World,
-    outputs: &mut Vec<Output>,
+    stage: &mut Stage,
 ) -> Result<(), NoMemory>
-    ensures { MeetsStep result outputs.old.items
-        (send_connect_response number has_byte response.now world.old)
-        outputs.new.items world.new }
+    ensures { MakesStep result stage.old (send_connect_response number has_byte response.now) stage.new }
 {
     let frame = answer_to_connect(alloc, response, has_byte)?;
     if response.session_id == 0 {
-        return send_frame_last(number, world, Some(frame), outputs);
+        return stage.send_frame_last(number, Some(frame));
     }
-    send_frame(number, world, Some(frame), outputs)
+    stage.send_frame(number, Some(frame))
 }
 
 /// Answers a connect: closes an older connection of the session, and then sends the response.
 ///
 /// Fails only if an allocation is refused; then a prefix of the outputs has been appended.
-#[tactic(auto, using(crate::proofs::Steps::then_meets, crate::proofs::Steps::first_stops))]
+#[tactic(auto, using(world::proofs::Steps::then_meets, world::proofs::Steps::first_stops))]
 pub fn answer_connect(
     alloc: Global,
     number: u64,
     has_byte: bool,
-    world: &mut World,
+    stage: &mut Stage,
     connected: &Connected,
-    outputs: &mut Vec<Output>,
 ) -> Result<(), NoMemory>
-    ensures { MeetsStep result outputs.old.items
-        (answer_connect number has_byte world.old connected.now)
-        outputs.new.items world.new }
+    ensures { MakesStep result stage.old (λ w. answer_connect number has_byte w connected.now) stage.new }
 {
-    close_client_if_some(connected.older, world, outputs)?;
-    send_connect_response(alloc, number, has_byte, &connected.response, world, outputs)
+    stage.close_client_if_some(connected.older)?;
+    send_connect_response(alloc, number, has_byte, &connected.response, stage)
 }
 
 fn refusal_response() -> SessionResponse
@@ -87,36 +76,35 @@ fn ask_for_session(
     alloc: Global,
     number: u64,
     has_byte: bool,
-    world: &mut World,
+    stage: &mut Stage,
     response: &SessionResponse,
-    outputs: &mut Vec<Output>,
 ) -> Result<(), NoMemory>
-    requires { is_idle world.old.clients.pending number ≡ true }
-    ensures { MeetsStep result outputs.old.items
-        (ask_for_session number has_byte world.old response.now)
-        outputs.new.items world.new }
+    requires { is_idle stage.old.after.clients.pending number ≡ true }
+    ensures { MakesStep result stage.old (λ w. ask_for_session number has_byte w response.now) stage.new }
 {
     let session = response.session_id;
     let time_out = response.time_out;
-    if world.clients.pending.connecting(session).is_some() {
+    if stage.world.clients.pending.connecting(session).is_some() {
         let refusal = refusal_response();
-        return send_connect_response(alloc, number, has_byte, &refusal, world, outputs);
+        return send_connect_response(alloc, number, has_byte, &refusal, stage);
     }
     let request = session_request(alloc, session, time_out)?;
-    send_to_leader(alloc, &request, outputs)?;
+    send_to_leader(alloc, &request, &mut stage.outputs)?;
     let connect = PendingConnect {
         session,
         time_out,
         has_read_only: has_byte,
     };
-    world.clients.pending.push_connect(alloc, number, connect)
+    let pending = &mut stage.world.clients.pending;
+    pending.push_connect(alloc, number, connect)
 }
 
-// Whether the leader has a session of this id, as far as it was followed.
-fn is_live(session: i64, world: &World) -> bool
-    ensures { result ≡ is_live session world.now }
+// Whether the leader has the session that a client names, as far as it was followed.
+fn is_live(request: &ConnectRequest<'_>, world: &World) -> bool
+    ensures { result ≡ is_live request.now.session_id world.now }
 {
-    world.replica.tree().sessions().get(session).is_some()
+    let sessions = world.replica.tree().sessions();
+    sessions.get(request.session_id).is_some()
 }
 
 // Gives the connection the session that the request names, if it may have it, or names a new one.
@@ -124,71 +112,60 @@ fn connect(
     alloc: Global,
     number: u64,
     world: &mut World,
-    lives: bool,
-    request: &SessionRequest<'_>,
+    request: &ConnectRequest<'_>,
 ) -> Result<Connected, NoMemory>
     requires { finmap.get world.old.clients.sessions.connections number ≡ None }
-    ensures answer { let asked = connect_session world.old.clients.sessions number lives request.now in
-        IfOk result (λ connected. asked.connected ≡ connected) }
-    ensures after { let asked = connect_session world.old.clients.sessions number lives request.now in
-        OnOk result (world.new ≡ with_sessions world.old asked.after) }
+    ensures answer { IfOk result (λ connected. (connect_result number world.old request.now).connected ≡ connected) }
+    ensures after { OnOk result
+        (world.new ≡ with_sessions world.old (connect_result number world.old request.now).after) }
 {
-    world
-        .clients
-        .sessions
-        .connect(alloc, number, lives, request)
+    let lives = is_live(request, world);
+    let request = session_request_of(request);
+    let sessions = &mut world.clients.sessions;
+    sessions.connect(alloc, number, lives, &request)
 }
 
 // Whether the client wants a new session, and there is an id for it.
-fn is_new_session(asked: i64, response: &SessionResponse) -> bool
-    ensures { result ≡ (int_eq asked (pos 0) && not (int_eq response.now.session_id (pos 0))) }
+fn is_new_session(request: &ConnectRequest<'_>, response: &SessionResponse) -> bool
+    ensures { result ≡ is_new_session request.now response.now }
 {
-    asked == 0 && response.session_id != 0
+    request.session_id == 0 && response.session_id != 0
 }
 
-// Touches the session of a connection and answers its connect.
-fn touch_and_answer(
+// Asks the leader for the session if it is a new one, or answers the connect at once.
+fn ask_or_answer(
     alloc: Global,
     number: u64,
-    has_byte: bool,
-    world: &mut World,
+    stage: &mut Stage,
+    connecting: &Connecting<'_>,
     connected: &Connected,
-    outputs: &mut Vec<Output>,
 ) -> Result<(), NoMemory>
-    ensures { MeetsStep result outputs.old.items
-        (answer_connect number has_byte (touch_client number world.old) connected.now)
-        outputs.new.items world.new }
+    requires { is_idle stage.old.after.clients.pending number ≡ true }
+    ensures { MakesStep result stage.old (ask_or_answer number connecting.now connected.now) stage.new }
 {
-    touch_client(number, world)?;
-    answer_connect(alloc, number, has_byte, world, connected, outputs)
+    let has_byte = connecting.has_byte;
+    if is_new_session(&connecting.request, &connected.response) {
+        return ask_for_session(alloc, number, has_byte, stage, &connected.response);
+    }
+    touch_client(number, &mut stage.world)?;
+    answer_connect(alloc, number, has_byte, stage, connected)
 }
 
 // Connects a client that may connect: it waits for a new session, or is answered at once.
 fn connect_and_answer(
     alloc: Global,
     number: u64,
-    world: &mut World,
-    connecting: Connecting<'_>,
-    outputs: &mut Vec<Output>,
+    stage: &mut Stage,
+    connecting: &Connecting<'_>,
 ) -> Result<(), NoMemory>
-    requires none { finmap.get world.old.clients.sessions.connections number ≡ None }
-    requires idle { is_idle world.old.clients.pending number ≡ true }
-    ensures { let request = session_request_of connecting.entry.request in
-        let lives = is_live request.session_id world.old in
-        MeetsStep result outputs.old.items
-        (finish_connect number world.old connecting.entry
-        (connect_session world.old.clients.sessions number lives request))
-        outputs.new.items world.new }
+    requires none { finmap.get stage.old.after.clients.sessions.connections number ≡ None }
+    requires idle { is_idle stage.old.after.clients.pending number ≡ true }
+    ensures { MakesStep result stage.old
+        (λ w. finish_connect number w connecting.now (connect_result number w connecting.now.request))
+        stage.new }
 {
-    let has_byte = connecting.has_byte;
-    let asked = connecting.request.session_id;
-    let lives = is_live(asked, world);
-    let request = session_request_of(connecting.request);
-    let connected = connect(alloc, number, world, lives, &request)?;
-    if is_new_session(asked, &connected.response) {
-        return ask_for_session(alloc, number, has_byte, world, &connected.response, outputs);
-    }
-    touch_and_answer(alloc, number, has_byte, world, &connected, outputs)
+    let connected = connect(alloc, number, &mut stage.world, &connecting.request)?;
+    ask_or_answer(alloc, number, stage, connecting, &connected)
 }
 
 // Serves the first frame of a connection: asks for the session that its ConnectRequest names, or closes it.
@@ -196,48 +173,46 @@ fn handle_connect(
     alloc: Global,
     serving: bool,
     number: u64,
-    world: &mut World,
+    stage: &mut Stage,
     frame: &[u8],
-    outputs: &mut Vec<Output>,
 ) -> Result<(), NoMemory>
-    requires none { finmap.get world.old.clients.sessions.connections number ≡ None }
-    requires idle { is_idle world.old.clients.pending number ≡ true }
-    ensures { MeetsStep result outputs.old.items
-        (handle_connect serving number world.old (connecting_in frame.now))
-        outputs.new.items world.new }
+    requires none { finmap.get stage.old.after.clients.sessions.connections number ≡ None }
+    requires idle { is_idle stage.old.after.clients.pending number ≡ true }
+    ensures { MakesStep result stage.old (λ w. handle_connect serving number w (connecting_in frame.now)) stage.new }
 {
     match read_connecting(alloc, frame) {
         Ok(connecting) => {
-            if !may_connect(serving, world, &connecting.request) {
-                return close_client(number, world, outputs);
+            if !may_connect(serving, &stage.world, &connecting.request) {
+                return stage.close_client(number);
             }
-            connect_and_answer(alloc, number, world, connecting, outputs)
+            connect_and_answer(alloc, number, stage, &connecting)
         }
         Err(ReadError::NoMemory) => Err(NoMemory),
-        Err(ReadError::Fault(_)) => close_client(number, world, outputs),
+        Err(ReadError::Fault(_)) => stage.close_client(number),
     }
 }
 
 /// Serves a frame of a connection that has no session. The first is a ConnectRequest; while that waits, the frames
-/// after it are held.
+/// after it are held. `idle` says whether the connection has no request that waits.
 ///
 /// Fails only if an allocation is refused; then a prefix of the outputs has been appended.
 pub(crate) fn connect_or_hold(
     alloc: Global,
     serving: bool,
     number: u64,
-    world: &mut World,
+    idle: bool,
+    stage: &mut Stage,
     frame: &[u8],
-    outputs: &mut Vec<Output>,
 ) -> Result<(), NoMemory>
-    requires none { finmap.get world.old.clients.sessions.connections number ≡ None }
-    requires room { is_full world.old.clients.pending number ≡ false }
-    ensures { MeetsStep result outputs.old.items
-        (connect_or_hold serving number world.old frame.now)
-        outputs.new.items world.new }
+    requires none { finmap.get stage.old.after.clients.sessions.connections number ≡ None }
+    requires idle { idle ≡ is_idle stage.old.after.clients.pending number }
+    requires room { is_full stage.old.after.clients.pending number ≡ false }
+    ensures { MakesStep result stage.old
+        (λ w. connect_or_hold serving number w frame.now)
+        stage.new }
 {
-    if is_idle(number, world) {
-        return handle_connect(alloc, serving, number, world, frame, outputs);
+    if idle {
+        return handle_connect(alloc, serving, number, stage, frame);
     }
-    hold(alloc, number, world, frame)
+    hold(alloc, number, &mut stage.world, frame)
 }

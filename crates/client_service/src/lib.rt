@@ -1,8 +1,7 @@
 //! A server's work for its clients: their bytes in, frames out, and requests for the leader.
 //!
-//! A [`World`] is everything that an observer knows but the state of its leader's stream: its [`Settings`], the
-//! replica, and the [`Clients`] with their sessions and watches (specs/World). What clients do to it is defined by
-//! steps (specs/Steps), each of which gives outputs and the world after it.
+//! `world` has what the server knows, the outputs so far (a [`world::Stage`]), and the steps that send. What clients do
+//! to it is defined by such steps.
 //!
 //! A frame of a client is a step (specs/Serve), answered at the present state, and touches the session of its
 //! connection: the leader is told later whose clients were heard. The first frame of a connection asks for a session. A
@@ -11,9 +10,7 @@
 //! add an id, set watches again, write, or ask for the end of the session; after that nothing more is taken of the
 //! connection. The caller says whether clients are served; while they aren't, no client gets a session. A connection
 //! that has asked for no session yet may begin with a four-letter word in place of a frame: it is answered, whether
-//! clients are served or not, and closed. A connection's ids, watches and requests go with it in one step
-//! (specs/Clients), and its session stays the leader's. A client's bytes make a step of each frame that they complete.
-//! specs/Results states what a function returns and leaves, refused allocations included.
+//! clients are served or not, and closed. A client's bytes make a step of each frame that they complete.
 //!
 //! A write, the end of a session and a sync are forwarded to the leader, and wait; a later request of the connection is
 //! held until they are answered, so that replies come in the order of the requests. `forwarding` knows what waits, and
@@ -25,49 +22,36 @@
 //!
 //! `client_frames` reads what a frame asks; `read_processor` makes the reply to a read and its frame; `sessions` knows
 //! the session of each connection, `watch_manager` the watches, and `four_letter` the answers to words. This crate says
-//! when each is called, and what is sent. The leader is followed above this crate, and [`notify_each`] tells the
-//! watchers of a change.
+//! when each is called, and what is sent. The leader is followed above this crate.
 //!
 //! `client` cuts the bytes into frames, with `request` for what a frame asks, `joining`, `calls`, `reading` and
-//! `session` for what is done about it, `settling` for reads that wait, `word` for four-letter words, and `sending` and
-//! `notice` for what is sent. specs/Inner has the contracts of their private functions; no public contract needs it.
+//! `session` for what is done about it, `settling` for reads that wait, and `word` for four-letter words. specs/Inner
+//! has the contracts of their private functions; no public contract needs it.
 //!
 //! ```text
-//! let clients = Clients::new(alloc, &settings)?;                       // no connection, and no session yet
-//! let mut world = World { settings, replica, clients };
-//! open_client(alloc, 7, &mut world)?;                                  // connection 7 is open
+//! let mut stage = Stage::new(alloc, world);
+//! open_client(alloc, 7, &mut stage.world)?;                            // connection 7 is open
 //! // clients are served, and reads wait in `asked`
-//! take_client_bytes(alloc, &looker, true, true, 7, &mut world, &mut asked, bytes, &mut outputs)?;
-//! settle_reads(alloc, &looker, &mut asked, &mut world, &mut outputs)?; // appends Output::ToClient(7, reply)
+//! take_client_bytes(alloc, &looker, true, true, 7, &mut stage, &mut asked, bytes)?;
+//! settle_reads(alloc, &looker, &mut asked, &mut stage)?;               // appends Output::ToClient(7, reply)
 //! ```
 #![tactic(auto)]
 
 mod asked;
 mod calls;
 mod client;
-mod clients;
-mod connections;
 mod joining;
 mod law;
-mod notice;
-mod output;
 mod reading;
 mod request;
-mod sending;
 mod session;
 mod settling;
 mod word;
-mod world;
 
 pub use asked::AskedRead;
 pub use calls::answer_local;
 pub use client::{CLIENT_FRAME_LIMIT, end_client, open_client, serve_call, take_client_bytes};
-pub use clients::Clients;
 pub use joining::answer_connect;
 pub use law::runs_of_reads;
-pub use notice::notify_each;
-pub use output::Output;
-pub use sending::{close_client, send_frame, send_frame_last, send_reply, send_to_leader};
 pub use session::expire_session;
 pub use settling::settle_reads;
-pub use world::{Settings, World};

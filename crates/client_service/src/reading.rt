@@ -1,21 +1,14 @@
 //! Answers to reads and to requests for watches, and the watches that they leave.
-//!
-//! Laws of `observer_core` that go over this: `Agreeing`, `Apart`, `Closing`, `GivenIds`, `Leaderless`, `Passing`,
-//! `Taking`, `Unmoved`.
 
 ghost use Rattle.std.specs.Prelude.{◌≡◌, IfOk, IfSome, OnOk, Some};
 ghost use Rattle.read_processor.specs.Renewal.{renew_watches};
 ghost use Rattle.read_processor.specs.Watch.{watch_to_add};
-ghost use Rattle.client_service.specs.Serve.{with_watch, with_each_watch, with_watch_if, with_watches, answer_read, answer_set_watches, answer_add_watch};
-ghost use Rattle.client_service.specs.Results.{MeetsStep};
+ghost use Rattle.client_service.specs.Serve.{with_watch, with_each_watch, with_watch_if, answer_read, answer_set_watches, answer_add_watch};
 ghost use Rattle.client_service.specs.Inner.{IsReadIn};
+ghost use Rattle.world.specs.Results.{MakesStep};
 
 use crate::asked::AskedRead;
-use crate::notice::notify_all;
-use crate::output::Output;
 use crate::request::{SessionCall, readable_call};
-use crate::sending::{answer_without_body, send_reply};
-use crate::world::World;
 use client_frames::{Call, CallBody, LocalCall};
 use client_records::codes::OK;
 use client_records::{AddWatch, SetWatches};
@@ -24,6 +17,7 @@ use read_processor::{Renewal, Request, Watch, look, renew, watch_of, watch_to_ad
 use std::alloc::Global;
 use values::NoMemory;
 use watch_manager::{WatchMode, Watches};
+use world::{Stage, World, notify_all};
 
 // Sets a watch; it may be set already.
 fn set_watch(
@@ -76,15 +70,11 @@ fn set_watches(
     Ok(())
 }
 
-fn read_of_call(alloc: Global, number: u64, call: &Call<'_>) -> Result<Option<AskedRead>, NoMemory>
-    ensures number { IfOk result (λ found. IfSome found (λ read. read.number ≡ number)) }
-    ensures call { IfOk result
-        (λ found. IfSome found (λ read. call.now ≡ record { xid = read.xid; body = CallBody.Local (LocalCall.Read read.request) })) }
+fn read_of_call<'a, 'b>(call: &'b Call<'a>) -> Option<&'b Request<'a>>
+    ensures { IfSome result (λ asked. call.now.body ≡ CallBody.Local (LocalCall.Read asked.now)) }
 {
     match &call.body {
-        CallBody::Local(LocalCall::Read(request)) => Ok(Some(AskedRead::of(
-            alloc, number, call.xid, request,
-        )?)),
+        CallBody::Local(LocalCall::Read(asked)) => Some(asked),
         CallBody::Local(
             LocalCall::SetWatches(_)
             | LocalCall::AddWatch(_)
@@ -95,7 +85,7 @@ fn read_of_call(alloc: Global, number: u64, call: &Call<'_>) -> Result<Option<As
         )
         | CallBody::Forward(_)
         | CallBody::Sync(_)
-        | CallBody::Auth(_) => Ok(None),
+        | CallBody::Auth(_) => None,
     }
 }
 
@@ -112,119 +102,82 @@ pub(crate) fn gathered_read(
     let Some(call) = readable_call(request) else {
         return Ok(None);
     };
+    let Some(asked) = read_of_call(call) else {
+        return Ok(None);
+    };
     if !world.clients.pending.is_idle(number) {
         return Ok(None);
     }
-    read_of_call(alloc, number, call)
+    Ok(Some(AskedRead::of(alloc, number, call.xid, asked)?))
 }
 
 /// Answers a read at the present state, and leaves its watch.
-///
-/// Fails only if an allocation is refused; then a prefix of the outputs has been appended.
 pub(crate) fn answer_request(
     alloc: Global,
     number: u64,
-    world: &mut World,
+    stage: &mut Stage,
     xid: i32,
     asked: &Request<'_>,
-    outputs: &mut Vec<Output>,
 ) -> Result<(), NoMemory>
-    ensures { MeetsStep result outputs.old.items
-        (answer_read number world.old xid asked.now)
-        outputs.new.items world.new }
+    ensures { MakesStep result stage.old (λ w. answer_read number w xid asked.now) stage.new }
 {
-    let ids = world.clients.sessions.ids(number);
-    let seen = look(alloc, world.replica.tree(), ids, asked)?;
+    let ids = stage.world.clients.sessions.ids(number);
+    let seen = look(alloc, stage.world.replica.tree(), ids, asked)?;
     let watch = watch_of(asked, seen.error);
-    set_watch_if(alloc, number, &mut world.clients.watches, &watch)?;
-    send_reply(number, world, xid, seen, outputs)
+    set_watch_if(alloc, number, &mut stage.world.clients.watches, &watch)?;
+    stage.send_reply(number, xid, seen)
 }
 
-fn watch_each(
-    alloc: Global,
-    number: u64,
-    world: &mut World,
-    asked: &[Watch<'_>],
-) -> Result<(), NoMemory>
-    ensures { let watches = world.old.clients.watches in
-        OnOk result (world.new ≡ with_watches world.old (with_each_watch number watches asked.now)) }
-{
-    set_watches(alloc, number, &mut world.clients.watches, asked)
-}
-
-// Sends the events that the client missed, and sets its watches again.
-#[tactic(auto, using(crate::proofs::Steps::behind_meets, values::proofs::Gaining::gains_first))]
+// Sets a client's watches again, and sends it the events that it missed and then the reply.
+#[tactic(auto, using(world::proofs::Steps::behind_meets, values::proofs::Gaining::gains_first))]
 fn answer_missed(
     alloc: Global,
     number: u64,
-    world: &mut World,
+    stage: &mut Stage,
     xid: i32,
     missed: &Renewal<'_>,
-    outputs: &mut Vec<Output>,
 ) -> Result<(), NoMemory>
-    ensures { MeetsStep result outputs.old.items
-        (answer_set_watches number world.old xid (Some missed.now))
-        outputs.new.items world.new }
+    ensures { MakesStep result stage.old (λ w. answer_set_watches number w xid (Some missed.now)) stage.new }
 {
-    watch_each(alloc, number, world, missed.watches.as_slice())?;
-    notify_all(alloc, number, missed.events.as_slice(), outputs)?;
-    answer_without_body(alloc, number, world, xid, OK, outputs)
+    let watches = &mut stage.world.clients.watches;
+    set_watches(alloc, number, watches, missed.watches.as_slice())?;
+    notify_all(alloc, number, missed.events.as_slice(), &mut stage.outputs)?;
+    stage.answer_without_body(alloc, number, xid, OK)
 }
 
 /// Answers a SetWatches of a client that has reconnected: first the events that it missed, then the reply.
-///
-/// Fails only if an allocation is refused; then a prefix of the outputs has been appended.
 pub(crate) fn answer_renewal(
     alloc: Global,
     number: u64,
-    world: &mut World,
+    stage: &mut Stage,
     xid: i32,
     asked: &SetWatches<'_>,
-    outputs: &mut Vec<Output>,
 ) -> Result<(), NoMemory>
-    ensures { MeetsStep result outputs.old.items
-        (answer_set_watches number world.old xid (renew_watches world.old.replica.tree asked.now))
-        outputs.new.items world.new }
+    ensures { MakesStep result stage.old
+        (λ w. answer_set_watches number w xid (renew_watches w.replica.tree asked.now))
+        stage.new }
 {
-    match renew(alloc, world.replica.tree(), asked)? {
-        None => answer_without_body(alloc, number, world, xid, BAD_ARGUMENTS, outputs),
-        Some(missed) => answer_missed(alloc, number, world, xid, &missed, outputs),
+    match renew(alloc, stage.world.replica.tree(), asked)? {
+        None => stage.answer_without_body(alloc, number, xid, BAD_ARGUMENTS),
+        Some(missed) => answer_missed(alloc, number, stage, xid, &missed),
     }
 }
 
-fn watch_and_answer(
-    alloc: Global,
-    number: u64,
-    world: &mut World,
-    xid: i32,
-    watch: &Watch<'_>,
-    outputs: &mut Vec<Output>,
-) -> Result<(), NoMemory>
-    ensures { MeetsStep result outputs.old.items
-        (answer_add_watch number world.old xid (Some watch.now))
-        outputs.new.items world.new }
-{
-    set_watch(alloc, number, &mut world.clients.watches, watch)?;
-    answer_without_body(alloc, number, world, xid, OK, outputs)
-}
-
 /// Answers an addWatch: the watch is set, whether or not there is a node.
-///
-/// Fails only if an allocation is refused; then a prefix of the outputs has been appended.
 pub(crate) fn answer_add_watch(
     alloc: Global,
     number: u64,
-    world: &mut World,
+    stage: &mut Stage,
     xid: i32,
     asked: &AddWatch<'_>,
-    outputs: &mut Vec<Output>,
 ) -> Result<(), NoMemory>
-    ensures { MeetsStep result outputs.old.items
-        (answer_add_watch number world.old xid (watch_to_add asked.now))
-        outputs.new.items world.new }
+    ensures { MakesStep result stage.old (λ w. answer_add_watch number w xid (watch_to_add asked.now)) stage.new }
 {
     match watch_to_add(asked) {
-        None => answer_without_body(alloc, number, world, xid, BAD_ARGUMENTS, outputs),
-        Some(watch) => watch_and_answer(alloc, number, world, xid, &watch, outputs),
+        None => stage.answer_without_body(alloc, number, xid, BAD_ARGUMENTS),
+        Some(watch) => {
+            set_watch(alloc, number, &mut stage.world.clients.watches, &watch)?;
+            stage.answer_without_body(alloc, number, xid, OK)
+        }
     }
 }

@@ -3,10 +3,10 @@
 ghost use Rattle.std.specs.Prelude.{◌≡◌, Ok, Some, IfOk, IfSome};
 ghost use Rattle.client_service.specs.Inner.{session_call, read_of_session};
 
-use crate::world::World;
 use client_frames::{Call, call_in};
 use std::alloc::Global;
 use values::{Fault, NoMemory};
+use world::World;
 
 /// What a frame asks in the session of its connection.
 #[derive(Drop)]

@@ -1,21 +1,15 @@
 //! The ids and the session of a connection, and what is done when the session ends.
-//!
-//! Laws of `observer_core` that go over this: `Agreeing`, `Apart`, `Closing`, `GivenIds`, `Joined`, `Leaderless`,
-//! `Logs`, `Served`, `Taking`, `Unmoved`, `WholeImages`.
 
 ghost use Rattle.std.specs.Prelude.{◌≡◌, OnOk};
-ghost use Rattle.client_service.specs.Serve.{with_sessions, touch_client, show_id, close_client_if_some, expire_session};
-ghost use Rattle.sessions.specs.Sessions.{expire_owner};
-ghost use Rattle.client_service.specs.Results.{MeetsStep};
+ghost use Rattle.client_service.specs.Serve.{touch_client, show_id, expire_session};
+ghost use Rattle.world.specs.Results.{MakesStep};
 
-use crate::output::Output;
-use crate::sending::{close_client, send_frame, send_frame_last};
-use crate::world::World;
 use client_records::AuthPacket;
 use client_records::codes::{AUTH_FAILED, OK};
 use read_processor::Look;
 use std::alloc::Global;
 use values::{Bytes, NoMemory, Str};
+use world::{Stage, World};
 
 // The reply to an auth packet has 0 in place of a zxid.
 const AUTH_REPLY_ZXID: i64 = 0;
@@ -35,71 +29,30 @@ pub(crate) fn touch_client(number: u64, world: &mut World) -> Result<(), NoMemor
 pub(crate) fn show_id(
     alloc: Global,
     number: u64,
-    world: &mut World,
+    stage: &mut Stage,
     xid: i32,
     packet: &AuthPacket<'_>,
-    outputs: &mut Vec<Output>,
 ) -> Result<(), NoMemory>
-    ensures { MeetsStep result outputs.old.items
-        (show_id number world.old xid packet.now)
-        outputs.new.items world.new }
+    ensures { MakesStep result stage.old (λ w. show_id number w xid packet.now) stage.new }
 {
     let scheme = packet.scheme.as_ref().map(Str::as_str);
     let bytes = packet.auth.as_ref().map(Bytes::as_slice);
-    if world.clients.sessions.auth(alloc, number, scheme, bytes)? {
+    let sessions = &mut stage.world.clients.sessions;
+    if sessions.auth(alloc, number, scheme, bytes)? {
         let seen = Look::without_body(alloc, OK)?;
-        send_frame(
-            number,
-            world,
-            seen.into_frame(xid, AUTH_REPLY_ZXID),
-            outputs,
-        )
+        stage.send_frame(number, seen.into_frame(xid, AUTH_REPLY_ZXID))
     } else {
         let seen = Look::without_body(alloc, AUTH_FAILED)?;
-        send_frame_last(
-            number,
-            world,
-            seen.into_frame(xid, AUTH_REPLY_ZXID),
-            outputs,
-        )
+        stage.send_frame_last(number, seen.into_frame(xid, AUTH_REPLY_ZXID))
     }
-}
-
-/// Closes a connection that has lost its session; does nothing for None.
-pub(crate) fn close_client_if_some(
-    left: Option<u64>,
-    world: &mut World,
-    outputs: &mut Vec<Output>,
-) -> Result<(), NoMemory>
-    ensures { MeetsStep result outputs.old.items
-        (close_client_if_some world.old left)
-        outputs.new.items world.new }
-{
-    match left {
-        None => return Ok(()),
-        Some(number) => close_client(number, world, outputs),
-    }
-}
-
-// Takes a session from its connection, which is returned for the caller to close.
-fn expire(session: &i64, world: &mut World) -> Option<u64>
-    ensures left { result ≡ (expire_owner world.old.clients.sessions session.now).closed }
-    ensures ended { let ended = expire_owner world.old.clients.sessions session.now in
-        world.new ≡ with_sessions world.old ended.after }
-{
-    world.clients.sessions.expire(*session)
 }
 
 /// Closes the connection of a session that has ended. An id that no connection has as its session is ignored.
-pub fn expire_session(
-    session: &i64,
-    world: &mut World,
-    outputs: &mut Vec<Output>,
-) -> Result<(), NoMemory>
-    ensures { MeetsStep result outputs.old.items
-        (expire_session world.old session.now)
-        outputs.new.items world.new }
+///
+/// Fails only if an allocation is refused; then a prefix of the outputs has been appended.
+pub fn expire_session(session: &i64, stage: &mut Stage) -> Result<(), NoMemory>
+    ensures { MakesStep result stage.old (λ w. expire_session w session.now) stage.new }
 {
-    let left = expire(session, world);
-    close_client_if_some(left, world, outputs)
+    let left = stage.world.clients.sessions.expire(*session);
+    stage.close_client_if_some(left)
 }

@@ -1,24 +1,19 @@
 //! How the reads that wait are answered.
-//!
-//! Laws of `observer_core` that go over this: `Agreeing`, `Apart`, `Closing`, `GivenIds`, `Leaderless`, `Passing`,
-//! `Taking`, `Unmoved`.
 
 ghost use Rattle.std.specs.Prelude.{◌≡◌, [], map, IfOk, OnOk};
 ghost use Rattle.read_processor.specs.Asking.{looks_at, LooksAtAsks};
-ghost use Rattle.client_service.specs.Results.{MeetsStep};
 ghost use Rattle.client_service.specs.Runs.{look_asked, show_asked, show_all_asked, answer_all_asked};
+ghost use Rattle.world.specs.Results.{MakesStep};
 
 use crate::asked::AskedRead;
 use crate::law::runs_of_reads;
-use crate::output::Output;
 use crate::reading::set_watch_if;
-use crate::sending::send_reply;
 use crate::session::touch_client;
-use crate::world::World;
 use data_tree::Tree;
 use read_processor::{Ask, Look, watch_of};
 use std::alloc::Global;
 use values::NoMemory;
+use world::{Stage, World};
 
 // The asks of the reads, each with the ids of its connection.
 fn asks_of<'a>(
@@ -52,45 +47,34 @@ fn looks_of<L: Fn(&Tree, &[Ask<'_>]) -> Result<Vec<Look>, NoMemory>>(
 }
 
 // Leaves the watch of a read and sends its reply, if its connection is open. The session is touched.
-fn show(
-    alloc: Global,
-    world: &mut World,
-    read: &AskedRead,
-    seen: Look,
-    outputs: &mut Vec<Output>,
-) -> Result<(), NoMemory>
-    ensures { MeetsStep result outputs.old.items
-        (show_asked world.old read.now seen)
-        outputs.new.items world.new }
+fn show(alloc: Global, stage: &mut Stage, read: &AskedRead, seen: Look) -> Result<(), NoMemory>
+    ensures { MakesStep result stage.old (λ w. show_asked w read.now seen) stage.new }
 {
     let number = read.number();
-    if !world.clients.is_open(number) {
+    if !stage.world.clients.is_open(number) {
         return Ok(());
     }
-    touch_client(number, world)?;
+    touch_client(number, &mut stage.world)?;
     let request = read.lend();
     let watch = watch_of(&request, seen.error);
-    set_watch_if(alloc, number, &mut world.clients.watches, &watch)?;
-    send_reply(number, world, read.xid(), seen, outputs)
+    set_watch_if(alloc, number, &mut stage.world.clients.watches, &watch)?;
+    stage.send_reply(number, read.xid(), seen)
 }
 
 fn show_each(
     alloc: Global,
-    world: &mut World,
+    stage: &mut Stage,
     asked: &[AskedRead],
     looks: Vec<Look>,
-    outputs: &mut Vec<Output>,
 ) -> Result<(), NoMemory>
-    ensures { MeetsStep result outputs.old.items
-        (show_all_asked asked.now looks.items world.old)
-        outputs.new.items world.new }
+    ensures { MakesStep result stage.old (show_all_asked asked.now looks.items) stage.new }
 {
     let mut looks = looks.into_iter();
     for read in asked {
         let Some(seen) = looks.next() else {
             return Ok(());
         };
-        show(alloc, world, read, seen, outputs)?;
+        show(alloc, stage, read, seen)?;
     }
     Ok(())
 }
@@ -99,21 +83,15 @@ fn show_each(
 fn answer_all<L: Fn(&Tree, &[Ask<'_>]) -> Result<Vec<Look>, NoMemory>>(
     alloc: Global,
     looker: &L,
-    asked: &mut Vec<AskedRead>,
-    world: &mut World,
-    outputs: &mut Vec<Output>,
+    asked: &[AskedRead],
+    stage: &mut Stage,
 ) -> Result<(), NoMemory>
     requires { LooksAtAsks (L.pre looker.now) (L.post looker.now) }
-    ensures answered { MeetsStep result outputs.old.items
-        (answer_all_asked asked.old.items world.old)
-        outputs.new.items world.new }
-    ensures none_left { OnOk result (asked.new.items ≡ []) }
+    ensures { MakesStep result stage.old (answer_all_asked asked.now) stage.new }
 {
     runs_of_reads();
-    let looks = looks_of(alloc, looker, world, asked.as_slice())?;
-    show_each(alloc, world, asked.as_slice(), looks, outputs)?;
-    asked.clear();
-    Ok(())
+    let looks = looks_of(alloc, looker, &stage.world, asked)?;
+    show_each(alloc, stage, asked, looks)
 }
 
 /// Answers the reads that wait, in the order in which they were asked, by one call of `looker`. A read of a connection
@@ -124,17 +102,16 @@ pub fn settle_reads<L: Fn(&Tree, &[Ask<'_>]) -> Result<Vec<Look>, NoMemory>>(
     alloc: Global,
     looker: &L,
     asked: &mut Vec<AskedRead>,
-    world: &mut World,
-    outputs: &mut Vec<Output>,
+    stage: &mut Stage,
 ) -> Result<(), NoMemory>
     requires { LooksAtAsks (L.pre looker.now) (L.post looker.now) }
-    ensures answered { MeetsStep result outputs.old.items
-        (answer_all_asked asked.old.items world.old)
-        outputs.new.items world.new }
+    ensures answered { MakesStep result stage.old (answer_all_asked asked.old.items) stage.new }
     ensures none_left { OnOk result (asked.new.items ≡ []) }
 {
     if asked.is_empty() {
         return Ok(());
     }
-    answer_all(alloc, looker, asked, world, outputs)
+    answer_all(alloc, looker, asked.as_slice(), stage)?;
+    asked.clear();
+    Ok(())
 }

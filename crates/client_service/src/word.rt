@@ -1,24 +1,18 @@
 //! Four-letter words: a client may send one before it asks for a session.
-//!
-//! Laws of `observer_core` that go over this: `Agreeing`, `Apart`, `GivenIds`, `Leaderless`, `Playing`, `Served`,
-//! `Unmoved`, `Words`.
 
-ghost use Rattle.std.specs.Prelude.{◌≡◌, ◌<◌, IfOk, IfSome, IfNone, true, map, take, length};
+ghost use Rattle.std.specs.Prelude.{◌≡◌, ◌<◌, IfOk, IfSome, IfNone, true, take, length};
 ghost use Rattle.watch_manager.specs.Counts.{watch_count, counts_of};
 ghost use Rattle.four_letter.specs.Words.{needs_watches, needs_counts};
 ghost use Rattle.four_letter.specs.Texts.{reply_text};
 ghost use Rattle.client_service.specs.Serve.{watch_row_of, watch_rows, figures_with, figures_of, tell_word, word_at};
-ghost use Rattle.client_service.specs.Results.{MeetsStep};
+ghost use Rattle.world.specs.Results.{MakesStep};
 
-use crate::clients::Clients;
-use crate::output::Output;
-use crate::sending::send_frame_last;
-use crate::world::World;
 use four_letter::{Figures, WatchRow, Word, answer};
 use sessions::Sessions;
 use std::alloc::Global;
 use values::{Blob, Listed, NoMemory};
 use watch_manager::{WatchCounts, Watched};
+use world::{Clients, Stage, World};
 
 fn first_four(bytes: &[u8]) -> Option<[u8; 4]>
     ensures some { IfSome result (λ four. four ≡ take 4 bytes.now) }
@@ -35,15 +29,15 @@ fn first_four(bytes: &[u8]) -> Option<[u8; 4]>
 pub(crate) fn word_at(number: u64, world: &World, bytes: &[u8]) -> Option<Word>
     ensures { result ≡ word_at number world.now bytes.now }
 {
-    if !world.clients.pending.is_idle(number) {
-        return None;
-    }
     let Some(letters) = first_four(bytes) else {
         return None;
     };
     let Some(word) = Word::from_bytes(letters) else {
         return None;
     };
+    if !world.clients.pending.is_idle(number) {
+        return None;
+    }
     match world.clients.sessions.session(number) {
         None => Some(word),
         Some(_) => None,
@@ -79,27 +73,27 @@ fn watch_rows(alloc: Global, clients: &Clients) -> Result<Vec<WatchRow<'_>>, NoM
 }
 
 // The watches if the word's answer lists them, otherwise none: clients may have set very many.
-fn rows_for(alloc: Global, word: Word, clients: &Clients) -> Result<Vec<WatchRow<'_>>, NoMemory>
-    ensures { IfOk result (λ rows. needs_watches word ≡ true → rows.items ≡ watch_rows clients.now) }
+fn rows_for(alloc: Global, word: Word, world: &World) -> Result<Vec<WatchRow<'_>>, NoMemory>
+    ensures { IfOk result (λ rows. needs_watches word ≡ true → rows.items ≡ watch_rows world.now.clients) }
 {
     if !word.needs_watches() {
         return Ok(Vec::new(alloc));
     }
-    watch_rows(alloc, clients)
+    watch_rows(alloc, &world.clients)
 }
 
 // The number of watches, and those of paths and of connections if the word's answer needs them: they aren't kept.
-fn counts_for(word: Word, clients: &Clients) -> WatchCounts
-    ensures watches { result.watches ≡ watch_count clients.now.watches }
-    ensures all { needs_counts word ≡ true → result ≡ counts_of clients.now.watches }
+fn counts_for(word: Word, world: &World) -> WatchCounts
+    ensures watches { result.watches ≡ watch_count world.now.clients.watches }
+    ensures all { needs_counts word ≡ true → result ≡ counts_of world.now.clients.watches }
 {
     if word.needs_counts() {
-        return clients.watches.counts();
+        return world.clients.watches.counts();
     }
     WatchCounts {
         connections: 0,
         paths: 0,
-        watches: clients.watches.count(),
+        watches: world.clients.watches.count(),
     }
 }
 
@@ -124,32 +118,40 @@ fn figures_with<'a>(
     }
 }
 
+// The figures, but for those that the word's answer doesn't tell.
+fn figures_for(
+    alloc: Global,
+    serving: bool,
+    world: &World,
+    word: Word,
+) -> Result<Figures<'_>, NoMemory>
+    ensures { IfOk result
+        (λ figures. reply_text word figures ≡ reply_text word (figures_of serving world.now)) }
+{
+    let rows = rows_for(alloc, word, world)?;
+    let watched = counts_for(word, world);
+    Ok(figures_with(serving, world, watched, rows))
+}
+
 fn answer_of(alloc: Global, serving: bool, world: &World, word: Word) -> Result<Blob, NoMemory>
     ensures { IfOk result (λ bytes. bytes ≡ reply_text word (figures_of serving world.now)) }
 {
-    let rows = rows_for(alloc, word, &world.clients)?;
-    let watched = counts_for(word, &world.clients);
-    let figures = figures_with(serving, world, watched, rows);
+    let figures = figures_for(alloc, serving, world, word)?;
     let mut bytes = Vec::new(alloc);
     answer(word.letters(), &figures, &mut bytes)?;
     Ok(Blob::from_vec(bytes))
 }
 
 /// Answers a four-letter word and closes the connection.
-///
-/// Fails only if an allocation is refused; then a prefix of the outputs has been appended.
 pub(crate) fn tell_word(
     alloc: Global,
     serving: bool,
     number: u64,
-    world: &mut World,
+    stage: &mut Stage,
     word: Word,
-    outputs: &mut Vec<Output>,
 ) -> Result<(), NoMemory>
-    ensures { MeetsStep result outputs.old.items
-        (tell_word serving number world.old word)
-        outputs.new.items world.new }
+    ensures { MakesStep result stage.old (λ w. tell_word serving number w word) stage.new }
 {
-    let bytes = answer_of(alloc, serving, world, word)?;
-    send_frame_last(number, world, Some(bytes), outputs)
+    let bytes = answer_of(alloc, serving, &stage.world, word)?;
+    stage.send_frame_last(number, Some(bytes))
 }

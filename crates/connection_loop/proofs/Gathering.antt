@@ -1,6 +1,6 @@
 -- Outputs that are gathered one after the other.
 use Rattle.std.proofs.Common.{◌≡◌, ◌≢◌, ◌++◌, ◌∷◌, [], List, Bool, true, length, refl, sym, ap, ◌∙◌, arith, append_assoc}
-use Rattle.client_service.specs.declared.output.Output.{Output}
+use Rattle.world.specs.declared.output.Output.{Output}
 use Rattle.intake.specs.declared.port.PortEnd.{PortEnd}
 use Rattle.intake.specs.Ports.{sent_through, received_through, SamePort}
 use Rattle.connection_loop.specs.Outgoing.{Unwritten, with_output, with_outputs, HasGathered}

@@ -1,7 +1,6 @@
 -- Requests, syncs and waiting connects agree after each step.
-use Rattle.std.proofs.Common.{◌≡◌, ◌≢◌, ◌⊎◌, inl, inr, ℕ, suc, ◌<◌, ℤ, Bool, true, false, cond, not, List, [], ◌∷◌, ◌++◌, length, map, drop, Option, Some, None, refl, sym, ap, subst, ◌∙◌}
+use Rattle.std.proofs.Common.{◌≡◌, ◌≢◌, ◌⊎◌, inl, inr, ℕ, suc, ◌<◌, ℤ, Bool, true, false, cond, not, List, [], ◌∷◌, ◌++◌, length, map, Option, Some, None, refl, sym, ap, subst, ◌∙◌}
 use Rattle.std.specs.Prelude.{nat_lt, is_some}
-use Rattle.std.specs.List.{list_any}
 use Rattle.std.specs.Ordering.{eq_by_cmp, nat_cmp, int_cmp}
 use Rattle.std.specs.Cmp.{nat_cmp_total, int_cmp_total}
 use Rattle.std.proofs.lemmas.Bool.{ltb-true}
@@ -15,7 +14,7 @@ use Rattle.forwarding.specs.declared.request.Ready.TheVariants.{SettledSync}
 use Rattle.forwarding.specs.declared.request.Settled.TheVariants.{Of}
 use Rattle.forwarding.specs.Queue.{RequestQueue, pending_limit, oldest_write, is_answered, without_oldest_write, after_answer, is_unsettled, unsettled_count, with_oldest_settled, ready_request, without_front_if, waiting_connect}
 use Rattle.forwarding.specs.State.{RequestQueues, TouchedSessions, PendingTable}
-use Rattle.forwarding.specs.Pending.{nothing_pending, queue_in, queue_of, put_queue, is_idle, is_full, push_request, push_connect, push_sync, unsettled_sync, settle_first, without_connect, take_connect_as, connecting_to, without_owner, drop_connection, take_touched}
+use Rattle.forwarding.specs.Pending.{nothing_pending, queue_in, queue_of, put_queue, is_idle, is_full, push_request, push_connect, push_sync, unsettled_sync, remove_write, settle_first, without_connect, take_connect_as, connecting_to, without_owner, drop_connection, take_touched}
 use Rattle.forwarding.specs.Agreement.{is_connect, is_settled, places_of, QueueAgrees, PendingAgrees}
 use Rattle.forwarding.specs.Laws.{Stays, PendingAgreementIsKept}
 use Rattle.std.proofs.lemmas.Option.{none-some}
@@ -223,15 +222,20 @@ puts s n q a here same =
     (subst (λ x. QueueAgrees (places_of n s.syncs) x) (sym (queue_put s.queues n q)) here)
     (λ m differ. put_leaves s n q m differ) (ap waiting_connect (queue_put s.queues n q) ∙ same) refl
 
+-- The oldest write leaves.
+pub removes : (s : PendingTable) (n : ℕ) → PendingAgrees s → PendingAgrees (remove_write s n)
+removes s n a =
+    puts s n (without_oldest_write (queue_of s n)) a
+    (answered_agrees (places_of n s.syncs) (queue_of s n) (a.queues n))
+    (connect_answered (queue_of s n) (a.queues n).connect_first)
+
 answers : (s : PendingTable) (n : ℕ) (xid txn_kind : ℤ) → PendingAgrees s
     → PendingAgrees (put_queue s n (after_answer (queue_of s n) xid txn_kind))
 answers s n xid txn_kind a =
     let q = queue_of s n in
     elim (is_answered (oldest_write (queue_of s n)) xid txn_kind) as (λ b. PendingAgrees
     (put_queue s n (cond b (without_oldest_write (queue_of s n)) (queue_of s n)))) [
-      | true ↦ puts s n (without_oldest_write (queue_of s n)) a
-          (answered_agrees (places_of n s.syncs) (queue_of s n) (a.queues n))
-          (connect_answered (queue_of s n) (a.queues n).connect_first)
+      | true ↦ removes s n a
       | false ↦ puts s n (queue_of s n) a (a.queues n) refl
     ]
 

@@ -8,7 +8,7 @@ use Rattle.std.proofs.lemmas.Bool.{eqb-true, eq-eqb, ne_eqb}
 use Rattle.std.proofs.lemmas.Map.Lookups.{exact_unsigned, CmpEqualImpliesEq}
 use Rattle.std.specs.FinMap as finmap
 use Rattle.forwarding.specs.Queue.{RequestQueue}
-use Rattle.forwarding.specs.State.{RequestQueues, PendingTable}
+use Rattle.forwarding.specs.State.{PendingTable}
 use Rattle.forwarding.specs.Pending.{queue_in, queue_of, has_no_request}
 use Rattle.forwarding.specs.Agreement.{PendingAgrees}
 use Rattle.forwarding.specs.Laws.{EmptinessIsTold}

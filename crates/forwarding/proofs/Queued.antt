@@ -1,13 +1,14 @@
 -- The requests of one connection: where the first that passes a test stands, and what a change there does.
-use Rattle.std.proofs.Common.{◌≡◌, ℕ, zero, suc, ◌+◌, ◌<◌, ◌≤◌, Bool, true, false, cond, not, [], ◌∷◌, length, get_or, slice_set, Some, None, refl, sym, ap, ◌∙◌, arith, ◌||◌}
-use Rattle.std.specs.Prelude.{nat_lt}
+use Rattle.std.proofs.Common.{◌≡◌, ℕ, ℤ, zero, suc, ◌+◌, ◌<◌, ◌≤◌, Bool, true, false, cond, not, [], ◌∷◌, length, get_or, slice_set, Option, Some, None, refl, sym, ap, ◌∙◌, arith, ◌||◌}
+use Rattle.std.specs.Prelude.{nat_lt, is_some, IfSome}
 use Rattle.std.specs.List.{position, position_or_len, list_any, remove}
 use Rattle.std.proofs.lemmas.List.Quantifiers.{position-Some}
 use Rattle.std.proofs.lemmas.Bool.{ltb-false}
 use Rattle.forwarding.specs.declared.request.PendingWrite.{PendingWrite}
+use Rattle.forwarding.specs.declared.request.AnsweredWrite.{AnsweredWrite}
 use Rattle.forwarding.specs.declared.request.PendingRequest.{PendingRequest}
 use Rattle.forwarding.specs.declared.request.PendingRequest.TheVariants.{Connect, Write, Sync, Held}
-use Rattle.forwarding.specs.Queue.{RequestQueue, is_write, oldest_write, without_oldest_write, is_close, oldest_close, is_unsettled, settled_request, with_oldest_settled}
+use Rattle.forwarding.specs.Queue.{RequestQueue, is_write, oldest_write, write_place, without_oldest_write, is_answered, kind_in, at_place, found_write, OldestWriteIsAt, after_answer, is_close, oldest_close, is_unsettled, settled_request, with_oldest_settled}
 use Rattle.forwarding.specs.Inner.{as_write, is_close_request, IsOldestWrite}
 
 -- The request at this place is the first that passes.
@@ -87,29 +88,78 @@ written_as (Write v) w e = cc
 written_as (Sync s) w e = cc
 written_as (Held f) w e = cc
 
+-- The oldest write of the rest is that of the whole, a place later.
+one_later : (r : PendingRequest) (rest : RequestQueue) (place : ℕ) (w : PendingWrite) → suc place < length (r ∷ rest)
+    → write_place (r ∷ rest) ≡ suc (write_place rest) → oldest_write (r ∷ rest) ≡ oldest_write rest
+    → without_oldest_write (r ∷ rest) ≡ r ∷ without_oldest_write rest
+    → IsOldestWrite rest place w → IsOldestWrite (r ∷ rest) (suc place) w
+one_later r rest place w within at is without h = record {
+  within = within;
+  at = ap suc h.at ∙ sym at;
+  is = is ∙ h.is;
+  rest = ap (λ q. r ∷ q) h.rest ∙ sym without;
+}
+
 written : (q : RequestQueue) (place : ℕ) (w : PendingWrite) → IsFirst is_write q place (Write w)
-    → (oldest_write q ≡ Some w) × (remove q place ≡ without_oldest_write q)
+    → IsOldestWrite q place w
 written [] place w h = nowhere is_write place (Write w) h
 written (Connect c ∷ rest) zero w h = true-false (sym (ap is_write h.at))
-written (Write v ∷ rest) zero w h = (ap oldest_write (λ i. h.at i ∷ rest), refl)
+written (Write v ∷ rest) zero w h =
+    record { within = h.within; at = refl; is = ap oldest_write (λ i. h.at i ∷ rest); rest = refl }
 written (Sync s ∷ rest) zero w h = true-false (sym (ap is_write h.at))
 written (Held f ∷ rest) zero w h = true-false (sym (ap is_write h.at))
 written (Connect c ∷ rest) (suc place) w h =
-    let more = written rest place w (after_front is_write (Connect c) rest place (Write w) h) in
-    (more.0, ap (λ q. Connect c ∷ q) more.1)
+    one_later (Connect c) rest place w h.within refl refl refl
+    (written rest place w (after_front is_write (Connect c) rest place (Write w) h))
 written (Write v ∷ rest) (suc place) w h = true-false (fails is_write (Write v) rest place (Write w) h)
 written (Sync s ∷ rest) (suc place) w h =
-    let more = written rest place w (after_front is_write (Sync s) rest place (Write w) h) in
-    (more.0, ap (λ q. Sync s ∷ q) more.1)
+    one_later (Sync s) rest place w h.within refl refl refl
+    (written rest place w (after_front is_write (Sync s) rest place (Write w) h))
 written (Held f ∷ rest) (suc place) w h =
-    let more = written rest place w (after_front is_write (Held f) rest place (Write w) h) in
-    (more.0, ap (λ q. Held f ∷ q) more.1)
+    one_later (Held f) rest place w h.within refl refl refl
+    (written rest place w (after_front is_write (Held f) rest place (Write w) h))
 
 pub is_oldest_write : (q : RequestQueue) (place : ℕ) (w : PendingWrite) → IsFirst is_write q place (Write w)
     → IsOldestWrite q place w
-is_oldest_write q place w h =
-    let both = written q place w h in
-    record { within = h.within; is = both.0; rest = both.1 }
+is_oldest_write q place w h = written q place w h
+
+-- The write at this place is the oldest, so that its place and what is left without it are known.
+pub removed_at : (q : RequestQueue) (place : ℕ) → OldestWriteIsAt q place
+    → (place < length q) × (remove q place ≡ without_oldest_write q)
+removed_at q place h = rw h.at (at_write q h.there)
+  where
+    at_write : (q : RequestQueue) → is_some (oldest_write q) ≡ true
+        → (write_place q < length q) × (remove q (write_place q) ≡ without_oldest_write q)
+    at_write [] none = true-false (sym none)
+    at_write (Write w ∷ rest) some = (omega arith, refl)
+    at_write (Connect c ∷ rest) some =
+        let more = at_write rest some in (let l = more.0 in omega arith, ap (λ q. Connect c ∷ q) more.1)
+    at_write (Sync s ∷ rest) some =
+        let more = at_write rest some in (let l = more.0 in omega arith, ap (λ q. Sync s ∷ q) more.1)
+    at_write (Held f ∷ rest) some =
+        let more = at_write rest some in (let l = more.0 in omega arith, ap (λ q. Held f ∷ q) more.1)
+
+-- A transaction that answers the oldest write answers it at its place, and takes it out.
+pub found_is : (q : RequestQueue) (xid txn_kind : ℤ) (write : AnsweredWrite) → found_write q xid txn_kind ≡ Some write
+    → OldestWriteIsAt q write.place × (after_answer q xid txn_kind ≡ without_oldest_write q)
+found_is q xid txn_kind write e = by (oldest_write q) refl (is_answered (oldest_write q) xid txn_kind) refl e
+  where
+    place_in : Option AnsweredWrite → ℕ
+    place_in None = 0
+    place_in (Some w) = w.place
+
+    by : (o : Option PendingWrite) → oldest_write q ≡ o → (b : Bool) → is_answered (oldest_write q) xid txn_kind ≡ b
+        → at_place (write_place q) (cond b (kind_in o) None) ≡ Some write
+        → OldestWriteIsAt q write.place × (cond b (without_oldest_write q) q ≡ without_oldest_write q)
+    by None is true answers none = true-false (sym (ap is_some none))
+    by (Some w) is true answers some =
+        (record { there = ap is_some is; at = sym (ap place_in some) }, refl)
+    by o is false answers none = true-false (sym (ap is_some none))
+
+pub found_at : (q : RequestQueue) (xid txn_kind : ℤ) (found : Option AnsweredWrite) → found ≡ found_write q xid txn_kind
+    → IfSome found (λ write. OldestWriteIsAt q write.place)
+found_at q xid txn_kind None is = tt
+found_at q xid txn_kind (Some write) is = (found_is q xid txn_kind write (sym is)).0
 
 -- ---- closeSessions
 

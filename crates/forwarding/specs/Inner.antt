@@ -6,7 +6,7 @@ use Rattle.std.specs.FinSet as set
 use Rattle.forwarding.specs.declared.request.PendingWrite.{PendingWrite}
 use Rattle.forwarding.specs.declared.request.PendingRequest.{PendingRequest}
 use Rattle.forwarding.specs.declared.request.PendingRequest.TheVariants.{Connect, Write, Sync, Held}
-use Rattle.forwarding.specs.Queue.{RequestQueue, is_close, oldest_write, without_oldest_write, ready_request}
+use Rattle.forwarding.specs.Queue.{RequestQueue, is_close, oldest_write, write_place, without_oldest_write, ready_request}
 use Rattle.forwarding.specs.State.{RequestQueues, TouchedSessions}
 
 -- The connection's queue is this now, if it has one; it may be empty.
@@ -40,6 +40,7 @@ is_close_request (Held frame) = false
 -- The oldest write stands at this place.
 pub record IsOldestWrite (q : RequestQueue) (place : ℕ) (w : PendingWrite) : Type 0 where
   pub within : place < length q
+  pub at : place ≡ write_place q
   pub is : oldest_write q ≡ Some w
   pub rest : remove q place ≡ without_oldest_write q
 

@@ -1,5 +1,5 @@
 -- What is asked, and what answers it.
-use Rattle.std.specs.Prelude.{ℕ, ◌==◌, ℤ, List, [], ◌∷◌, ◌++◌, Option, None, Some, Bool, false, not, length, take, drop, map, nat_lt, if◌then◌else◌}
+use Rattle.std.specs.Prelude.{ℕ, ◌==◌, ℤ, List, [], ◌∷◌, ◌++◌, Option, None, Some, Bool, true, false, not, length, take, drop, map, nat_lt, if◌then◌else◌}
 use Rattle.std.specs.Ordering.{int_cmp}
 use Rattle.std.specs.FinMap as finmap
 use Rattle.std.specs.FinSet as set
@@ -8,9 +8,11 @@ use Rattle.forwarding.specs.declared.request.PendingConnect.{PendingConnect}
 use Rattle.forwarding.specs.declared.request.PendingRequest.{PendingRequest}
 use Rattle.forwarding.specs.declared.request.PendingRequest.TheVariants.{Connect, Write, Sync, Held}
 use Rattle.forwarding.specs.declared.request.Ready.{Ready}
+use Rattle.forwarding.specs.declared.request.Occupancy.{Occupancy}
+use Rattle.forwarding.specs.declared.request.Occupancy.TheVariants.{Idle, Busy, Full}
 use Rattle.forwarding.specs.declared.request.Settled.{Settled}
 use Rattle.forwarding.specs.declared.request.Settled.TheVariants.{NoSync, Gone, Of}
-use Rattle.forwarding.specs.Queue.{RequestQueue, pending_limit, answered_write, after_answer, oldest_close, with_oldest_settled, ready_request, without_front_if, waiting_connect, held_frames}
+use Rattle.forwarding.specs.Queue.{RequestQueue, pending_limit, answered_write, without_oldest_write, after_answer, oldest_close, with_oldest_settled, ready_request, without_front_if, waiting_connect, held_frames}
 use Rattle.forwarding.specs.State.{RequestQueues, WaitingConnects, TouchedSessions, PendingTable}
 
 -- No request, no sync and no session.
@@ -44,6 +46,18 @@ has_no_request s = finmap.len s.queues == 0
 
 abbrev pub is_full : PendingTable → ℕ → Bool
 is_full s n = not (nat_lt (length (queue_of s n)) pending_limit)
+
+-- Whether a connection of this occupancy is idle.
+abbrev pub means_idle : Occupancy → Bool
+means_idle Idle = true
+means_idle Busy = false
+means_idle Full = false
+
+-- Whether it is full.
+abbrev pub means_full : Occupancy → Bool
+means_full Idle = false
+means_full Busy = false
+means_full Full = true
 
 -- ---- what is asked
 
@@ -85,6 +99,10 @@ answer_write s n xid txn_kind = record {
   kind = answered_write (queue_of s n) xid txn_kind;
   after = put_queue s n (after_answer (queue_of s n) xid txn_kind);
 }
+
+-- The connection's requests without its oldest write.
+abbrev pub remove_write : PendingTable → ℕ → PendingTable
+remove_write s n = put_queue s n (without_oldest_write (queue_of s n))
 
 -- The xid of the connection's oldest closeSession.
 abbrev pub pending_close : PendingTable → ℕ → Option ℤ

@@ -1,10 +1,11 @@
 -- The requests of one connection that aren't answered yet, the oldest first, and what an answer takes from them.
-use Rattle.std.specs.Prelude.{ℕ, suc, ℤ, pos, negsuc, List, [], ◌∷◌, Option, None, Some, Bool, true, false, ◌&&◌, ◌||◌, not, drop, if◌then◌else◌}
+use Rattle.std.specs.Prelude.{◌≡◌, ℕ, suc, ℤ, pos, negsuc, List, [], ◌∷◌, Option, None, Some, is_some, Bool, true, false, ◌&&◌, ◌||◌, not, drop, if◌then◌else◌}
 use Rattle.std.specs.Ordering.{int_eq}
 use Rattle.forwarding.specs.declared.request.WriteKind.{WriteKind}
 use Rattle.forwarding.specs.declared.request.WriteKind.TheVariants.{Create, Delete, SetData, SetAcl, CloseSession}
 use Rattle.forwarding.specs.declared.request.PendingConnect.{PendingConnect}
 use Rattle.forwarding.specs.declared.request.PendingWrite.{PendingWrite}
+use Rattle.forwarding.specs.declared.request.AnsweredWrite.{AnsweredWrite}
 use Rattle.forwarding.specs.declared.request.PendingRequest.{PendingRequest}
 use Rattle.forwarding.specs.declared.request.PendingRequest.TheVariants.{Connect, Write, Sync, Held}
 use Rattle.forwarding.specs.declared.request.Ready.{Ready}
@@ -46,6 +47,12 @@ oldest_write [] = None
 oldest_write (Write w ∷ rest) = Some w
 oldest_write (r ∷ rest) = oldest_write rest
 
+-- Its place in the queue.
+abbrev pub write_place : RequestQueue → ℕ
+write_place [] = 0
+write_place (Write w ∷ rest) = 0
+write_place (r ∷ rest) = suc (write_place rest)
+
 abbrev pub without_oldest_write : RequestQueue → RequestQueue
 without_oldest_write [] = []
 without_oldest_write (Write w ∷ rest) = rest
@@ -62,6 +69,19 @@ kind_in (Some w) = Some w.kind
 -- The kind of the oldest write, if a transaction of this xid and type answers it.
 abbrev pub answered_write : RequestQueue → ℤ → ℤ → Option WriteKind
 answered_write q xid txn_kind = if is_answered (oldest_write q) xid txn_kind then kind_in (oldest_write q) else None
+
+abbrev pub at_place : ℕ → Option WriteKind → Option AnsweredWrite
+at_place place None = None
+at_place place (Some kind) = Some (record { place = place; kind = kind })
+
+-- The oldest write with its place, if a transaction of this xid and type answers it.
+abbrev pub found_write : RequestQueue → ℤ → ℤ → Option AnsweredWrite
+found_write q xid txn_kind = at_place (write_place q) (answered_write q xid txn_kind)
+
+-- There is a write, and the oldest has this place.
+pub record OldestWriteIsAt (q : RequestQueue) (place : ℕ) : Type 0 where
+  pub there : is_some (oldest_write q) ≡ true
+  pub at : place ≡ write_place q
 
 abbrev pub after_answer : RequestQueue → ℤ → ℤ → RequestQueue
 after_answer q xid txn_kind = if is_answered (oldest_write q) xid txn_kind then without_oldest_write q else q

@@ -7,9 +7,10 @@
 //!
 //! ```text
 //! let mut pending = Pending::new(alloc);
-//! pending.push_write(alloc, 1, xid, WriteKind::Create)?;      // unless `is_full(1)`
+//! pending.push_write(alloc, 1, xid, WriteKind::Create)?;      // unless `occupancy(1)` is Full
 //! pending.hold(alloc, 1, frame)?;                             // a read after it
-//! pending.answer_write(1, xid, 1)                             // the create was applied; Some(Create)
+//! let write = pending.answered_write(1, xid, 1);              // the create was applied; Some, with its place
+//! pending.remove_write(1, write.place);
 //! while let Some(ready) = pending.take_ready(1) { .. }        // the held frame
 //! pending.drop_connection(1);                                 // what waits goes with its connection
 //! ```
@@ -29,6 +30,8 @@ pub use law::{
     answers_are_matched, emptiness_is_told, nothing_waits_in_vain, order_is_kept,
     other_connections_stay, requests_and_syncs_agree, worked_rows,
 };
-pub use queues::PENDING_LIMIT;
-pub use request::{ERROR_TXN, PendingConnect, Ready, Settled, TakenConnect, WriteKind};
+pub use queue::PENDING_LIMIT;
+pub use request::{
+    AnsweredWrite, ERROR_TXN, Occupancy, PendingConnect, Ready, Settled, TakenConnect, WriteKind,
+};
 pub use table::{Pending, TOUCHED_LIMIT};

@@ -2,16 +2,19 @@
 //!
 //! Laws that go over this: `Queued`.
 
-ghost use Rattle.std.specs.Prelude.{◌≡◌, ◌++◌, ◌∷◌, ◌==◌, [], OnOk, OnErr, IfOk, IfSome, IfNone, None, length};
+ghost use Rattle.std.specs.Prelude.{◌≡◌, ◌++◌, ◌∷◌, ◌==◌, [], OnOk, OnErr, IfOk, IfSome, IfNone, None, not, nat_lt, length};
 ghost use Rattle.std.specs.List.{position, list_any};
-ghost use Rattle.forwarding.specs.Queue.{is_write, oldest_write, answered_write, after_answer, oldest_close, is_unsettled, with_oldest_settled, ready_request, without_front_if, waiting_connect, held_frames};
+ghost use Rattle.forwarding.specs.Queue.{pending_limit, is_write, oldest_write, found_write, OldestWriteIsAt, without_oldest_write, oldest_close, is_unsettled, with_oldest_settled, ready_request, without_front_if, waiting_connect, held_frames};
 ghost use Rattle.forwarding.specs.Inner.{is_close_request, is_ready, IsOldestWrite};
 
-use crate::request::{PendingConnect, PendingRequest, PendingWrite, Ready, WriteKind};
+use crate::request::{AnsweredWrite, PendingConnect, PendingRequest, PendingWrite, Ready};
 use std::alloc::Global;
 use std::collections::VecDeque;
 use std::marker::Model;
 use values::{Blob, Listed, NoMemory};
+
+/// The most requests of a connection that wait.
+pub const PENDING_LIMIT: usize = 1024;
 
 /// The requests of a connection that aren't answered yet, the oldest first.
 #[derive(Drop)]
@@ -52,6 +55,13 @@ impl Queue {
         self.requests.is_empty()
     }
 
+    /// Whether there may be no further request.
+    pub fn is_full(&self) -> bool
+        ensures { result ≡ not (nat_lt (length self.now) pending_limit) }
+    {
+        PENDING_LIMIT <= self.len()
+    }
+
     /// Adds a request at the end. A refused allocation changes nothing.
     pub fn push(&mut self, request: PendingRequest) -> Result<(), NoMemory>
         ensures ok { OnOk result (self.new ≡ self.old ++ request ∷ []) }
@@ -82,23 +92,9 @@ impl Queue {
         }
     }
 
-    /// The kind of the oldest write, if a transaction of this xid and type answers it.
-    pub fn answered_write(&self, xid: i32, txn_kind: i32) -> Option<WriteKind>
-        ensures { result ≡ answered_write self.now xid txn_kind }
-    {
-        let Some((_, write)) = self.oldest_write() else {
-            return None;
-        };
-        if !write.is_answered_by(xid, txn_kind) {
-            return None;
-        }
-        Some(write.kind)
-    }
-
-    /// Removes the oldest write and returns its kind, if a transaction of this xid and type answers it.
-    pub fn answer_write(&mut self, xid: i32, txn_kind: i32) -> Option<WriteKind>
-        ensures kind { result ≡ answered_write self.old xid txn_kind }
-        ensures rest { self.new ≡ after_answer self.old xid txn_kind }
+    /// The oldest write, if a transaction of this xid and type answers it.
+    pub fn answered_write(&self, xid: i32, txn_kind: i32) -> Option<AnsweredWrite>
+        ensures { result ≡ found_write self.now xid txn_kind }
     {
         let Some((place, write)) = self.oldest_write() else {
             return None;
@@ -106,8 +102,16 @@ impl Queue {
         if !write.is_answered_by(xid, txn_kind) {
             return None;
         }
+        let kind = write.kind;
+        Some(AnsweredWrite { place, kind })
+    }
+
+    /// Removes the oldest write, which stands at this place.
+    pub fn remove_write(&mut self, place: usize)
+        requires { OldestWriteIsAt self.old place }
+        ensures { self.new ≡ without_oldest_write self.old }
+    {
         self.requests.remove(place);
-        Some(write.kind)
     }
 
     // The place of the oldest closeSession.

@@ -4,19 +4,16 @@
 
 ghost use Rattle.std.specs.Prelude.{◌≡◌, ◌++◌, ◌∷◌, ◌==◌, [], OnOk, OnErr, not, nat_lt, length};
 ghost use Rattle.std.specs.FinMap as finmap;
-ghost use Rattle.forwarding.specs.Queue.{pending_limit, answered_write, after_answer, oldest_close, with_oldest_settled, ready_request, without_front_if, waiting_connect};
-ghost use Rattle.forwarding.specs.Pending.{queue_in, with_queue};
+ghost use Rattle.forwarding.specs.Queue.{pending_limit, found_write, OldestWriteIsAt, without_oldest_write, oldest_close, with_oldest_settled, ready_request, without_front_if, waiting_connect};
+ghost use Rattle.forwarding.specs.Pending.{queue_in, with_queue, means_idle, means_full};
 ghost use Rattle.forwarding.specs.Inner.{with_changed, without_empty, has_empty};
 
 use crate::queue::Queue;
-use crate::request::{PendingConnect, PendingRequest, Ready, WriteKind};
+use crate::request::{AnsweredWrite, Occupancy, PendingConnect, PendingRequest, Ready};
 use std::alloc::Global;
 use std::collections::BTreeMap;
 use std::marker::Model;
 use values::NoMemory;
-
-/// The most requests of a connection that wait.
-pub const PENDING_LIMIT: usize = 1024;
 
 /// The requests that aren't answered yet, by connection. A connection without any isn't in the map.
 #[derive(Drop)]
@@ -65,7 +62,24 @@ impl Queues {
     {
         match self.map.get(&number) {
             None => false,
-            Some(queue) => PENDING_LIMIT <= queue.len(),
+            Some(queue) => queue.is_full(),
+        }
+    }
+
+    /// How many of the connection's requests wait.
+    pub fn occupancy(&self, number: u64) -> Occupancy
+        ensures idle { means_idle result ≡ not (finmap.contains_key self.now number) }
+        ensures full { means_full result
+            ≡ not (nat_lt (length (queue_in (finmap.get self.now number))) pending_limit) }
+    {
+        match self.map.get(&number) {
+            None => Occupancy::Idle,
+            Some(queue) => {
+                if queue.is_full() {
+                    return Occupancy::Full;
+                }
+                Occupancy::Busy
+            }
         }
     }
 
@@ -89,9 +103,9 @@ impl Queues {
         }
     }
 
-    /// The kind of the connection's oldest write, if a transaction of this xid and type answers it.
-    pub fn answered_write(&self, number: u64, xid: i32, txn_kind: i32) -> Option<WriteKind>
-        ensures { result ≡ answered_write (queue_in (finmap.get self.now number)) xid txn_kind }
+    /// The connection's oldest write, if a transaction of this xid and type answers it.
+    pub fn answered_write(&self, number: u64, xid: i32, txn_kind: i32) -> Option<AnsweredWrite>
+        ensures { result ≡ found_write (queue_in (finmap.get self.now number)) xid txn_kind }
     {
         match self.map.get(&number) {
             None => None,
@@ -154,27 +168,25 @@ impl Queues {
         }
     }
 
-    // Answers in the connection's queue, which may be empty then.
-    fn answer_in(&mut self, number: u64, xid: i32, txn_kind: i32) -> Option<WriteKind>
-        ensures kind { result ≡ answered_write (queue_in (finmap.get self.old number)) xid txn_kind }
-        ensures rest { self.new ≡ with_changed self.old number (λ q. after_answer q xid txn_kind)
-            (finmap.get self.old number) }
+    // Removes from the connection's queue, which may be empty then.
+    fn remove_write_in(&mut self, number: u64, place: usize)
+        requires { OldestWriteIsAt (queue_in (finmap.get self.old number)) place }
+        ensures { self.new ≡ with_changed self.old number without_oldest_write (finmap.get self.old number) }
     {
         match self.map.get_mut(&number) {
-            None => return None,
-            Some(queue) => queue.answer_write(xid, txn_kind),
+            None => return,
+            Some(queue) => queue.remove_write(place),
         }
     }
 
-    /// Removes the connection's oldest write and returns its kind, if a transaction of this xid and type answers it.
-    pub fn answer_write(&mut self, number: u64, xid: i32, txn_kind: i32) -> Option<WriteKind>
-        ensures kind { result ≡ answered_write (queue_in (finmap.get self.old number)) xid txn_kind }
-        ensures rest { let q = queue_in (finmap.get self.old number) in
-            self.new ≡ with_queue self.old number (after_answer q xid txn_kind) }
+    /// Removes the connection's oldest write, which stands at this place.
+    pub fn remove_write(&mut self, number: u64, place: usize)
+        requires { OldestWriteIsAt (queue_in (finmap.get self.old number)) place }
+        ensures { let q = queue_in (finmap.get self.old number) in
+            self.new ≡ with_queue self.old number (without_oldest_write q) }
     {
-        let kind = self.answer_in(number, xid, txn_kind);
+        self.remove_write_in(number, place);
         self.forget_empty(number);
-        kind
     }
 
     // Settles in the connection's queue.

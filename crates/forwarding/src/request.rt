@@ -80,6 +80,14 @@ impl PendingWrite {
     }
 }
 
+/// A write that a transaction answers.
+#[derive(Clone, Copy)]
+pub struct AnsweredWrite {
+    /// Its place among its connection's requests.
+    pub place: usize,
+    pub kind: WriteKind,
+}
+
 /// A sync that was forwarded. The leader settles it when this replica has caught up; the client is answered in its
 /// turn.
 #[derive(Drop)]
@@ -150,6 +158,17 @@ impl PendingRequest {
 pub enum Ready {
     SettledSync { xid: i32, path: Text },
     HeldFrame(Blob),
+}
+
+/// How many requests of a connection wait.
+#[derive(Clone, Copy)]
+pub enum Occupancy {
+    /// None.
+    Idle,
+    /// Some, and there may be more.
+    Busy,
+    /// As many as there may be.
+    Full,
 }
 
 /// What a sync of the leader settles.

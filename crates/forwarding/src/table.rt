@@ -2,17 +2,17 @@
 //!
 //! Laws that go over this: `Agreeing`, `Emptiness`, `Others`, `Answered`, `Ordered`.
 
-ghost use Rattle.std.specs.Prelude.{◌≡◌, ℕ, [], OnOk, OnErr, IfOk, IsTrue, None, true, false, drop};
+ghost use Rattle.std.specs.Prelude.{◌≡◌, ℕ, [], OnOk, OnErr, IfOk, IfSome, IsTrue, None, true, false, drop};
 ghost use Rattle.std.specs.FinMap as finmap;
-ghost use Rattle.forwarding.specs.Queue.{answered_write};
-ghost use Rattle.forwarding.specs.Pending.{nothing_pending, queue_of, has_no_request, is_idle, is_full, push_connect, push_write, push_sync, hold_frame, answer_write, pending_close, settle_sync, take_ready, take_connect, connecting_to, drop_connection, without_connect, touch_session, take_touched, touched_limit};
+ghost use Rattle.forwarding.specs.Queue.{found_write, OldestWriteIsAt};
+ghost use Rattle.forwarding.specs.Pending.{nothing_pending, queue_of, has_no_request, is_idle, is_full, means_idle, means_full, push_connect, push_write, push_sync, hold_frame, remove_write, pending_close, settle_sync, take_ready, take_connect, connecting_to, drop_connection, without_connect, touch_session, take_touched, touched_limit};
 ghost use Rattle.forwarding.specs.Agreement.{PendingAgrees};
 
 use crate::queue::Queue;
 use crate::queues::Queues;
 use crate::request::{
-    PendingConnect, PendingRequest, PendingSync, PendingWrite, Ready, Settled, TakenConnect,
-    WriteKind,
+    AnsweredWrite, Occupancy, PendingConnect, PendingRequest, PendingSync, PendingWrite, Ready,
+    Settled, TakenConnect, WriteKind,
 };
 use crate::syncs::Syncs;
 use crate::touched::Touched;
@@ -106,10 +106,18 @@ impl Pending {
         self.queues.is_full(number)
     }
 
-    /// The kind of the connection's oldest write, if a transaction of this xid and type answers it: its own type, or
-    /// `ERROR_TXN`.
-    pub fn answered_write(&self, number: u64, xid: i32, txn_kind: i32) -> Option<WriteKind>
-        ensures { result ≡ answered_write (queue_of self.now number) xid txn_kind }
+    /// How many of the connection's requests wait: whether it is idle or full, by one look-up.
+    pub fn occupancy(&self, number: u64) -> Occupancy
+        ensures idle { means_idle result ≡ is_idle self.now number }
+        ensures full { means_full result ≡ is_full self.now number }
+    {
+        self.queues.occupancy(number)
+    }
+
+    /// The connection's oldest write, if a transaction of this xid and type answers it: its own type, or `ERROR_TXN`.
+    pub fn answered_write(&self, number: u64, xid: i32, txn_kind: i32) -> Option<AnsweredWrite>
+        ensures write { result ≡ found_write (queue_of self.now number) xid txn_kind }
+        ensures place { IfSome result (λ write. OldestWriteIsAt (queue_of self.now number) write.place) }
     {
         self.queues.answered_write(number, xid, txn_kind)
     }
@@ -207,12 +215,13 @@ impl Pending {
         self.queues.push(alloc, number, PendingRequest::Held(frame))
     }
 
-    /// Removes the connection's oldest write and returns its kind, if a transaction of this xid and type answers it:
-    /// its own type, or `ERROR_TXN`. The write overtakes an older sync that still waits.
-    pub fn answer_write(&mut self, number: u64, xid: i32, txn_kind: i32) -> Option<WriteKind>
-        ensures { answer_write self.old number xid txn_kind ≡ record { kind = result; after = self.new } }
+    /// Removes the connection's oldest write, which is answered. It stands at this place, as
+    /// [`Pending::answered_write`] says, and overtakes an older sync that still waits.
+    pub fn remove_write(&mut self, number: u64, place: usize)
+        requires { OldestWriteIsAt (queue_of self.old number) place }
+        ensures { self.new ≡ remove_write self.old number }
     {
-        self.queues.answer_write(number, xid, txn_kind)
+        self.queues.remove_write(number, place);
     }
 
     /// Settles the oldest sync of all connections that isn't settled, if one was forwarded.

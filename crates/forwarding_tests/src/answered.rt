@@ -3,7 +3,7 @@
 use crate::{
     Asked, answer, ask, connected, drop_and_touch, settle, take_all, touched, would_answer,
 };
-use forwarding::{ERROR_TXN, PENDING_LIMIT, Pending, WriteKind};
+use forwarding::{ERROR_TXN, Occupancy, PENDING_LIMIT, Pending, WriteKind};
 use std::alloc::Global;
 use std::test::Fail;
 use values::NoMemory;
@@ -117,5 +117,32 @@ fn held(alloc: Global) -> Result<usize, NoMemory> {
 #[test]
 fn a_connection_has_a_limit(rt: HostRuntime) -> Result<(), Fail> {
     assert_eq!(rt; held(rt.alloc())?, 1024);
+    Ok(())
+}
+
+// How many requests of connection 1 wait, in a word, after so many more frames are held.
+fn occupancy_after(
+    alloc: Global,
+    pending: &mut Pending,
+    count: usize,
+) -> Result<&'static str, NoMemory> {
+    for _ in 0..count {
+        ask(alloc, pending, &[(1, Asked::Frame(&[]))])?;
+    }
+    match pending.occupancy(1) {
+        Occupancy::Idle => Ok("idle"),
+        Occupancy::Busy => Ok("busy"),
+        Occupancy::Full => Ok("full"),
+    }
+}
+
+#[test]
+fn a_connection_is_idle_busy_and_full(rt: HostRuntime) -> Result<(), Fail> {
+    let alloc = rt.alloc();
+    let mut pending = Pending::new(alloc);
+    assert_eq!(rt; occupancy_after(alloc, &mut pending, 0)?, "idle");
+    assert_eq!(rt; occupancy_after(alloc, &mut pending, 1)?, "busy");
+    assert_eq!(rt; occupancy_after(alloc, &mut pending, 1022)?, "busy");
+    assert_eq!(rt; occupancy_after(alloc, &mut pending, 1)?, "full");
     Ok(())
 }

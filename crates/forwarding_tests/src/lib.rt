@@ -115,22 +115,23 @@ pub fn take_all(alloc: Global, pending: &mut Pending, number: u64) -> Result<Str
     Ok(text)
 }
 
-// The type of the write; 0 if there is none.
-fn type_of(write: Option<WriteKind>) -> i32 {
-    match write {
-        None => 0,
-        Some(kind) => kind.number(),
-    }
-}
-
 /// The type of the write that a transaction would answer; 0 if it answers none.
 pub fn would_answer(pending: &Pending, number: u64, xid: i32, txn_kind: i32) -> i32 {
-    type_of(pending.answered_write(number, xid, txn_kind))
+    match pending.answered_write(number, xid, txn_kind) {
+        None => 0,
+        Some(write) => write.kind.number(),
+    }
 }
 
 /// The type of the write that a transaction answers; 0 if it answers none.
 pub fn answer(pending: &mut Pending, number: u64, xid: i32, txn_kind: i32) -> i32 {
-    type_of(pending.answer_write(number, xid, txn_kind))
+    match pending.answered_write(number, xid, txn_kind) {
+        None => 0,
+        Some(write) => {
+            pending.remove_write(number, write.place);
+            write.kind.number()
+        }
+    }
 }
 
 /// The connections whose syncs the next SYNCs settle: "-" where none waits, and "x" where it has gone.

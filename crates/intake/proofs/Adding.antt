@@ -4,7 +4,7 @@ use Rattle.std.specs.Prelude.{if◌then◌else◌}
 use Rattle.std.specs.FinMap as finmap
 use Rattle.rtrb.specs.Ring.{sent, received, known_items, IsPair}
 use Rattle.observer_core.specs.Machine.{Machine}
-use Rattle.client_service.proofs.NatMaps.{get-inserted, get-beside}
+use Rattle.world.proofs.NatMaps.{get-inserted, get-beside}
 use Rattle.intake.specs.declared.port.PortEnd.{PortEnd}
 use Rattle.intake.specs.declared.link.Link.{Link}
 use Rattle.intake.specs.Messages.{PortMessage}

@@ -6,12 +6,12 @@ use Rattle.std.specs.FinMap as finmap
 use Rattle.std.specs.Cmp.{nat_cmp_total}
 use Rattle.std.proofs.lemmas.List.{append-nil}
 use Rattle.std.proofs.lemmas.Bool.Decides.{eqb_tells}
-use Rattle.client_service.specs.declared.output.Output.{Output}
+use Rattle.world.specs.declared.output.Output.{Output}
 use Rattle.observer_core.specs.Machine.{Machine}
-use Rattle.client_service.specs.Steps.{StepResult, prepend_outputs}
+use Rattle.world.specs.Steps.{StepResult, prepend_outputs}
 use Rattle.observer_core.specs.Play.{play}
 use Rattle.observer_core.proofs.Playing.{play_on}
-use Rattle.client_service.proofs.NatMaps.{still_there, get-removed, get-kept}
+use Rattle.world.proofs.NatMaps.{still_there, get-removed, get-kept}
 use Rattle.intake.specs.declared.port.PortEnd.{PortEnd}
 use Rattle.intake.specs.declared.message.Message.{Message}
 use Rattle.intake.specs.declared.link.Link.{Link}

@@ -13,8 +13,8 @@ use Rattle.rtrb.specs.declared.consumer.Consumer.{Consumer}
 use Rattle.rtrb.specs.declared.AnyItems.{AnyItems}
 use Rattle.values.specs.declared.fault.NoMemory.{NoMemory}
 use Rattle.rtrb.specs.Ring.{sent, received, known_items, SameProducer, SameConsumer}
-use Rattle.client_service.specs.declared.output.Output.{Output}
-use Rattle.client_service.proofs.NatMaps.{seen, get-seen, seen-insert, get-inserted, get-beside}
+use Rattle.world.specs.declared.output.Output.{Output}
+use Rattle.world.proofs.NatMaps.{seen, get-seen, seen-insert, get-inserted, get-beside}
 use Rattle.intake.specs.declared.message.Message.{Message}
 use Rattle.intake.specs.declared.link.Link.{Link}
 use Rattle.intake.specs.declared.port.PortEnd.{PortEnd}

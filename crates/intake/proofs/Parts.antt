@@ -4,7 +4,7 @@ use Rattle.std.specs.Prelude.{filter, not}
 use Rattle.std.proofs.lemmas.List.{append-nil, map-append}
 use Rattle.std.proofs.lemmas.List.Elements.{filter-append}
 use Rattle.std.proofs.lemmas.Bool.Decides.{eqb_tells, nat_tests}
-use Rattle.client_service.specs.declared.output.Output.{Output}
+use Rattle.world.specs.declared.output.Output.{Output}
 use Rattle.intake.specs.declared.message.Message.{Message}
 use Rattle.intake.specs.Messages.{PortMessage, event_of_message, events_of, part_of_port, messages_of_port, LeaderComesFirst, port_of, share_of_port}
 

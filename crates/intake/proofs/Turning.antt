@@ -5,8 +5,8 @@ use Rattle.std.specs.FinMap as finmap
 use Rattle.std.proofs.lemmas.List.{append-nil, take_all, take_more}
 use Rattle.std.proofs.lemmas.List.Elements.{Contains-append_left, Contains-append_right, Contains-append_cases}
 use Rattle.std.proofs.lemmas.Bool.Decides.{eqb_tells}
-use Rattle.client_service.specs.declared.output.Output.{Output}
-use Rattle.client_service.specs.Steps.{StepResult}
+use Rattle.world.specs.declared.output.Output.{Output}
+use Rattle.world.specs.Steps.{StepResult}
 use Rattle.observer_core.specs.Machine.{Machine}
 use Rattle.observer_core.specs.Play.{play}
 use Rattle.observer_core.specs.declared.engine.Stop.TheVariants as stops

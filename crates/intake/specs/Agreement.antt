@@ -3,7 +3,7 @@ use Rattle.std.specs.Prelude.{◌≡◌, ◌≤◌, ◌==◌, ℕ, List, [], ◌
 use Rattle.std.specs.FinMap as finmap
 use Rattle.observer_core.specs.Machine.{Machine}
 use Rattle.observer_core.specs.Play.{play}
-use Rattle.client_service.specs.declared.output.Output.{Output}
+use Rattle.world.specs.declared.output.Output.{Output}
 use Rattle.intake.specs.declared.port.PortEnd.{PortEnd}
 use Rattle.intake.specs.Messages.{PortMessage, events_of, part_of_port, share_of_port}
 use Rattle.intake.specs.Links.{is_open_port, taken_at, owed_at}

@@ -1,7 +1,7 @@
 -- What went through a port, from its thread's end.
 use Rattle.std.specs.Prelude.{◌≡◌, ℕ, List}
 use Rattle.rtrb.specs.Ring.{sent, received, known_free, known_items, producer_capacity, consumer_capacity, SameProducer, SameConsumer}
-use Rattle.client_service.specs.declared.output.Output.{Output}
+use Rattle.world.specs.declared.output.Output.{Output}
 use Rattle.intake.specs.declared.message.Message.{Message}
 use Rattle.intake.specs.declared.port.PortEnd.{PortEnd}
 

@@ -7,11 +7,11 @@ use Rattle.std.specs.Cmp.{nat_cmp_total}
 use Rattle.std.proofs.lemmas.Cmp.{tied_itself}
 use Rattle.sessions.specs.State.{ConnectedClient, SessionTable}
 use Rattle.sessions.specs.Sessions.{close_as, close_connection}
-use Rattle.client_service.specs.World.{World}
-use Rattle.client_service.specs.Steps.{StepResult, no_output, and_then, fold_steps}
-use Rattle.client_service.specs.Clients.{is_heard}
+use Rattle.world.specs.World.{World}
+use Rattle.world.specs.Steps.{StepResult, no_output, and_then, fold_steps}
+use Rattle.world.specs.Clients.{is_heard}
 use Rattle.client_service.specs.Serve.{is_unheard}
-use Rattle.client_service.proofs.Steps.{goes_on, passed_over}
+use Rattle.world.proofs.Steps.{goes_on, passed_over}
 use Rattle.leader_answers.specs.Answering.{serve_next}
 
 -- A connection that was closed has no session.

@@ -1,18 +1,26 @@
 -- The requests of a connection that are answered in their turn.
-use Rattle.std.proofs.Common.{◌≡◌, ℕ, zero, suc, ◌+◌, ◌<◌, ◌≤◌, ◌-◌, ℤ, List, [], ◌∷◌, length, slice_get, Option, Some, None, refl, sym, ap, ◌∙◌, arith}
+use Rattle.std.proofs.Common.{◌≡◌, ℕ, zero, suc, ◌+◌, ◌<◌, ◌≤◌, ◌-◌, ℤ, true, List, [], ◌∷◌, length, slice_get, Option, Some, None, refl, sym, ap, ◌∙◌, arith}
+use Rattle.std.specs.Prelude.{is_some}
+use Rattle.std.specs.Option.{option_map_or}
+use mathlib.Core.Bool.{true≢false}
 use Rattle.txn_codec.specs.declared.txn.Txn.{Txn}
-use Rattle.replica.specs.Taking.{last_txn}
+use Rattle.txn_codec.specs.declared.row.SessionChange.{SessionChange}
+use Rattle.txn_codec.specs.declared.row.SessionChange.TheVariants as changes
+use Rattle.txn_codec.specs.Row.{session_change}
+use Rattle.sessions.specs.Sessions.{connection_of}
 use Rattle.read_processor.specs.declared.shown.Look.{Look}
 use Rattle.read_processor.specs.Reply.{reply_frame}
 use Rattle.forwarding.specs.declared.request.Ready.{Ready}
-use Rattle.forwarding.specs.declared.request.WriteKind.{WriteKind}
-use Rattle.forwarding.specs.Pending.{take_ready, answer_write}
-use Rattle.client_service.specs.World.{World}
-use Rattle.client_service.specs.Steps.{StepResult, no_output, and_then}
-use Rattle.client_service.specs.Serve.{with_pending, send_or_close}
+use Rattle.forwarding.specs.declared.request.AnsweredWrite.{AnsweredWrite}
+use Rattle.forwarding.specs.Queue.{RequestQueue, found_write, OldestWriteIsAt, without_oldest_write, after_answer}
+use Rattle.forwarding.specs.Pending.{queue_of, put_queue, take_ready, remove_write, connecting_to}
+use Rattle.forwarding.proofs.Queued.{found_is}
+use Rattle.world.specs.World.{Clients, World}
+use Rattle.world.specs.Steps.{StepResult, no_output, and_then}
+use Rattle.world.specs.Sending.{with_pending, send_or_close}
 use Rattle.leader_answers.specs.declared.due.Due.{Due}
-use Rattle.leader_answers.specs.declared.due.Due.TheVariants.{Reply}
-use Rattle.leader_answers.specs.Answering.{answer_ready, answer_if_ready, answer_up_to, answer_front, txn_number, answer_due, give_answer, answer_optional_txn, answer_last_txn}
+use Rattle.leader_answers.specs.declared.due.Due.TheVariants.{Nothing, Admission, Ending, Reply}
+use Rattle.leader_answers.specs.Answering.{answer_ready, answer_if_ready, answer_up_to, answer_front, txn_number, admission_of, ending_of, reply_as, reply_of, due_by, answer_due, give_answer, due_of, due_in_log, answer_optional_txn, answer_applied_txn}
 use Rattle.write_replies.specs.Replies.{write_look}
 
 -- The world after the request in front was taken.
@@ -51,35 +59,85 @@ none_left n limit k w above =
     let none : limit - k ≡ 0 = omega (arith, above) in
     ap (λ (most : ℕ). answer_up_to most n w) none
 
--- ---- the log's last transaction
-
-pub last_is : (log : List Txn) → slice_get log (length log - 1) ≡ last_txn log
-last_is [] = refl
-last_is (u ∷ []) = refl
-last_is (u ∷ v ∷ log) =
-    let at : length (u ∷ v ∷ log) - 1 ≡ suc (length (v ∷ log) - 1) = omega arith in
-    ap (slice_get (u ∷ v ∷ log)) at ∙ last_is (v ∷ log)
-
 -- ---- a transaction
 
-module _ (w : World) (err : ℤ) (t : Txn) (last : Some t ≡ last_txn w.replica.learner.log) (due : Due)
-    (is : due ≡ answer_due w.clients t) where
-  -- The newest transaction is answered as it is due.
-  pub of_due : answer_last_txn w err ≡ give_answer w t err due
-  of_due = ap (answer_optional_txn w err) (sym last) ∙ ap (give_answer w t err) (sym is)
+module _ (w : World) (place : ℕ) (err : ℤ) (t : Txn) (at : Some t ≡ slice_get w.replica.learner.log place)
+    (due : Due) (is : due ≡ due_in_log w place) where
+  -- The transaction is answered as it is due.
+  pub due_is : due ≡ answer_due w.clients t
+  due_is = is ∙ ap (due_of w.clients) (sym at)
 
--- The write is answered, and then what waited only for it.
-pub one_write : (w : World) (err : ℤ) (t : Txn) (last : Some t ≡ last_txn w.replica.learner.log) (n : ℕ)
-    (kind : WriteKind) (is : Reply n kind ≡ answer_due w.clients t) (seen : Look) (number : ℤ) → number ≡ txn_number t
-    → seen ≡ write_look w.replica.tree kind t.body err
-    → answer_last_txn w err ≡ and_then
-    (send_or_close n (with_pending w (answer_write w.clients.pending n t.header.cxid number).after)
-    (reply_frame t.header.cxid t.header.zxid seen)) (answer_front n)
-one_write w err t last n kind is seen number same looks =
-    let answered : ℤ → Look → StepResult World =
-    λ (k : ℤ) (l : Look). and_then
-    (send_or_close n (with_pending w (answer_write w.clients.pending n t.header.cxid k).after)
-    (reply_frame t.header.cxid t.header.zxid l)) (answer_front n) in
-    of_due w err t last (Reply n kind) is
-    ∙ ap (answered (txn_number t)) (sym looks)
-    ∙ ap (λ (k : ℤ). answered k seen) (sym same)
+  pub of_due : answer_applied_txn w place err ≡ give_answer w t err due
+  of_due = ap (answer_optional_txn w err) (sym at) ∙ ap (give_answer w t err) (sym due_is)
+
+-- Of a reply that is due, the write is the oldest, at its place.
+pub reply_is : (c : Clients) (t : Txn) (n : ℕ) (write : AnsweredWrite) → Reply n write ≡ answer_due c t
+    → found_write (queue_of c.pending n) t.header.cxid (txn_number t) ≡ Some write
+reply_is c t n write e = by (session_change t.body) e
+  where
+    -- The connection of a reply and its write.
+    reply_in : Due → Option (ℕ × AnsweredWrite)
+    reply_in Nothing = None
+    reply_in (Admission m) = None
+    reply_in (Ending m) = None
+    reply_in (Reply m w) = Some (m, w)
+
+    none_here : {A : Type 0} → reply_in (Reply n write) ≡ None → A
+    none_here none = absurd (true≢false (ap is_some none))
+
+    admitted : (o : Option ℕ) → Reply n write ≡ admission_of o
+        → found_write (queue_of c.pending n) t.header.cxid (txn_number t) ≡ Some write
+    admitted None e = none_here (ap reply_in e)
+    admitted (Some m) e = none_here (ap reply_in e)
+
+    ended : (o : Option ℕ) → Reply n write ≡ ending_of o
+        → found_write (queue_of c.pending n) t.header.cxid (txn_number t) ≡ Some write
+    ended None e = none_here (ap reply_in e)
+    ended (Some m) e = none_here (ap reply_in e)
+
+    found : (m : ℕ) (o : Option AnsweredWrite)
+        → found_write (queue_of c.pending m) t.header.cxid (txn_number t) ≡ o → Reply n write ≡ reply_as m o
+        → found_write (queue_of c.pending n) t.header.cxid (txn_number t) ≡ Some write
+    found m None is e = none_here (ap reply_in e)
+    found m (Some w) is e =
+        let same : n ≡ m = ap (λ (d : Due). option_map_or (λ (p : ℕ × AnsweredWrite). p.0) (reply_in d) n) e in
+        let same_write : write ≡ w =
+        ap (λ (d : Due). option_map_or (λ (p : ℕ × AnsweredWrite). p.1) (reply_in d) write) e in
+        ap (λ (k : ℕ). found_write (queue_of c.pending k) t.header.cxid (txn_number t)) same ∙ is
+        ∙ ap Some (sym same_write)
+
+    replied : (o : Option ℕ) → Reply n write ≡ reply_of c t o
+        → found_write (queue_of c.pending n) t.header.cxid (txn_number t) ≡ Some write
+    replied None e = none_here (ap reply_in e)
+    replied (Some m) e = found m (found_write (queue_of c.pending m) t.header.cxid (txn_number t)) refl e
+
+    by : (change : SessionChange) → Reply n write ≡ due_by c t change
+        → found_write (queue_of c.pending n) t.header.cxid (txn_number t) ≡ Some write
+    by (changes.Begins time_out) e = admitted (connecting_to c.pending t.header.client_id) e
+    by changes.Ends e = ended (connection_of c.sessions t.header.client_id) e
+    by changes.Nothing e = replied (connection_of c.sessions t.header.client_id) e
+
+module _ (w : World) (place : ℕ) (err : ℤ) (t : Txn) (at : Some t ≡ slice_get w.replica.learner.log place) (n : ℕ)
+    (write : AnsweredWrite) (is : Reply n write ≡ due_in_log w place) where
+  abbrev found : OldestWriteIsAt (queue_of w.clients.pending n) write.place
+      × (after_answer (queue_of w.clients.pending n) t.header.cxid (txn_number t)
+      ≡ without_oldest_write (queue_of w.clients.pending n))
+  found = found_is (queue_of w.clients.pending n) t.header.cxid (txn_number t) write
+      (reply_is w.clients t n write (due_is w place err t at (Reply n write) is))
+
+  pub write_is_at : OldestWriteIsAt (queue_of w.clients.pending n) write.place
+  write_is_at = found.0
+
+  -- The write is answered, and then what waited only for it.
+  pub one_write : (seen : Look) → seen ≡ write_look w.replica.tree write.kind t.body err
+      → answer_applied_txn w place err ≡ and_then
+      (send_or_close n (with_pending w (remove_write w.clients.pending n))
+      (reply_frame t.header.cxid t.header.zxid seen)) (answer_front n)
+  one_write seen looks =
+      let answered : RequestQueue → Look → StepResult World =
+      λ (q : RequestQueue) (l : Look). and_then
+      (send_or_close n (with_pending w (put_queue w.clients.pending n q))
+      (reply_frame t.header.cxid t.header.zxid l)) (answer_front n) in
+      of_due w place err t at (Reply n write) is
+      ∙ ap (answered (after_answer (queue_of w.clients.pending n) t.header.cxid (txn_number t))) (sym looks)
+      ∙ ap (λ (q : RequestQueue). answered q seen) found.1

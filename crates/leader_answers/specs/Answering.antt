@@ -1,4 +1,5 @@
 -- What the leader's stream answers: connects, writes and syncs that wait, and the frames that are held until then.
+use Rattle.std.specs.List.{slice_get}
 use Rattle.std.specs.Prelude.{ℕ, zero, suc, ℤ, List, [], ◌∷◌, Option, Some, None, Result, Ok, Err, Bool, true, false, ◌||◌, length, nat_lt, if◌then◌else◌}
 use Rattle.values.specs.declared.fault.Fault.{Fault}
 use Rattle.txn_codec.specs.declared.txn.Txn.{Txn}
@@ -8,7 +9,6 @@ use Rattle.txn_codec.specs.Row.{session_change}
 use Rattle.txn_codec.specs.Kinds.{code_of, body_kind}
 use Rattle.quorum_packet.specs.declared.packet.QuorumPacket.{QuorumPacket}
 use Rattle.learner_sync.specs.Answers.{ping_reply, session_rows}
-use Rattle.replica.specs.Taking.{last_txn}
 use Rattle.sessions.specs.Sessions.{connection_of, ConnectResult, close_connection, give_session}
 use Rattle.client_records.specs.declared.codes.TheConstants.{OK}
 use Rattle.read_processor.specs.Look.{look_of_path, without_body}
@@ -19,16 +19,18 @@ use Rattle.client_frames.specs.declared.call.CallBody.TheVariants as calls
 use Rattle.client_frames.specs.Call.{call_in}
 use Rattle.write_replies.specs.Replies.{write_look}
 use Rattle.forwarding.specs.declared.request.WriteKind.{WriteKind}
+use Rattle.forwarding.specs.declared.request.AnsweredWrite.{AnsweredWrite}
 use Rattle.forwarding.specs.declared.request.PendingConnect.{PendingConnect}
 use Rattle.forwarding.specs.declared.request.Ready.{Ready}
 use Rattle.forwarding.specs.declared.request.Ready.TheVariants.{SettledSync, HeldFrame}
 use Rattle.forwarding.specs.declared.request.Settled.{Settled}
 use Rattle.forwarding.specs.declared.request.Settled.TheVariants.{NoSync, Gone, Of}
-use Rattle.forwarding.specs.Queue.{pending_limit, answered_write}
+use Rattle.forwarding.specs.Queue.{pending_limit, found_write}
 use Rattle.forwarding.specs.Pending.{queue_of, is_full, take_ready, answer_write, pending_close, settle_sync, take_connect, connecting_to, take_touched}
-use Rattle.client_service.specs.World.{Clients, World}
-use Rattle.client_service.specs.Steps.{StepResult, no_output, and_then, fold_steps}
-use Rattle.client_service.specs.Serve.{to_leader, close_client, send_or_close, send_last, send_reply, with_sessions, with_pending, answer_connect, handle_local, serve_as, client_frame_limit, is_unheard}
+use Rattle.world.specs.World.{Clients, World}
+use Rattle.world.specs.Steps.{StepResult, no_output, and_then, fold_steps}
+use Rattle.world.specs.Sending.{to_leader, close_client, send_or_close, send_last, send_reply, with_sessions, with_pending}
+use Rattle.client_service.specs.Serve.{answer_connect, handle_local, serve_as, client_frame_limit, is_unheard}
 use Rattle.leader_answers.specs.declared.due.Due.{Due}
 use Rattle.leader_answers.specs.declared.due.Due.TheVariants.{Nothing, Admission, Ending, Reply}
 
@@ -79,21 +81,21 @@ abbrev pub ending_of : Option ℕ → Due
 ending_of None = Nothing
 ending_of (Some n) = Ending n
 
-abbrev pub reply_as : ℕ → Option WriteKind → Due
+abbrev pub reply_as : ℕ → Option AnsweredWrite → Due
 reply_as n None = Nothing
-reply_as n (Some kind) = Reply n kind
+reply_as n (Some write) = Reply n write
 
 -- The oldest write of the connection that has the transaction's session is answered, if it is this one.
 abbrev pub reply_of : Clients → Txn → Option ℕ → Due
 reply_of c t None = Nothing
-reply_of c t (Some n) = reply_as n (answered_write (queue_of c.pending n) t.header.cxid (txn_number t))
+reply_of c t (Some n) = reply_as n (found_write (queue_of c.pending n) t.header.cxid (txn_number t))
 
 abbrev pub due_by : Clients → Txn → SessionChange → Due
 due_by c t (changes.Begins time_out) = admission_of (connecting_to c.pending t.header.client_id)
 due_by c t changes.Ends = ending_of (connection_of c.sessions t.header.client_id)
 due_by c t changes.Nothing = reply_of c t (connection_of c.sessions t.header.client_id)
 
--- What the transaction brings to a client here.
+-- What the transaction brings to a client here. Neither the tree nor the watches matter for that.
 abbrev pub answer_due : Clients → Txn → Due
 answer_due c t = due_by c t (session_change t.body)
 
@@ -101,9 +103,9 @@ abbrev pub is_due : Due → Bool
 is_due Nothing = false
 is_due (Admission n) = true
 is_due (Ending n) = true
-is_due (Reply n kind) = true
+is_due (Reply n write) = true
 
--- Whether the transaction answers a client. Neither the tree nor the watches matter for that.
+-- Whether the transaction answers a client.
 abbrev pub lets_answer : Clients → Txn → Bool
 lets_answer c t = is_due (answer_due c t)
 
@@ -156,19 +158,28 @@ abbrev pub give_answer : World → Txn → ℤ → Due → StepResult World
 give_answer w t err Nothing = no_output w
 give_answer w t err (Admission n) = admit_client n w
 give_answer w t err (Ending n) = close_ended n w t.header.zxid (pending_close w.clients.pending n)
-give_answer w t err (Reply n kind) = answer_write_as n w t err kind
+give_answer w t err (Reply n write) = answer_write_as n w t err write.kind
 
 -- A transaction that was applied, with this error, answers the client that it concerns.
 abbrev pub answer_txn : World → Txn → ℤ → StepResult World
 answer_txn w t err = give_answer w t err (answer_due w.clients t)
 
+-- What the transaction brings, if there is one.
+abbrev pub due_of : Clients → Option Txn → Due
+due_of c None = Nothing
+due_of c (Some t) = answer_due c t
+
+-- What the transaction at this place of the log brings.
+abbrev pub due_in_log : World → ℕ → Due
+due_in_log w place = due_of w.clients (slice_get w.replica.learner.log place)
+
 abbrev pub answer_optional_txn : World → ℤ → Option Txn → StepResult World
 answer_optional_txn w err None = no_output w
 answer_optional_txn w err (Some t) = answer_txn w t err
 
--- The newest transaction of the log was applied, with this error.
-abbrev pub answer_last_txn : World → ℤ → StepResult World
-answer_last_txn w err = answer_optional_txn w err (last_txn w.replica.learner.log)
+-- The transaction at this place of the log was applied, with this error.
+abbrev pub answer_applied_txn : World → ℕ → ℤ → StepResult World
+answer_applied_txn w place err = answer_optional_txn w err (slice_get w.replica.learner.log place)
 
 -- ---- a sync
 

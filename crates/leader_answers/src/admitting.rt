@@ -1,39 +1,35 @@
 //! A transaction that creates a session that a connection waits for.
-//!
-//! Laws of `observer_core` that go over this: `Agreeing`, `Apart`, `Closing`, `GivenIds`, `Joined`, `Leaderless`,
-//! `Served`, `Taking`, `Unmoved`.
 
-ghost use Rattle.std.specs.Prelude.{◌≡◌, IfOk, OnOk};
-ghost use Rattle.client_service.specs.Steps.{fold_steps};
+ghost use Rattle.std.specs.Prelude.{◌≡◌, Some, IfOk, OnOk};
+ghost use Rattle.world.specs.Steps.{fold_steps};
 ghost use Rattle.forwarding.specs.Pending.{take_connect};
 ghost use Rattle.sessions.specs.Sessions.{close_connection, give_session};
-ghost use Rattle.client_service.specs.Serve.{with_sessions, with_pending, is_unheard};
-ghost use Rattle.client_service.specs.Results.{MeetsStep};
-ghost use Rattle.leader_answers.specs.Answering.{serve_next, admit_with, admit_client};
+ghost use Rattle.world.specs.Sending.{with_sessions, with_pending};
+ghost use Rattle.client_service.specs.Serve.{is_unheard};
+ghost use Rattle.leader_answers.specs.Answering.{serve_next, admit_as, admit_client};
+ghost use Rattle.world.specs.Results.{MakesStep};
 
-use client_service::{CLIENT_FRAME_LIMIT, Output, World, answer_connect, close_client, serve_call};
+use client_service::{CLIENT_FRAME_LIMIT, answer_connect, serve_call};
 use forwarding::{PendingConnect, TakenConnect};
 use sessions::Connected;
 use std::alloc::Global;
 use values::{Blob, NoMemory};
+use world::{Stage, World};
 
 // Serves a frame that was held until its connection had a session.
 fn serve_next(
     alloc: Global,
     number: u64,
     session: i64,
-    world: &mut World,
+    stage: &mut Stage,
     frame: &[u8],
-    outputs: &mut Vec<Output>,
 ) -> Result<(), NoMemory>
-    ensures { MeetsStep result outputs.old.items
-        (serve_next number session world.old frame.now)
-        outputs.new.items world.new }
+    ensures { MakesStep result stage.old (λ w. serve_next number session w frame.now) stage.new }
 {
-    if world.clients.pending.is_full(number) || (CLIENT_FRAME_LIMIT as usize) < frame.len() {
-        return close_client(number, world, outputs);
+    if stage.world.clients.pending.is_full(number) || (CLIENT_FRAME_LIMIT as usize) < frame.len() {
+        return stage.close_client(number);
     }
-    serve_call(alloc, number, session, world, frame, outputs)
+    serve_call(alloc, number, session, stage, frame)
 }
 
 // Serves the frames that were held, in order, as long as the connection is heard.
@@ -41,19 +37,18 @@ fn serve_frames(
     alloc: Global,
     number: u64,
     session: i64,
-    world: &mut World,
+    stage: &mut Stage,
     frames: &[Blob],
-    outputs: &mut Vec<Output>,
 ) -> Result<(), NoMemory>
-    ensures { MeetsStep result outputs.old.items
-        (fold_steps (is_unheard number) (serve_next number session) world.old frames.now)
-        outputs.new.items world.new }
+    ensures { MakesStep result stage.old
+        (λ w. fold_steps (is_unheard number) (serve_next number session) w frames.now)
+        stage.new }
 {
     for frame in frames {
-        if !world.clients.is_heard(number) {
+        if !stage.world.clients.is_heard(number) {
             return Ok(());
         }
-        serve_next(alloc, number, session, world, frame.as_slice(), outputs)?;
+        serve_next(alloc, number, session, stage, frame.as_slice())?;
     }
     Ok(())
 }
@@ -92,56 +87,33 @@ fn give_session(
 }
 
 // Admits the client of a connect: it gets the session and is answered, and then the frames are served that were held.
+#[tactic(auto, using(world::proofs::Steps::then_meets, world::proofs::Steps::first_stops))]
 fn admit(
     alloc: Global,
     number: u64,
-    world: &mut World,
+    stage: &mut Stage,
     connect: &PendingConnect,
     frames: &[Blob],
-    outputs: &mut Vec<Output>,
 ) -> Result<(), NoMemory>
-    ensures { let left = close_connection world.old.clients.sessions number in
-        MeetsStep result outputs.old.items
-        (admit_with number world.old connect.now frames.now
-        (give_session left number connect.now.session connect.now.time_out))
-        outputs.new.items world.new }
+    ensures { MakesStep result stage.old
+        (λ w. admit_as number w frames.now (Some connect.now))
+        stage.new }
 {
-    let connected = give_session(alloc, number, world, connect)?;
-    answer_connect(
-        alloc,
-        number,
-        connect.has_read_only,
-        world,
-        &connected,
-        outputs,
-    )?;
-    serve_frames(alloc, number, connect.session, world, frames, outputs)
+    let connected = give_session(alloc, number, &mut stage.world, connect)?;
+    answer_connect(alloc, number, connect.has_read_only, stage, &connected)?;
+    serve_frames(alloc, number, connect.session, stage, frames)
 }
 
 /// The session that the connection waits for was created: the client is answered, and then the frames are served that
 /// were held until then.
 ///
 /// Fails only if an allocation is refused; then a prefix of the outputs has been appended.
-pub(crate) fn admit_client(
-    alloc: Global,
-    number: u64,
-    world: &mut World,
-    outputs: &mut Vec<Output>,
-) -> Result<(), NoMemory>
-    ensures { MeetsStep result outputs.old.items
-        (admit_client number world.old)
-        outputs.new.items world.new }
+pub(crate) fn admit_client(alloc: Global, number: u64, stage: &mut Stage) -> Result<(), NoMemory>
+    ensures { MakesStep result stage.old (admit_client number) stage.new }
 {
-    let taken = take_connect(alloc, number, world)?;
+    let taken = take_connect(alloc, number, &mut stage.world)?;
     match &taken.connect {
         None => Ok(()),
-        Some(connect) => admit(
-            alloc,
-            number,
-            world,
-            connect,
-            taken.frames.as_slice(),
-            outputs,
-        ),
+        Some(connect) => admit(alloc, number, stage, connect, taken.frames.as_slice()),
     }
 }

@@ -1,11 +1,11 @@
 //! Whom a transaction answers.
 
 ghost use Rattle.std.specs.Prelude.{◌≡◌};
-ghost use Rattle.leader_answers.specs.Answering.{answer_due, reply_of, lets_answer};
+ghost use Rattle.leader_answers.specs.Answering.{is_due, answer_due, reply_of};
 
-use client_service::Clients;
-use forwarding::WriteKind;
+use forwarding::AnsweredWrite;
 use txn_codec::{SessionChange, Txn};
+use world::Clients;
 
 /// What a transaction that was applied brings to a client of this observer.
 #[derive(Clone, Copy)]
@@ -15,8 +15,17 @@ pub enum Due {
     Admission(u64),
     /// The session of this connection has ended.
     Ending(u64),
-    /// The oldest write of this connection, of this kind, is answered.
-    Reply(u64, WriteKind),
+    /// The oldest write of this connection is answered.
+    Reply(u64, AnsweredWrite),
+}
+
+impl Due {
+    /// Whether a client is answered.
+    pub fn answers(self) -> bool
+        ensures { result ≡ is_due self }
+    {
+        !matches!(self, Due::Nothing)
+    }
 }
 
 // The answer to the oldest write of the connection that has the transaction's session, if it is this one.
@@ -32,11 +41,11 @@ fn reply_of(clients: &Clients, txn: &Txn, connection: Option<u64>) -> Due
         .answered_write(number, txn.header.cxid, kind)
     {
         None => return Due::Nothing,
-        Some(kind) => Due::Reply(number, kind),
+        Some(write) => Due::Reply(number, write),
     }
 }
 
-/// What the transaction brings to a client here, once it is applied.
+/// What the transaction brings to a client here, once it is applied. Neither the tree nor the watches matter for that.
 pub fn answer_due(clients: &Clients, txn: &Txn) -> Due
     ensures { result ≡ answer_due clients.now txn.now }
 {
@@ -52,11 +61,4 @@ pub fn answer_due(clients: &Clients, txn: &Txn) -> Due
         },
         SessionChange::Nothing => reply_of(clients, txn, clients.sessions.connection(session)),
     }
-}
-
-/// Whether the transaction answers a client. Neither the tree nor the watches matter for that.
-pub fn lets_answer(clients: &Clients, txn: &Txn) -> bool
-    ensures { result ≡ lets_answer clients.now txn.now }
-{
-    !matches!(answer_due(clients, txn), Due::Nothing)
 }

@@ -4,7 +4,7 @@
 //! (`client_service`); `forwarding` knows what waits. When the leader's stream brings what they wait for, the client is
 //! answered, as specs/Answering defines.
 //!
-//! [`answer_due`] says whom an applied transaction answers, and how ([`Due`]), and [`answer_last_txn`] does it. A
+//! [`due_in_log`] says once whom an applied transaction answers, and how ([`Due`]), and [`answer_applied_txn`] does it. A
 //! createSession admits the connection that waits for the session: it gets the session and the answer to its connect,
 //! and then the frames are served that were held until then. A closeSession answers the closeSession that waits, and
 //! closes the connection of the session. Any other transaction answers the oldest write of the connection that has its
@@ -12,15 +12,16 @@
 //! answered request, and waits for nothing else, is answered next. [`answer_ping`] tells the leader which sessions'
 //! clients were heard.
 //!
-//! The caller says what the leader's stream has brought, once the replica has taken it. Each function gives a step, as
-//! those of `client_service` do.
+//! The caller says what the leader's stream has brought, once the replica has taken it. Each function makes a step on a
+//! stage (`world`), as those of `client_service` do.
 //!
 //! ```text
-//! // the replica has applied a transaction, with this error
-//! answer_last_txn(alloc, &mut world, error, &mut outputs)?; // appends Output::ToClient(7, reply), for one that waited
+//! // the replica has applied the transaction at this place of its log, with this error
+//! let due = due_in_log(&stage.world, place);
+//! answer_applied_txn(alloc, &mut stage, place, due, error)?;  // Output::ToClient(7, reply), for one that waited
 //! // the leader has done a sync, and then it asks who was heard
-//! answer_sync(alloc, &mut world, &mut outputs)?;
-//! answer_ping(alloc, &mut world, ping, &mut outputs)?;        // appends Output::ToLeader(answer)
+//! answer_sync(alloc, &mut stage)?;
+//! answer_ping(alloc, &mut stage, ping)?;                      // appends Output::ToLeader(answer)
 //! ```
 #![tactic(auto)]
 
@@ -33,7 +34,7 @@ mod syncing;
 mod txn;
 mod writing;
 
-pub use due::{Due, answer_due, lets_answer};
+pub use due::Due;
 pub use pinging::answer_ping;
 pub use syncing::answer_sync;
-pub use txn::answer_last_txn;
+pub use txn::{answer_applied_txn, due_in_log};

@@ -4,16 +4,16 @@ ghost use Rattle.std.specs.Prelude.{◌≡◌, ◌<◌, ◌^◌, length, IfOk, O
 ghost use Rattle.forwarding.specs.Pending.{take_touched};
 ghost use Rattle.learner_sync.specs.Answers.{session_rows};
 ghost use Rattle.replica.specs.Taking.{IsAnswerable};
-ghost use Rattle.client_service.specs.Serve.{with_pending};
-ghost use Rattle.client_service.specs.Results.{MeetsStep};
+ghost use Rattle.world.specs.Sending.{with_pending};
 ghost use Rattle.leader_answers.specs.Answering.{answer_ping};
+ghost use Rattle.world.specs.Results.{MakesStep};
 
-use client_service::{Output, World, send_to_leader};
 use learner_sync::{ping_answer, session_table};
 use quorum_packet::QuorumPacket;
 use replica::LeaderNews;
 use std::alloc::Global;
 use values::{Blob, NoMemory};
+use world::{Stage, World, send_to_leader};
 
 // Takes the sessions that were touched and live, as the table of a PING's answer.
 fn take_table(alloc: Global, world: &mut World) -> Result<Blob, NoMemory>
@@ -31,18 +31,11 @@ fn take_table(alloc: Global, world: &mut World) -> Result<Blob, NoMemory>
 /// Answers a PING with the sessions whose clients were heard since the last one, each with its timeout.
 ///
 /// Fails only if an allocation is refused; then a prefix of the outputs has been appended.
-pub fn answer_ping(
-    alloc: Global,
-    world: &mut World,
-    ping: QuorumPacket,
-    outputs: &mut Vec<Output>,
-) -> Result<(), NoMemory>
+pub fn answer_ping(alloc: Global, stage: &mut Stage, ping: QuorumPacket) -> Result<(), NoMemory>
     requires { IsAnswerable (Some (LeaderNews.Ping ping)) }
-    ensures { MeetsStep result outputs.old.items
-        (answer_ping world.old ping)
-        outputs.new.items world.new }
+    ensures { MakesStep result stage.old (λ w. answer_ping w ping) stage.new }
 {
-    let table = take_table(alloc, world)?;
+    let table = take_table(alloc, &mut stage.world)?;
     let answer = ping_answer(ping, table);
-    send_to_leader(alloc, &answer, outputs)
+    send_to_leader(alloc, &answer, &mut stage.outputs)
 }

@@ -1,43 +1,31 @@
 //! The requests in front of a connection's that wait for nothing any more.
-//!
-//! Laws of `observer_core` that go over this: `Agreeing`, `Closing`, `GivenIds`, `Joined`, `Leaderless`, `Served`,
-//! `Taking`, `Unmoved`.
 
 ghost use Rattle.std.specs.Prelude.{◌≡◌};
 ghost use Rattle.client_frames.specs.Call.{call_in};
 ghost use Rattle.forwarding.specs.Pending.{take_ready};
-ghost use Rattle.client_service.specs.Serve.{with_pending};
-ghost use Rattle.client_service.specs.Results.{MeetsStep};
+ghost use Rattle.world.specs.Sending.{with_pending};
 ghost use Rattle.leader_answers.specs.Answering.{serve_held, answer_ready, answer_front};
+ghost use Rattle.world.specs.Results.{MakesStep};
 
 use client_frames::{CallBody, read_call};
-use client_service::{Output, World, answer_local, close_client, send_reply};
+use client_service::answer_local;
 use forwarding::{PENDING_LIMIT, Ready};
 use read_processor::Look;
 use std::alloc::Global;
 use values::{NoMemory, ReadError};
+use world::{Stage, World};
 
 // Answers a frame that was held. Only requests that this server answers are held.
-fn serve_held(
-    alloc: Global,
-    number: u64,
-    world: &mut World,
-    frame: &[u8],
-    outputs: &mut Vec<Output>,
-) -> Result<(), NoMemory>
-    ensures { MeetsStep result outputs.old.items
-        (serve_held number world.old (call_in frame.now))
-        outputs.new.items world.new }
+fn serve_held(alloc: Global, number: u64, stage: &mut Stage, frame: &[u8]) -> Result<(), NoMemory>
+    ensures { MakesStep result stage.old (λ w. serve_held number w (call_in frame.now)) stage.new }
 {
     match read_call(alloc, frame) {
         Ok(call) => match &call.body {
-            CallBody::Local(asked) => {
-                answer_local(alloc, number, world, call.xid, asked, outputs)
-            }
+            CallBody::Local(asked) => answer_local(alloc, number, stage, call.xid, asked),
             CallBody::Forward(_) | CallBody::Sync(_) | CallBody::Auth(_) => Ok(()),
         },
         Err(ReadError::NoMemory) => Err(NoMemory),
-        Err(ReadError::Fault(_)) => close_client(number, world, outputs),
+        Err(ReadError::Fault(_)) => stage.close_client(number),
     }
 }
 
@@ -45,20 +33,17 @@ fn serve_held(
 fn answer_ready(
     alloc: Global,
     number: u64,
-    world: &mut World,
+    stage: &mut Stage,
     ready: &Ready,
-    outputs: &mut Vec<Output>,
 ) -> Result<(), NoMemory>
-    ensures { MeetsStep result outputs.old.items
-        (answer_ready number world.old ready.now)
-        outputs.new.items world.new }
+    ensures { MakesStep result stage.old (λ w. answer_ready number w ready.now) stage.new }
 {
     match ready {
         Ready::SettledSync { xid, path } => {
             let seen = Look::of_path(alloc, path.as_str())?;
-            send_reply(number, world, *xid, seen, outputs)
+            stage.send_reply(number, *xid, seen)
         }
-        Ready::HeldFrame(frame) => serve_held(alloc, number, world, frame.as_slice(), outputs),
+        Ready::HeldFrame(frame) => serve_held(alloc, number, stage, frame.as_slice()),
     }
 }
 
@@ -74,21 +59,14 @@ fn take_ready(number: u64, world: &mut World) -> Option<Ready>
 /// Answers the connection's requests whose turn has come.
 ///
 /// Fails only if an allocation is refused; then a prefix of the outputs has been appended.
-pub(crate) fn answer_front(
-    alloc: Global,
-    number: u64,
-    world: &mut World,
-    outputs: &mut Vec<Output>,
-) -> Result<(), NoMemory>
-    ensures { MeetsStep result outputs.old.items
-        (answer_front number world.old)
-        outputs.new.items world.new }
+pub(crate) fn answer_front(alloc: Global, number: u64, stage: &mut Stage) -> Result<(), NoMemory>
+    ensures { MakesStep result stage.old (answer_front number) stage.new }
 {
     for _ in 0..PENDING_LIMIT {
-        let Some(ready) = take_ready(number, world) else {
+        let Some(ready) = take_ready(number, &mut stage.world) else {
             return Ok(());
         };
-        answer_ready(alloc, number, world, &ready, outputs)?;
+        answer_ready(alloc, number, stage, &ready)?;
     }
     Ok(())
 }

@@ -1,74 +1,67 @@
 //! What an applied transaction answers.
-//!
-//! Laws of `observer_core` that go over this: `Agreeing`, `Closing`, `GivenIds`, `Joined`, `Leaderless`, `Served`,
-//! `Taking`, `Unmoved`.
 
 ghost use Rattle.std.specs.Prelude.{◌≡◌};
+ghost use Rattle.std.specs.List.{slice_get};
 ghost use Rattle.std.specs.Option.{option_copied};
-ghost use Rattle.replica.specs.Taking.{last_txn};
-ghost use Rattle.client_service.specs.Results.{MeetsStep};
-ghost use Rattle.leader_answers.specs.Answering.{txn_number, answer_due, answer_last_txn};
+ghost use Rattle.leader_answers.specs.Answering.{due_in_log, answer_applied_txn};
+ghost use Rattle.world.specs.Results.{MakesStep};
 
 use crate::admitting::admit_client;
 use crate::due::{Due, answer_due};
 use crate::ending::close_ended;
 use crate::writing::{answer_write, reply_to_write};
-use client_service::{Output, World};
 use std::alloc::Global;
 use txn_codec::Txn;
 use values::NoMemory;
+use world::{Stage, World};
 
-// The newest transaction of the log.
-fn last_txn(world: &World) -> Option<&Txn>
-    ensures { option_copied result ≡ last_txn world.now.replica.learner.log }
+// The transaction at this place of the log.
+fn txn_at(world: &World, place: usize) -> Option<&Txn>
+    ensures { option_copied result ≡ slice_get world.now.replica.learner.log place }
 {
-    world.replica.learner().since_base().last()
+    world.replica.learner().since_base().get(place)
 }
 
-// What the transaction brings to a client.
-fn due_in(world: &World, txn: &Txn) -> Due
-    ensures { result ≡ answer_due world.now.clients txn.now }
+/// What the transaction at this place of the log brings to a client, once it is applied. Nothing if the log has none
+/// there.
+pub fn due_in_log(world: &World, place: usize) -> Due
+    ensures { result ≡ due_in_log world.now place }
 {
-    answer_due(&world.clients, txn)
+    match txn_at(world, place) {
+        None => Due::Nothing,
+        Some(txn) => answer_due(&world.clients, txn),
+    }
 }
 
-// The type of the transaction, as a number.
-fn txn_number(txn: &Txn) -> i32
-    ensures { result ≡ txn_number txn.now }
-{
-    txn.body.kind().code()
-}
-
-/// The newest transaction of the log was applied, with ZooKeeper's error code of it, 0 for success. If it admits a
-/// client, ends the session of one or was made of a write that waits here, that client is answered, and so are its
-/// later requests up to the next that waits for the leader.
+/// The transaction at this place of the log was applied, with ZooKeeper's error code of it, 0 for success, and brings
+/// `due`. If it admits a client, ends the session of one or was made of a write that waits here, that client is
+/// answered, and so are its later requests up to the next that waits for the leader.
 ///
 /// Fails only if an allocation is refused; then a prefix of the outputs has been appended.
-pub fn answer_last_txn(
+pub fn answer_applied_txn(
     alloc: Global,
-    world: &mut World,
+    stage: &mut Stage,
+    place: usize,
+    due: Due,
     error: i32,
-    outputs: &mut Vec<Output>,
 ) -> Result<(), NoMemory>
-    ensures { MeetsStep result outputs.old.items
-        (answer_last_txn world.old error)
-        outputs.new.items world.new }
+    requires { due ≡ due_in_log stage.old.after place }
+    ensures { MakesStep result stage.old (λ w. answer_applied_txn w place error) stage.new }
 {
-    let Some(txn) = last_txn(world) else {
+    let Some(txn) = txn_at(&stage.world, place) else {
         return Ok(());
     };
-    match due_in(world, txn) {
+    match due {
         Due::Nothing => Ok(()),
-        Due::Admission(number) => admit_client(alloc, number, world, outputs),
+        Due::Admission(number) => admit_client(alloc, number, stage),
         Due::Ending(number) => {
             let header = txn.header;
-            close_ended(alloc, number, world, header.zxid, outputs)
+            close_ended(alloc, number, stage, header.zxid)
         }
-        Due::Reply(number, kind) => {
+        Due::Reply(number, write) => {
             let header = txn.header;
-            let txn_kind = txn_number(txn);
-            let seen = reply_to_write(alloc, world, kind, txn, error)?;
-            answer_write(alloc, number, world, header, txn_kind, seen, outputs)
+            let seen = reply_to_write(alloc, &stage.world, write.kind, txn, error)?;
+            answer_write(alloc, number, stage, write.place, header, seen)
         }
     }
 }

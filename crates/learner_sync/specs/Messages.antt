@@ -1,17 +1,13 @@
 -- What a leader's packet means to an observer.
-use Rattle.std.specs.Prelude.{ℕ, List, [], Option, Some, None}
+use Rattle.std.specs.Prelude.{Option, Some}
 use Rattle.quorum_packet.specs.declared.packet.QuorumPacket.{QuorumPacket}
 use Rattle.quorum_packet.specs.declared.kind.PacketKind.{PacketKind}
 use Rattle.quorum_packet.specs.declared.kind.PacketKind.TheVariants as kinds
 use Rattle.quorum_packet.specs.Kinds.{kind_of}
+use Rattle.quorum_packet.specs.Packet.{carried_bytes}
 use Rattle.learner_sync.specs.Zxids.{epoch_of}
 use Rattle.learner_sync.specs.declared.message.Message.{Message}
 use Rattle.learner_sync.specs.declared.message.Message.TheVariants.{LeaderInfo, Diff, Trunc, Snap, Proposal, Commit, Inform, NewLeader, UpToDate, Ping, Sync, Other}
-
--- The data of a packet; null reads as empty.
-abbrev pub carried_bytes : Option (List ℕ) → List ℕ
-carried_bytes None = []
-carried_bytes (Some bytes) = bytes
 
 -- The message of a packet of this kind. Its data is carried as it is; whoever takes the message decodes it.
 abbrev pub message_of_kind : Option PacketKind → QuorumPacket → Message

@@ -47,15 +47,15 @@ impl Learner {
     pub(crate) fn hello(
         &mut self,
         alloc: Global,
-        message: Message,
+        message: Message<'_>,
     ) -> Result<Listed<Act>, ReadError>
-        ensures { LearnsItem result (message_in_hello self.old message) self.old self.new }
+        ensures { LearnsItem result (message_in_hello self.old message.entry) self.old self.new }
     {
         match message {
             Message::LeaderInfo { epoch, bytes } => {
                 self.leader_info(alloc, epoch, bytes.as_slice())
             }
-            _ => Err(ReadError::Fault(Fault::UnexpectedPacket)),
+            _other => Err(ReadError::Fault(Fault::UnexpectedPacket)),
         }
     }
 
@@ -87,8 +87,12 @@ impl Learner {
     }
 
     /// Takes a message that says how the leader brings the learner up to date: DIFF, TRUNC or SNAP.
-    pub(crate) fn sync(&mut self, alloc: Global, message: Message) -> Result<Listed<Act>, ReadError>
-        ensures { LearnsItem result (message_in_sync self.old message) self.old self.new }
+    pub(crate) fn sync(
+        &mut self,
+        alloc: Global,
+        message: Message<'_>,
+    ) -> Result<Listed<Act>, ReadError>
+        ensures { LearnsItem result (message_in_sync self.old message.entry) self.old self.new }
     {
         match message {
             Message::Diff => {

@@ -117,9 +117,9 @@ impl Learner {
     pub(crate) fn replay(
         &mut self,
         alloc: Global,
-        message: Message,
+        message: Message<'_>,
     ) -> Result<Listed<Act>, ReadError>
-        ensures { LearnsItem result (message_in_replay self.old message) self.old self.new }
+        ensures { LearnsItem result (message_in_replay self.old message.entry) self.old self.new }
     {
         match message {
             Message::Proposal(bytes) => self.propose(alloc, bytes.as_slice()),
@@ -127,11 +127,11 @@ impl Learner {
             Message::Inform(bytes) => self.inform(alloc, bytes.as_slice()),
             Message::NewLeader => self.new_leader(alloc),
             Message::UpToDate => self.up_to_date(alloc),
+            Message::Ping(_ping) => Ok(empty_act_list(alloc)),
             Message::LeaderInfo { .. }
             | Message::Diff
             | Message::Trunc(_)
             | Message::Snap(_)
-            | Message::Ping(_)
             | Message::Sync
             | Message::Other => Ok(empty_act_list(alloc)),
         }
@@ -141,12 +141,15 @@ impl Learner {
     pub(crate) fn serve(
         &mut self,
         alloc: Global,
-        message: Message,
+        message: Message<'_>,
     ) -> Result<Listed<Act>, ReadError>
-        ensures { LearnsItem result (message_in_serving self.old message) self.old self.new }
+        ensures { LearnsItem result (message_in_serving self.old message.entry) self.old self.new }
     {
         match message {
-            Message::Ping(packet) => Ok(act_list(alloc, Act::AnswerPing(packet))?),
+            Message::Ping(packet) => Ok(act_list(
+                alloc,
+                Act::AnswerPing(packet.into_owned(alloc)?),
+            )?),
             Message::Sync => Ok(act_list(alloc, Act::SettleSync)?),
             Message::Inform(bytes) => self.inform(alloc, bytes.as_slice()),
             Message::LeaderInfo { .. }

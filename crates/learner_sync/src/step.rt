@@ -3,6 +3,7 @@
 //! Laws that go over this: `Acts`, `Each`, `Epochs`, `Images`, `Logs`, `Serving`.
 
 ghost use Rattle.std.specs.Prelude.{◌≡◌, IfOk, Ok};
+ghost use Rattle.quorum_packet.specs.Lending.{owned_item};
 ghost use Rattle.learner_sync.specs.Learn.{LearnsItem, message_in_phase, part_in_phase, load_part, acts_to_drop, learn_item};
 
 use crate::act::Act;
@@ -10,7 +11,7 @@ use crate::answers::{act_list, empty_act_list};
 use crate::learner::Learner;
 use crate::message::{Message, message_of_packet};
 use crate::phase::Phase;
-use quorum_packet::Item;
+use quorum_packet::LentItem;
 use snapshot_codec::ImagePart;
 use std::alloc::Global;
 use values::{Fault, Listed, NoMemory, ReadError};
@@ -42,8 +43,12 @@ impl Learner {
         Ok(acts)
     }
 
-    fn step_message(&mut self, alloc: Global, message: Message) -> Result<Listed<Act>, ReadError>
-        ensures { LearnsItem result (message_in_phase self.old.phase self.old message) self.old self.new }
+    fn step_message(
+        &mut self,
+        alloc: Global,
+        message: Message<'_>,
+    ) -> Result<Listed<Act>, ReadError>
+        ensures { LearnsItem result (message_in_phase self.old.phase self.old message.entry) self.old self.new }
     {
         match self.phase {
             Phase::Down => Ok(empty_act_list(alloc)),
@@ -72,12 +77,12 @@ impl Learner {
     /// The faults are those of the learner's rules, `UnexpectedPacket`, `EpochTooSmall`, `CannotTruncate`, `OutOfOrder`
     /// and `CommitMismatch`, and those of the data that a packet carries. A refused item or a refused allocation leaves
     /// the learner as it was.
-    pub fn step(&mut self, alloc: Global, item: Item) -> Result<Listed<Act>, ReadError>
-        ensures { LearnsItem result (learn_item self.old item) self.old self.new }
+    pub fn step(&mut self, alloc: Global, item: LentItem<'_>) -> Result<Listed<Act>, ReadError>
+        ensures { LearnsItem result (learn_item self.old (owned_item item.entry)) self.old self.new }
     {
         match item {
-            Item::Packet(packet) => self.step_message(alloc, message_of_packet(alloc, packet)),
-            Item::Part(part) => self.step_part(alloc, part),
+            LentItem::Packet(packet) => self.step_message(alloc, message_of_packet(packet)),
+            LentItem::Part(part) => self.step_part(alloc, part),
         }
     }
 }

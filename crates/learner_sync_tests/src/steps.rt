@@ -2,10 +2,10 @@
 
 use jute::{put_int, put_long};
 use learner_sync::{Act, Learner};
-use quorum_packet::{Item, PacketKind, QuorumPacket};
+use quorum_packet::{Item, LentItem, Packet, PacketKind, QuorumPacket};
 use settings::{Epochs, ServerId};
 use std::alloc::Global;
-use values::{Blob, Fault, Listed, NoMemory, ReadError};
+use values::{Blob, Bytes, Fault, Listed, NoMemory, ReadError};
 
 /// The zxid with this counter in epoch 1.
 pub fn at(counter: u32) -> i64 {
@@ -61,9 +61,21 @@ pub fn sends(acts: &Listed<Act>, count: usize, kind: i32, zxid: i64, bytes: Opti
     false
 }
 
+// The packet, without its ids, lent.
+fn lend(packet: &QuorumPacket) -> LentItem<'_> {
+    let bytes = match &packet.bytes {
+        None => None,
+        Some(bytes) => Some(Bytes::new(bytes.as_slice())),
+    };
+    LentItem::Packet(Packet::new(packet.kind, packet.zxid, bytes, None))
+}
+
 /// The acts of the item. It has no contract, so that a test's proof is short.
 pub fn follow(alloc: Global, learner: &mut Learner, item: Item) -> Result<Listed<Act>, ReadError> {
-    learner.step(alloc, item)
+    match item {
+        Item::Packet(packet) => learner.step(alloc, lend(&packet)),
+        Item::Part(part) => learner.step(alloc, LentItem::Part(part)),
+    }
 }
 
 /// The acts of a leader that connects.
@@ -94,7 +106,7 @@ pub enum Seen {
 
 // The learner's result for the item.
 fn see(alloc: Global, learner: &mut Learner, item: Item) -> Result<Seen, NoMemory> {
-    let acts = match learner.step(alloc, item) {
+    let acts = match follow(alloc, learner, item) {
         Ok(acts) => acts,
         Err(ReadError::NoMemory) => return Err(NoMemory),
         Err(ReadError::Fault(fault)) => return Ok(Seen::Refused(fault)),

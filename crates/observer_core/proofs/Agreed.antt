@@ -18,12 +18,13 @@ use Rattle.replica.specs.Taking.{ItemEffect}
 use Rattle.watch_manager.specs.Pairs.{watch_cmp}
 use Rattle.watch_manager.specs.Watches.{fire}
 use Rattle.watch_manager.specs.Laws.{AllPass, AllLastingPass}
-use Rattle.client_service.specs.declared.world.Settings.{Settings}
-use Rattle.client_service.specs.World.{OpenConnection, World}
-use Rattle.client_service.specs.Steps.{no_output}
-use Rattle.client_service.specs.Clients.{idle_connection, is_open, with_connection, no_clients, heard_connection}
-use Rattle.client_service.specs.Serve.{with_sessions, with_pending, close_client_if_some, take_client_bytes}
-use Rattle.client_service.proofs.NatMaps.{get-inserted}
+use Rattle.world.specs.declared.world.Settings.{Settings}
+use Rattle.world.specs.World.{OpenConnection, World}
+use Rattle.world.specs.Steps.{no_output}
+use Rattle.world.specs.Clients.{idle_connection, is_open, with_connection, no_clients, heard_connection}
+use Rattle.world.specs.Sending.{with_sessions, with_pending, close_client_if_some}
+use Rattle.client_service.specs.Serve.{take_client_bytes}
+use Rattle.world.proofs.NatMaps.{get-inserted}
 use Rattle.leader_answers.specs.Answering.{answer_ping}
 use Rattle.observer_core.specs.Leader.{tell_effect, send_effect, disconnect_all}
 use Rattle.observer_core.specs.Play.{is_serving_clients, primed_session, primed_machine}

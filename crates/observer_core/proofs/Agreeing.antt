@@ -24,9 +24,10 @@ use Rattle.forwarding.specs.Laws.{PendingAgreementIsKept}
 use Rattle.watch_manager.specs.Pairs.{same_connection}
 use Rattle.watch_manager.specs.Watching.{WatchTables}
 use Rattle.watch_manager.specs.Laws.{WatchersPass, OnlyWatchersAreTold, DroppedWatchesNothing}
-use Rattle.client_service.specs.World.{OpenConnection, Clients, World}
-use Rattle.client_service.specs.Clients.{is_open, with_connection, without_client, without_clients}
-use Rattle.client_service.specs.Serve.{with_watches, with_watch, with_sessions, with_pending, close_client_if_some}
+use Rattle.world.specs.World.{OpenConnection, Clients, World}
+use Rattle.world.specs.Clients.{is_open, with_connection, without_client, without_clients}
+use Rattle.world.specs.Sending.{with_watches, with_sessions, with_pending, close_client_if_some}
+use Rattle.client_service.specs.Serve.{with_watch}
 use Rattle.observer_core.specs.Agreement.{ClientsAgree, OneSessionEach}
 use Rattle.observer_core.proofs.Walking.{IsOpen, HasNone, NoConnect, IsGround, given, asked_for}
 use Rattle.observer_core.proofs.Answered.{unqueued}

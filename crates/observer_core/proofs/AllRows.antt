@@ -12,18 +12,18 @@ use Rattle.sessions.specs.Sessions.{session_in, session_of_connection}
 use Rattle.four_letter.specs.Words.{word_of}
 use Rattle.four_letter.specs.declared.word.Word.{Word}
 use Rattle.watch_manager.specs.Rows.{WorkedRows as FiringRows}
-use Rattle.client_service.specs.declared.world.Settings.{Settings}
+use Rattle.world.specs.declared.world.Settings.{Settings}
 use Rattle.observer_core.specs.declared.event.Event.TheVariants.{ClientUp, ClientBytes}
-use Rattle.client_service.specs.declared.output.Output.{Output}
-use Rattle.client_service.specs.declared.output.Output.TheVariants.{ToClient, CloseClient}
-use Rattle.client_service.specs.World.{OpenConnection, World}
+use Rattle.world.specs.declared.output.Output.{Output}
+use Rattle.world.specs.declared.output.Output.TheVariants.{ToClient, CloseClient}
+use Rattle.world.specs.World.{OpenConnection, World}
 use Rattle.observer_core.specs.Machine.{Machine}
-use Rattle.client_service.specs.Steps.{StepResult, prepend_outputs}
-use Rattle.client_service.specs.Clients.{idle_connection, heard_in, heard_connection, with_connection}
+use Rattle.world.specs.Steps.{StepResult, prepend_outputs}
+use Rattle.world.specs.Clients.{idle_connection, heard_in, heard_connection, with_connection}
 use Rattle.client_service.specs.Serve.{word_without_session, with_waiting_bytes, frames_of_client, tell_or_serve, take_client_bytes}
 use Rattle.observer_core.specs.Play.{is_serving_clients, play, new_machine, primed_machine}
 use Rattle.observer_core.specs.Rows.{reply_of_create, set_data_inform_event, get_data_event, WorkedRows}
-use Rattle.client_service.proofs.NatMaps.{get-inserted}
+use Rattle.world.proofs.NatMaps.{get-inserted}
 use Rattle.observer_core.proofs.Rows.{ReadAgain, NobodyTold, start, idle_at, heard, world_at, at_frames, in_hand, left_at, first_open}
 use Rattle.observer_core.proofs.WatchRows.{create_get, set_get, cut_get, create_twice, closed_passes, watch_told, idle_is}
 use Rattle.observer_core.proofs.ForwardedRows.{create_answered, error_answered, sync_answers}

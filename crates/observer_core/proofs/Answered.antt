@@ -1,5 +1,5 @@
 -- What a connection's small steps keep, the answers that the leader's stream brings keep.
-use Rattle.std.proofs.Common.{◌≡◌, ℕ, zero, suc, ℤ, Bool, true, false, ◌||◌, List, [], ◌∷◌, length, Option, Some, None, Result, Ok, Err, refl, sym, ap, ◌∙◌}
+use Rattle.std.proofs.Common.{◌≡◌, ℕ, zero, suc, ℤ, Bool, true, false, ◌||◌, List, [], ◌∷◌, length, slice_get, Option, Some, None, Result, Ok, Err, refl, sym, ap, ◌∙◌}
 use Rattle.std.specs.Prelude.{is_some, nat_lt}
 use Rattle.std.specs.Ordering.{int_cmp}
 use Rattle.std.proofs.lemmas.Bool.{cond_both}
@@ -26,13 +26,13 @@ use Rattle.read_processor.specs.Look.{look_of_path, without_body}
 use Rattle.read_processor.specs.Reply.{reply_frame}
 use Rattle.replica.specs.declared.item_outcome.LeaderNews.{LeaderNews}
 use Rattle.replica.specs.declared.item_outcome.LeaderNews.TheVariants as news
-use Rattle.replica.specs.Taking.{last_txn}
 use Rattle.sessions.specs.State.{SessionTable as Sessions, ConnectedClient}
 use Rattle.sessions.specs.Sessions.{close_as, close_connection, give_session}
-use Rattle.client_service.specs.World.{World}
-use Rattle.client_service.specs.Steps.{StepResult, no_output, and_then, fold_steps}
-use Rattle.client_service.specs.Serve.{send_or_close, send_connect_response, with_sessions, with_pending, client_frame_limit, is_unheard}
-use Rattle.client_service.proofs.NatMaps.{get-removed}
+use Rattle.world.specs.World.{World}
+use Rattle.world.specs.Steps.{StepResult, no_output, and_then, fold_steps}
+use Rattle.world.specs.Sending.{send_or_close, with_sessions, with_pending}
+use Rattle.client_service.specs.Serve.{send_connect_response, client_frame_limit, is_unheard}
+use Rattle.world.proofs.NatMaps.{get-removed}
 use Rattle.leader_answers.specs.declared.due.Due.{Due}
 use Rattle.leader_answers.specs.declared.due.Due.TheVariants as dues
 use Rattle.leader_answers.specs.Answering.{handle_held, serve_held, answer_ready, answer_if_ready, answer_up_to, answer_front, txn_number, answer_due, answer_write_as, serve_next, admit_as, admit_client, close_ended, give_answer, answer_txn, answer_optional_txn, answer_settled, answer_sync, answer_ping}
@@ -246,15 +246,15 @@ module _ (Strict : Type 0) (A : World → Type 0) (Q : Steps) (s : HoldsOfAll St
       (s.connects n).gives (s.answer_ground n) (s.answers n).drops w (λ connect e. (tt, tt)) a
   due_makes w t err (dues.Ending n) a =
       ended_makes n Strict A Q (s.ground n) (s.replies n) w t.header.zxid (pending_close w.clients.pending n) a
-  due_makes w t err (dues.Reply n kind) a =
-      write_makes n Strict A Q (s.ground n) (s.replies n) (s.answer_ground n) (s.answers n) w t err kind a
+  due_makes w t err (dues.Reply n write) a =
+      write_makes n Strict A Q (s.ground n) (s.replies n) (s.answer_ground n) (s.answers n) w t err write.kind a
 
   pub txn_makes : (w : World) (t : Txn) (err : ℤ) → A w → Makes A Q w (answer_txn w t err)
   txn_makes w t err a = due_makes w t err (answer_due w.clients t) a
 
-  last_makes : (w : World) (err : ℤ) (o : Option Txn) → A w → Makes A Q w (answer_optional_txn w err o)
-  last_makes w err None a = nothing_makes w a
-  last_makes w err (Some t) a = txn_makes w t err a
+  optional_makes : (w : World) (err : ℤ) (o : Option Txn) → A w → Makes A Q w (answer_optional_txn w err o)
+  optional_makes w err None a = nothing_makes w a
+  optional_makes w err (Some t) a = txn_makes w t err a
 
   sync_makes : (w : World) → A w → Makes A Q w (answer_sync w)
   sync_makes w a = then_makes 0 Strict A Q (s.ground 0) (s.replies 0) w (no_output v) (λ u. answer_settled u settled)
@@ -275,5 +275,5 @@ module _ (Strict : Type 0) (A : World → Type 0) (Q : Steps) (s : HoldsOfAll St
   news_make None w a = nothing_makes w a
   news_make (Some (news.Ping ping)) w a =
       record { keeps = s.tells_ground w w.replica.tree.sessions a; is = s.tells w ping a }
-  news_make (Some (news.Applied err)) w a = last_makes w err (last_txn w.replica.learner.log) a
+  news_make (Some (news.Applied place err)) w a = optional_makes w err (slice_get w.replica.learner.log place) a
   news_make (Some news.SyncSettled) w a = sync_makes w a

@@ -18,14 +18,15 @@ use Rattle.forwarding.specs.Laws.{Stays, OtherQueuesStay}
 use Rattle.read_processor.specs.declared.watch.Watch.{Watch}
 use Rattle.read_processor.specs.declared.watch.Watch.TheVariants as tables
 use Rattle.client_frames.specs.declared.call.Call.{Call}
-use Rattle.client_service.specs.declared.output.Output.{Output}
-use Rattle.client_service.specs.declared.output.Output.TheVariants.{ToLeader, ToClient, CloseLeader, CloseClient}
-use Rattle.client_service.specs.World.{OpenConnection, Clients, World}
-use Rattle.client_service.specs.Steps.{StepResult, no_output, and_then}
-use Rattle.client_service.specs.Clients.{idle_connection, is_open, with_connection, without_client}
-use Rattle.client_service.specs.Serve.{close_client, with_watch, with_watches, with_sessions, touched_as, close_client_if_some, send_connect_response, with_pending, forward_frame, serve_as, with_waiting_bytes, wait_if_heard, open_client, end_client}
+use Rattle.world.specs.declared.output.Output.{Output}
+use Rattle.world.specs.declared.output.Output.TheVariants.{ToLeader, ToClient, CloseLeader, CloseClient}
+use Rattle.world.specs.World.{OpenConnection, Clients, World}
+use Rattle.world.specs.Steps.{StepResult, no_output, and_then}
+use Rattle.world.specs.Clients.{idle_connection, is_open, with_connection, without_client}
+use Rattle.world.specs.Sending.{close_client, with_watches, with_sessions, close_client_if_some, with_pending}
+use Rattle.client_service.specs.Serve.{with_watch, touched_as, send_connect_response, forward_frame, serve_as, with_waiting_bytes, wait_if_heard, open_client, end_client}
 use Rattle.observer_core.specs.Apart.{ConcernsOnly, IsUntouched, IsApart}
-use Rattle.client_service.proofs.NatMaps.{get-kept, get-beside}
+use Rattle.world.proofs.NatMaps.{get-kept, get-beside}
 use Rattle.observer_core.proofs.Walking.{HoldsOfReplies, HoldsOfCalls, given, asked_for, serve_as_makes, greet_makes}
 use Rattle.observer_core.proofs.Answered.{unqueued, HoldsOfAnswers}
 use Rattle.observer_core.proofs.Plain.{Always, plain_ground}

@@ -25,12 +25,13 @@ use Rattle.client_frames.specs.Call.{call_in}
 use Rattle.client_frames.specs.Connect.{connecting_in, session_request_of}
 use Rattle.four_letter.specs.Texts.{reply_text}
 use Rattle.four_letter.specs.declared.word.Word.{Word}
-use Rattle.client_service.specs.World.{OpenConnection, Clients, World}
-use Rattle.client_service.specs.Steps.{StepResult, no_output, and_then, fold_steps}
-use Rattle.client_service.specs.Clients.{is_open, heard_connection, without_client}
-use Rattle.client_service.specs.Serve.{close_client, send_last, with_sessions, touched_as, close_client_if_some, send_connect_response, ask_for_session, is_new_session, finish_connect, may_connect, is_live, handle_connect, with_pending, serve_by, header_len, is_refused_frame, serve_frame, figures_of, word_at, is_unheard, with_waiting_bytes, wait_if_heard, wait_at, frames_of_client, tell_or_serve, take_client_bytes}
+use Rattle.world.specs.World.{OpenConnection, Clients, World}
+use Rattle.world.specs.Steps.{StepResult, no_output, and_then, fold_steps}
+use Rattle.world.specs.Clients.{is_open, heard_connection, without_client}
+use Rattle.world.specs.Sending.{close_client, send_last, with_sessions, close_client_if_some, with_pending}
+use Rattle.client_service.specs.Serve.{touched_as, send_connect_response, ask_for_session, is_new_session, finish_connect, may_connect, is_live, handle_connect, serve_by, header_len, is_refused_frame, serve_frame, figures_of, word_at, is_unheard, with_waiting_bytes, wait_if_heard, wait_at, frames_of_client, tell_or_serve, take_client_bytes}
 use Rattle.observer_core.specs.Apart.{WaitsForSession, IsSessionOf, IsTakenUp, IsApart}
-use Rattle.client_service.proofs.NatMaps.{get-inserted}
+use Rattle.world.proofs.NatMaps.{get-inserted}
 use Rattle.observer_core.proofs.Walking.{given, first_false, first_true, idle_queue, heard_there, heard_open, send_last_makes}
 use Rattle.observer_core.proofs.Answered.{closed_has_none}
 use Rattle.observer_core.proofs.Plain.{Always, plain_ground}

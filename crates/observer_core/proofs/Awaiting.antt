@@ -1,5 +1,5 @@
 -- What waits of each connection is nothing, or begins with a request that only the leader can answer: after every event.
-use Rattle.std.proofs.Common.{◌≡◌, ◌≢◌, ◌⊎◌, inl, inr, ℕ, zero, suc, ◌≤◌, ℤ, Bool, true, false, cond, not, List, [], ◌∷◌, ◌++◌, length, drop, Option, Some, None, refl, sym, ap, subst, ◌∙◌, arith}
+use Rattle.std.proofs.Common.{◌≡◌, ◌≢◌, ◌⊎◌, inl, inr, ℕ, zero, suc, ◌≤◌, ℤ, Bool, true, false, cond, not, List, [], ◌∷◌, ◌++◌, length, drop, slice_get, Option, Some, None, refl, sym, ap, subst, ◌∙◌, arith}
 use Rattle.std.specs.Prelude.{is_some}
 use Rattle.std.specs.Ordering.{eq_by_cmp, nat_cmp}
 use Rattle.std.specs.Cmp.{nat_cmp_total}
@@ -9,7 +9,6 @@ use Rattle.std.proofs.lemmas.Map.Views.{tells_apart}
 use Rattle.std.specs.FinMap as finmap
 use mathlib.Core.Bool.{true≢false}
 use Rattle.txn_codec.specs.declared.txn.Txn.{Txn}
-use Rattle.replica.specs.Taking.{last_txn}
 use Rattle.replica.specs.declared.item_outcome.LeaderNews.{LeaderNews}
 use Rattle.replica.specs.declared.item_outcome.LeaderNews.TheVariants as news
 use Rattle.sessions.specs.Sessions.{give_session}
@@ -23,9 +22,10 @@ use Rattle.forwarding.specs.Pending.{nothing_pending, queue_in, queue_of, put_qu
 use Rattle.forwarding.specs.Agreement.{PendingAgrees}
 use Rattle.forwarding.specs.Laws.{WaitsForLeader}
 use Rattle.read_processor.specs.Reply.{reply_frame}
-use Rattle.client_service.specs.World.{World}
-use Rattle.client_service.specs.Clients.{heard_connection, without_client}
-use Rattle.client_service.specs.Serve.{send_or_close, with_sessions, with_pending, close_client_if_some, take_client_bytes}
+use Rattle.world.specs.World.{World}
+use Rattle.world.specs.Clients.{heard_connection, without_client}
+use Rattle.world.specs.Sending.{send_or_close, with_sessions, with_pending, close_client_if_some}
+use Rattle.client_service.specs.Serve.{take_client_bytes}
 use Rattle.leader_answers.specs.declared.due.Due.{Due}
 use Rattle.leader_answers.specs.declared.due.Due.TheVariants as dues
 use Rattle.leader_answers.specs.Answering.{answer_ready, answer_if_ready, answer_up_to, answer_front, txn_number, answer_due, answer_write_as, admit_client, give_answer, answer_optional_txn, answer_settled}
@@ -33,7 +33,7 @@ use Rattle.write_replies.specs.Replies.{write_look}
 use Rattle.observer_core.specs.Leader.{tell_effect, answer_news}
 use Rattle.observer_core.specs.Play.{is_serving_clients}
 use Rattle.observer_core.specs.Agreement.{OnlyLeaderIsAwaited, NothingWaitsInVain}
-use Rattle.client_service.proofs.NatMaps.{same_key}
+use Rattle.world.proofs.NatMaps.{same_key}
 use Rattle.observer_core.proofs.Walking.{Steps, next_id, HoldsOfReplies, HoldsOfCalls, HoldsOfConnects, client_makes}
 use Rattle.observer_core.proofs.Answered.{unqueued, ready_makes, ended_makes, admit_makes}
 use Rattle.observer_core.proofs.Plain.{Always, plain_ground}
@@ -318,12 +318,12 @@ module _ (laws : LowerLaws) (waits : (s : PendingTable) (n : ℕ) → (take_read
   due_awaits w t err (dues.Ending n) agrees a =
       (ended_makes n (Unit {0}) Agreeing KeepsAwaiting (agreeing_ground laws n) (replies_await n) w t.header.zxid
       (pending_close w.clients.pending n) agrees).is a
-  due_awaits w t err (dues.Reply n kind) agrees a = write_awaits n w t err kind agrees a
+  due_awaits w t err (dues.Reply n write) agrees a = write_awaits n w t err write.kind agrees a
 
-  last_awaits : (w : World) (err : ℤ) (o : Option Txn) → Agreeing w → OnlyLeaderIsAwaited w
+  optional_awaits : (w : World) (err : ℤ) (o : Option Txn) → Agreeing w → OnlyLeaderIsAwaited w
       → OnlyLeaderIsAwaited (answer_optional_txn w err o).after
-  last_awaits w err None agrees a = a
-  last_awaits w err (Some t) agrees a = due_awaits w t err (answer_due w.clients t) agrees a
+  optional_awaits w err None agrees a = a
+  optional_awaits w err (Some t) agrees a = due_awaits w t err (answer_due w.clients t) agrees a
 
   settled_awaits : (w : World) (syncs : List (Option ℕ))
       → PendingAgrees (settle_first w.clients.pending syncs).after → OnlyLeaderIsAwaited w
@@ -340,7 +340,8 @@ module _ (laws : LowerLaws) (waits : (s : PendingTable) (n : ℕ) → (take_read
       → OnlyLeaderIsAwaited (answer_news o w).after
   news_awaits None w agrees a = a
   news_awaits (Some (news.Ping ping)) w agrees a = a
-  news_awaits (Some (news.Applied err)) w agrees a = last_awaits w err (last_txn w.replica.learner.log) agrees a
+  news_awaits (Some (news.Applied place err)) w agrees a =
+      optional_awaits w err (slice_get w.replica.learner.log place) agrees a
   news_awaits (Some news.SyncSettled) w agrees a =
       settled_awaits w w.clients.pending.syncs (laws.queued.settles w.clients.pending agrees.pending) a
 

@@ -11,7 +11,7 @@ use Rattle.values.specs.declared.fault.ReadError.TheVariants as errors
 use Rattle.values.specs.Gains.{Gains, Puts}
 use Rattle.values.proofs.Gaining.{gains_first}
 use Rattle.jute.specs.Format.{◌>>=◌}
-use Rattle.jute.specs.Stream.{Place, Items, with_first}
+use Rattle.jute.specs.Stream.{Items, with_first}
 use Rattle.txn_codec.specs.declared.txn.Txn.{Txn}
 use Rattle.data_tree.specs.State.{State}
 use Rattle.data_tree.specs.Meaning.{effect_of_txn, answer_of, state_after, outcomes_of_txns}
@@ -26,20 +26,21 @@ use Rattle.replica.specs.declared.item_outcome.LeaderNews.{LeaderNews}
 use Rattle.replica.specs.declared.item_outcome.LeaderNews.TheVariants as news
 use Rattle.leader_answers.specs.declared.due.Due.{Due}
 use Rattle.leader_answers.specs.declared.due.Due.TheVariants.{Nothing, Admission, Ending, Reply}
-use Rattle.leader_answers.specs.Answering.{answer_due, is_due, lets_answer, give_answer, answer_txn, answer_optional_txn, answer_last_txn}
+use Rattle.leader_answers.specs.Answering.{answer_due, is_due, lets_answer, give_answer, due_of, due_in_log, answer_txn, answer_optional_txn, answer_applied_txn}
+use Rattle.replica.proofs.Following.{last-push}
 use Rattle.replica.specs.Gathering.{optional_txn, IsGathered, Gathers}
 use Rattle.watch_manager.specs.declared.event.Event.{Event}
 use Rattle.watch_manager.specs.Watching.{WatchTables}
 use Rattle.watch_manager.specs.Watches.{fire}
-use Rattle.client_service.specs.declared.output.Output.{Output}
-use Rattle.client_service.specs.World.{Clients, World}
-use Rattle.client_service.specs.Steps.{StepResult, prepend_outputs, no_output, and_then}
-use Rattle.client_service.specs.Clients.{notices_of}
-use Rattle.client_service.specs.Results.{MeetsStep}
-use Rattle.client_service.proofs.Steps.{SoFar, begins, same_left, steps, stops, stops_in_step, last_step, behind_behind, happening_on, then_meets}
+use Rattle.world.specs.declared.output.Output.{Output}
+use Rattle.world.specs.World.{Clients, World}
+use Rattle.world.specs.Steps.{StepResult, prepend_outputs, no_output, and_then}
+use Rattle.world.specs.Clients.{notices_of}
+use Rattle.world.specs.Results.{MeetsStep}
+use Rattle.world.proofs.Steps.{SoFar, begins, same_left, steps, stops, stops_in_step, last_step, behind_behind, happening_on, then_meets}
 use Rattle.observer_core.specs.Leader.{WorldAndLoading, StreamProgress, answer_news, step_with_loading, send_effect, item_step, take_items}
 use Rattle.observer_core.specs.Gathering.{tell_outcome, tell_outcomes, apply_and_tell, apply_in_turn}
-use Rattle.observer_core.specs.Inner.{ReceivesItem, take_items_after, gained_answers, answer_outcome, last_outcome, tell_and_answer, settle_and_answer, TakesNextItem}
+use Rattle.observer_core.specs.Inner.{ReceivesItem, take_items_after, answer_outcome, last_outcome, tell_and_answer, settle_and_answer, TakesNextItem}
 use Rattle.observer_core.proofs.Delivering.{quietly, taken_first, refused_first}
 
 -- ---- a list of transactions
@@ -94,43 +95,29 @@ settled (Err e) old new w txns left outcomes clients tree answers gains =
 abbrev with_told_clients : World → StepResult Clients → StepResult World
 with_told_clients w told = record { outputs = told.outputs; after = record w { clients = told.after } }
 
-pub told_answered : (r : Result (Unit {0}) NoMemory) (old mid new : List Output) (w : World) (outcomes : List Outcome)
-    (clients : Clients) (last : Option Outcome) (after : World)
+pub told_answered : (r : Result (Unit {0}) NoMemory) (old mid new : List Output) (w : World) (place : ℕ)
+    (outcomes : List Outcome) (clients : Clients) (last : Option Outcome) (after : World)
     → MeetsStep (Ok tt) old (tell_outcomes w.clients outcomes) mid clients → last ≡ last_outcome outcomes
-    → MeetsStep r mid (answer_outcome last (record w { clients = clients })) new after
-    → MeetsStep r old (tell_and_answer w outcomes) new after
-told_answered r old mid new w outcomes clients last after told is m =
+    → MeetsStep r mid (answer_outcome place last (record w { clients = clients })) new after
+    → MeetsStep r old (tell_and_answer w place outcomes) new after
+told_answered r old mid new w place outcomes clients last after told is m =
+    let left : World = record w { clients = clients } in
     then_meets r old mid new (with_told_clients w (tell_outcomes w.clients outcomes))
-    (answer_outcome (last_outcome outcomes)) (record w { clients = clients }) after (ap (with_told_clients w) told)
-    (subst (λ (o : Option Outcome). MeetsStep r mid (answer_outcome o (record w { clients = clients })) new after) is m)
-
-pub told_unanswered : (old new : List Output) (w : World) (outcomes : List Outcome) (clients : Clients)
-    → MeetsStep (Ok tt) old (tell_outcomes w.clients outcomes) new clients → None ≡ last_outcome outcomes
-    → MeetsStep (Ok tt) old (tell_and_answer w outcomes) new (record w { clients = clients })
-told_unanswered old new w outcomes clients told is =
-    let after : World = record w { clients = clients } in
-    told_answered (Ok tt) old new new w outcomes clients None after told is
-    (ap (λ (o : List Output). record { outputs = o; after = after }) (append-nil new))
-
--- An allocation was refused while the watchers were told.
-pub told_stops : (old new : List Output) (w : World) (outcomes : List Outcome)
-    → Gains old (tell_outcomes w.clients outcomes).outputs new → Gains old (tell_and_answer w outcomes).outputs new
-told_stops old new w outcomes gains =
-    let told = with_told_clients w (tell_outcomes w.clients outcomes) in
-    gains_first (answer_outcome (last_outcome outcomes) told.after).outputs gains
+    (answer_outcome place (last_outcome outcomes)) left after (ap (with_told_clients w) told)
+    (subst (λ (o : Option Outcome). MeetsStep r mid (answer_outcome place o left) new after) is m)
 
 -- All were applied, their watchers were told, and the last was answered.
-pub applied_answered : (r : Result (Unit {0}) NoMemory) (old new : List Output) (w : World) (txns : List Txn)
-    (left : Replica) (outcomes : List Outcome) (after : World)
+pub applied_answered : (r : Result (Unit {0}) NoMemory) (old new : List Output) (w : World) (place : ℕ)
+    (txns : List Txn) (left : Replica) (outcomes : List Outcome) (after : World)
     → left ≡ record w.replica { tree = state_after w.replica.tree txns }
     → outcomes ≡ outcomes_of_txns w.replica.tree txns
-    → MeetsStep r old (tell_and_answer (record w { replica = left }) outcomes) new after
-    → MeetsStep r old (settle_and_answer w txns) new after
-applied_answered r old new w txns left outcomes after tree answers m =
+    → MeetsStep r old (tell_and_answer (record w { replica = left }) place outcomes) new after
+    → MeetsStep r old (settle_and_answer w place txns) new after
+applied_answered r old new w place txns left outcomes after tree answers m =
     subst (λ (h : StepResult World). MeetsStep r old h new after)
     (sym (ap (λ (h : StepResult World). and_then h
-    (answer_outcome (last_outcome (outcomes_of_txns w.replica.tree txns)))) (in_turn w txns)
-    ∙ (λ i. tell_and_answer (record w { replica = sym tree i }) (sym answers i))))
+    (answer_outcome place (last_outcome (outcomes_of_txns w.replica.tree txns)))) (in_turn w txns)
+    ∙ (λ i. tell_and_answer (record w { replica = sym tree i }) place (sym answers i))))
     m
 
 -- It leaves all but the tree and the clients, and doesn't ask what the learner knows.
@@ -147,17 +134,33 @@ keeps_clients : (txns : List Txn) (w : World)
 keeps_clients [] w = refl
 keeps_clients (t ∷ txns) w = keeps_clients txns (apply_and_tell w t).after
 
--- Whom a transaction answers doesn't depend on the watches.
-answers_kept : (c : Clients) (watches : WatchTables) (gained : Option Txn)
-    → gained_answers (record c { watches = watches }) gained ≡ gained_answers c gained
-answers_kept c watches None = refl
-answers_kept c watches (Some t) = refl
+-- Telling watchers leaves all of the clients but the watches.
+told_keeps : (outcomes : List Outcome) (c : Clients)
+    → (tell_outcomes c outcomes).after ≡ record c { watches = (tell_outcomes c outcomes).after.watches }
+told_keeps [] c = refl
+told_keeps (o ∷ outcomes) c = told_keeps outcomes (tell_outcome c o).after
+
+-- What a transaction brings doesn't depend on the watches.
+due_kept : (c : Clients) (watches : WatchTables) (gained : Option Txn)
+    → due_of (record c { watches = watches }) gained ≡ due_of c gained
+due_kept c watches None = refl
+due_kept c watches (Some t) = refl
+
+pub told_due : (old new : List Output) (c after : Clients) (outcomes : List Outcome) (gained : Option Txn)
+    → MeetsStep (Ok tt) old (tell_outcomes c outcomes) new after → due_of after gained ≡ due_of c gained
+told_due old new c after outcomes gained told =
+    ap (λ (k : Clients). due_of k gained) (sym (ap (λ (h : StepResult Clients). h.after) told) ∙ told_keeps outcomes c)
+    ∙ due_kept c (tell_outcomes c outcomes).after.watches gained
+
+-- Whether the transaction that the log has gained, if it has gained one, answers a client.
+abbrev gained_answers : Clients → Option Txn → Bool
+gained_answers c gained = is_due (due_of c gained)
 
 still_answers : (txns : List Txn) (w : World) (gained : Option Txn)
     → gained_answers (apply_in_turn w txns).after.clients gained ≡ gained_answers w.clients gained
 still_answers txns w gained =
     ap (λ (c : Clients). gained_answers c gained) (keeps_clients txns w)
-    ∙ answers_kept w.clients (apply_in_turn w txns).after.clients.watches gained
+    ∙ ap is_due (due_kept w.clients (apply_in_turn w txns).after.clients.watches gained)
 
 abbrev with_learner_in : World → Learner → World
 with_learner_in w l = record w { replica = record w.replica { learner = l } }
@@ -177,21 +180,6 @@ gained_at [] None = refl
 gained_at [] (Some t) = refl
 gained_at (u ∷ log) gained = gained_at log gained
 
-last_gained : (log : List Txn) (t : Txn) → last_txn (log ++ t ∷ []) ≡ Some t
-last_gained [] t = refl
-last_gained (u ∷ []) t = refl
-last_gained (u ∷ v ∷ log) t = last_gained (v ∷ log) t
-
-outcome_at : (outcomes : List Outcome) (o : Outcome) → slice_get (outcomes ++ o ∷ []) (length outcomes) ≡ Some o
-outcome_at [] o = refl
-outcome_at (p ∷ outcomes) o = outcome_at outcomes o
-
-last_pushed : (outcomes : List Outcome) (o : Outcome) → last_outcome (outcomes ++ o ∷ []) ≡ Some o
-last_pushed outcomes o =
-    let more : length (outcomes ++ o ∷ []) ≡ length outcomes + 1 = length-append outcomes (o ∷ []) in
-    let at : length (outcomes ++ o ∷ []) - 1 ≡ length outcomes = omega (arith, more) in
-    ap (slice_get (outcomes ++ o ∷ [])) at ∙ outcome_at outcomes o
-
 outcomes_on : (s : State) (txns : List Txn) (t : Txn)
     → outcomes_of_txns s (txns ++ t ∷ [])
     ≡ outcomes_of_txns s txns ++ answer_of (effect_of_txn (state_after s txns) t) ∷ []
@@ -206,7 +194,7 @@ last_applied : (w : World) (txns : List Txn) (t : Txn)
 last_applied w txns t =
     let s = w.replica.tree in
     ap last_outcome (outcomes_on s txns t)
-    ∙ last_pushed (outcomes_of_txns s txns) (answer_of (effect_of_txn (state_after s txns) t))
+    ∙ last-push (outcomes_of_txns s txns) (answer_of (effect_of_txn (state_after s txns) t))
     ∙ ap (λ (h : StepResult World). Some (answer_of (effect_of_txn h.after.replica.tree t))) (sym (in_turn w txns))
 
 -- A transaction that concerns no client has no answer.
@@ -217,7 +205,7 @@ no_answer w t err none = by (answer_due w.clients t) none
     by Nothing e = refl
     by (Admission n) e = absurd (true≢false e)
     by (Ending n) e = absurd (true≢false e)
-    by (Reply n kind) e = absurd (true≢false e)
+    by (Reply n write) e = absurd (true≢false e)
 
 -- ---- what is owed for items
 
@@ -247,7 +235,7 @@ module _ (loading : Loading) (l : Learner) (i : Item) where
   -- The news of the item, once those that wait are applied.
   abbrev news_of : World → Option Txn → Option LeaderNews
   news_of u None = None
-  news_of u (Some t) = Some (news.Applied (answer_of (effect_of_txn u.replica.tree t)).err)
+  news_of u (Some t) = Some (news.Applied (length l.log - 1) (answer_of (effect_of_txn u.replica.tree t)).err)
 
   abbrev applied_to : World → Option Txn → StepResult World
   applied_to u gained = apply_in_turn (with_learner_in u l) (optional_txn gained)
@@ -311,7 +299,7 @@ module _ (loading : Loading) (l : Learner) (i : Item) where
       let h = applied_to u (Some t) in
       let err = (answer_of (effect_of_txn u.replica.tree t)).err in
       ap (prepend_outputs h.outputs)
-      (ap (answer_optional_txn h.after err) (ap last_txn is ∙ last_gained log t) ∙ no_answer h.after t err none)
+      (ap (answer_optional_txn h.after err) (ap last_txn is ∙ last-push log t) ∙ no_answer h.after t err none)
       ∙ ap (λ (os : List Output). record { outputs = os; after = h.after }) (append-nil h.outputs)
 
   -- It may be taken after those that wait, and wait with them.
@@ -332,7 +320,7 @@ module _ (loading : Loading) (l : Learner) (i : Item) where
   -- Or it is applied with them, and answers its client.
   answers : (pending : List Txn) (w : World) (others : Items Phase Item) (t : Txn) → Defers w.replica (Some t)
       → owing pending loading w (with_first i others)
-      ≡ and_then (settle_and_answer (with_learner_in w l) (pending ++ t ∷ []))
+      ≡ and_then (settle_and_answer (with_learner_in w l) (length l.log - 1) (pending ++ t ∷ []))
       (λ v. take_items item_step (both loading v) others)
   answers pending w others t d =
       let owed = apply_in_turn w pending in
@@ -340,16 +328,18 @@ module _ (loading : Loading) (l : Learner) (i : Item) where
       let go : StepResult World → StepResult (StreamProgress Phase WorldAndLoading) =
       λ h. and_then h (λ (v : World). take_items item_step (both loading v) others) in
       let outcome = answer_of (effect_of_txn owed.after.replica.tree t) in
+      let place = length l.log - 1 in
       taken_after pending w (Some t) d others
-      ∙ ap go (behind_behind owed.outputs more.outputs (answer_last_txn more.after outcome.err)
-      ∙ ap (λ (h : StepResult World). and_then h (λ (v : World). answer_last_txn v outcome.err))
+      ∙ ap go (behind_behind owed.outputs more.outputs (answer_applied_txn more.after place outcome.err)
+      ∙ ap (λ (h : StepResult World). and_then h (λ (v : World). answer_applied_txn v place outcome.err))
       (applied_on pending w (Some t) d)
       ∙ ap (λ (o : Option Outcome). and_then (apply_in_turn (with_learner_in w l) (pending ++ t ∷ []))
-      (answer_outcome o)) (sym (last_applied w pending t)))
+      (answer_outcome place o)) (sym (last_applied w pending t)))
 
--- What waits is in the log after the first `done`.
-module _ (loading : Loading) (w : World) (i : Item) (s : Replica) (done : ℕ)
-    (within : done ≤ length w.replica.learner.log) (gathers : Gathers (Ok tt) i w.replica s) where
+-- What waits is in the log after the first `done`, and what it gains comes at this place.
+module _ (loading : Loading) (w : World) (i : Item) (s : Replica) (done place : ℕ)
+    (within : done ≤ length w.replica.learner.log) (at : place ≡ length w.replica.learner.log)
+    (gathers : Gathers (Ok tt) i w.replica s) where
   abbrev g : IsGathered w.replica i s.learner
   g = gathers.0
 
@@ -360,13 +350,11 @@ module _ (loading : Loading) (w : World) (i : Item) (s : Replica) (done : ℕ)
       omega (arith, more, within)
 
   -- The transaction that the log has gained.
-  gained_is : slice_get s.learner.log (length w.replica.learner.log) ≡ g.gained
-  gained_is =
-      ap (λ (log : List Txn). slice_get log (length w.replica.learner.log)) g.log
-      ∙ gained_at w.replica.learner.log g.gained
+  gained_is : slice_get s.learner.log place ≡ g.gained
+  gained_is = (λ j. slice_get (g.log j) (at j)) ∙ gained_at w.replica.learner.log g.gained
 
   abbrev Answers : Bool → Type 0
-  Answers b = gained_answers w.clients (slice_get s.learner.log (length w.replica.learner.log)) ≡ b
+  Answers b = is_due (due_in_log (record w { replica = s }) place) ≡ b
 
   waiting_now : (gained : Option Txn) → s.learner.log ≡ w.replica.learner.log ++ optional_txn gained
       → drop done s.learner.log ≡ drop done w.replica.learner.log ++ optional_txn gained
@@ -391,7 +379,7 @@ module _ (loading : Loading) (w : World) (i : Item) (s : Replica) (done : ℕ)
 
   -- The transaction answers a client, so that all are settled.
   abbrev settled_now : StepResult World
-  settled_now = settle_and_answer (record w { replica = s }) (drop done s.learner.log)
+  settled_now = settle_and_answer (record w { replica = s }) place (drop done s.learner.log)
 
   settles : Answers true → (others : Items Phase Item)
       → take_items_after done (both loading w) (with_first i others)
@@ -406,12 +394,14 @@ module _ (loading : Loading) (w : World) (i : Item) (s : Replica) (done : ℕ)
           ≡ and_then settled_now (λ v. take_items item_step (both loading v) others)
       by None d log none = absurd (true≢false (sym none))
       by (Some t) d log answers_it =
-          let go : Replica → List Txn → StepResult (StreamProgress Phase WorldAndLoading) =
-          λ r txns. and_then (settle_and_answer (record w { replica = r }) txns)
+          let go : Replica → ℕ → List Txn → StepResult (StreamProgress Phase WorldAndLoading) =
+          λ r place txns. and_then (settle_and_answer (record w { replica = r }) place txns)
           (λ (v : World). take_items item_step (both loading v) others) in
+          let len : length s.learner.log ≡ length w.replica.learner.log + 1 =
+          ap (λ (log : List Txn). length log) log ∙ length-append w.replica.learner.log (t ∷ []) in
+          let last : length s.learner.log - 1 ≡ place = omega (arith, len, at) in
           answers loading s.learner i (drop done w.replica.learner.log) w others t d
-          ∙ ap (go (record w.replica { learner = s.learner })) (sym (waiting_now (Some t) log))
-          ∙ ap (λ (r : Replica). go r (drop done s.learner.log)) (sym gathers.1)
+          ∙ (λ j. go (sym gathers.1 j) (last j) (sym (waiting_now (Some t) log) j))
 
   pub answered : Answers true → (old new : List Output) (after : World) (done-after : ℕ)
       → done-after ≡ length after.replica.learner.log → MeetsStep (Ok tt) old settled_now new after
@@ -463,17 +453,6 @@ module _ (loading : Loading) (w : World) (i : Item) (s : Replica) (done : ℕ) (
       ∙ ap (λ (h : StepResult World). prepend_outputs h.outputs (quietly (both loading h.after) (Err e))) made
       ∙ ap (λ (o : List Output). record { outputs = o; after = record { left = both loading after; place = Err e } })
       (append-nil new)
-
-  -- An allocation was refused while that was settled.
-  pub refused_stops : (old new : List Output) (loading-after : Loading) (after : World)
-      → Gains old (apply_in_turn (record w { replica = s }) (drop done s.learner.log)).outputs new
-      → TakesNextItem (Err errors.NoMemory) old done (both loading w) i new done (both loading-after after)
-  refused_stops old new loading-after after m others =
-      let here : World = record w { replica = s } in
-      let same : here ≡ w = ap (λ (r : Replica). record w { replica = r }) gathers.1 in
-      let gains : Gains old owed.outputs new =
-      subst (λ (v : World). Gains old (apply_in_turn v (drop done v.replica.learner.log)).outputs new) same m in
-      gains_first (take_items item_step (both loading owed.after) (with_first i others)).outputs gains
 
 -- ---- any other item
 
@@ -558,15 +537,6 @@ module _ (d : WorldAndLoading) (i : Item) (done : ℕ) (old mid : List Output) (
   failed_after new after done-after (errors.Fault e) received = rejected_after new after done-after e received
   failed_after new after done-after errors.NoMemory received = stops_after new after done-after received
 
--- An allocation was refused while what waited was settled.
-pub unsettled : (d : WorldAndLoading) (i : Item) (done : ℕ) (old new : List Output) (done-after : ℕ)
-    (after : WorldAndLoading)
-    → Gains old (apply_in_turn d.world (drop done d.world.replica.learner.log)).outputs new
-    → TakesNextItem (Err errors.NoMemory) old done d i new done-after after
-unsettled d i done old new done-after after gains others =
-    let owed = apply_in_turn d.world (drop done d.world.replica.learner.log) in
-    gains_first (take_items item_step (both d.loading owed.after) (with_first i others)).outputs gains
-
 -- ---- the loop over the items
 
 -- What a step of the loop leads on to.
@@ -582,24 +552,6 @@ module _ (old now : List Output) (whole : StepResult (StreamProgress Phase World
     (d : WorldAndLoading) (found : Items Phase Item) (s : SoFar old whole now (take_items_after done d found)) where
   abbrev waiting : StepResult World
   waiting = apply_in_turn d.world (drop done d.world.replica.learner.log)
-
-  -- What waited is settled, and no item is left.
-  pub settled_at_end : (new : List Output) (u : World) (place : Result (Place Phase) Fault)
-      → ((w : World) → take_items item_step (both d.loading w) found ≡ quietly (both d.loading w) place)
-      → MeetsStep (Ok tt) now waiting new u
-      → prepend_outputs old whole ≡ record { outputs = new; after = record { left = both d.loading u; place = place } }
-  settled_at_end new u place none made =
-      last_step old whole now new (take_items_after done d found) (record { left = both d.loading u; place = place })
-      (ap (prepend_outputs now) (ap (prepend_outputs waiting.outputs) (none waiting.after))
-      ∙ ap (λ (o : List Output). record {
-        outputs = now ++ o;
-        after = record { left = both d.loading waiting.after; place = place };
-      }) (append-nil waiting.outputs)
-      ∙ ap (λ (h : StepResult World). record {
-        outputs = h.outputs;
-        after = record { left = both d.loading h.after; place = place };
-      }) made)
-      s
 
   -- An allocation was refused while it was settled.
   pub unsettled_at_end : (new : List Output) → Gains now waiting.outputs new → Gains old whole.outputs new

@@ -8,10 +8,11 @@ use Rattle.std.proofs.lemmas.Map.Lookups.{exact_unsigned}
 use Rattle.std.proofs.lemmas.Map.Views.{tells_apart}
 use Rattle.std.specs.FinMap as finmap
 use Rattle.sessions.specs.Sessions.{give_session}
-use Rattle.client_service.specs.World.{OpenConnection, World}
-use Rattle.client_service.specs.Clients.{with_connection}
-use Rattle.client_service.specs.Serve.{close_client, with_sessions, close_client_if_some, serve_frame}
-use Rattle.client_service.proofs.NatMaps.{still_there}
+use Rattle.world.specs.World.{OpenConnection, World}
+use Rattle.world.specs.Clients.{with_connection}
+use Rattle.world.specs.Sending.{close_client, with_sessions, close_client_if_some}
+use Rattle.client_service.specs.Serve.{serve_frame}
+use Rattle.world.proofs.NatMaps.{still_there}
 use Rattle.observer_core.proofs.Walking.{Steps, HoldsOfReplies, HoldsOfCalls, HoldsOfConnects, serve_makes}
 use Rattle.observer_core.proofs.Plain.{Always, plain_ground}
 

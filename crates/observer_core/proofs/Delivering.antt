@@ -1,43 +1,36 @@
 -- The turns of the loops over the leader's packets and parts, and over the connections.
-use Rattle.std.proofs.Common.{append_assoc, map, ◌≡◌, ℕ, List, [], ◌∷◌, ◌++◌, false, Result, Ok, Err, Option, Some, None, refl, sym, ap, subst, ◌∙◌}
-use Rattle.std.specs.Prelude.{is_err}
+use Rattle.std.proofs.Common.{append_assoc, map, ◌≡◌, ℕ, List, [], ◌∷◌, ◌++◌, Result, Ok, Err, Some, refl, sym, ap, subst, ◌∙◌}
 use Rattle.std.specs.FinMap as finmap
 use Rattle.std.specs.List.{All, AllByRecursion}
 use Rattle.std.proofs.lemmas.List.Elements.{All-nil, All-cons}
-use mathlib.Core.Bool.{true≢false}
-use Rattle.std.proofs.lemmas.List.{append-nil}
 use Rattle.values.specs.declared.fault.Fault.{Fault}
 use Rattle.values.specs.declared.fault.NoMemory.{NoMemory}
 use Rattle.values.specs.declared.fault.ReadError.TheVariants as errors
 use Rattle.values.specs.Gains.{Gains, Puts}
-use Rattle.values.proofs.Gaining.{gains_nothing, gains_first, gains_behind}
-use Rattle.jute.specs.Stream.{Place, Items, Unread, with_first, no_items, with_more_bytes}
+use Rattle.values.proofs.Gaining.{gains_nothing, gains_behind}
+use Rattle.jute.specs.Stream.{Place, Items, with_first}
 use Rattle.quorum_packet.specs.declared.item.Item.{Item}
 use Rattle.quorum_packet.specs.declared.phase.Phase.{Phase}
-use Rattle.quorum_packet.specs.Items.{items_shown_at}
-use Rattle.client_service.specs.declared.output.Output.{Output}
-use Rattle.client_service.specs.declared.output.Output.TheVariants.{CloseLeader, CloseClient}
-use Rattle.client_service.specs.World.{OpenConnection, OpenConnections, Clients, World}
-use Rattle.observer_core.specs.Machine.{Leader, Machine}
-use Rattle.client_service.specs.Steps.{StepResult, prepend_outputs, no_output, and_then, fold_steps}
-use Rattle.client_service.specs.Clients.{without_client, close_clients, close_all_clients, notices_of}
-use Rattle.observer_core.specs.Leader.{WorldAndLoading, step_with_loading, send_effect, item_step, Delivery, delivery_of, deliver_item, is_refused, place_or_fault, place_after, StreamProgress, take_items, WorldAndLeader, leader_at, part_reader, with_leader, disconnect_all, with_leader_or_fault, take_leader_bytes}
-use Rattle.client_service.specs.Serve.{with_watches, to_leader}
-use Rattle.forwarding.specs.Pending.{nothing_pending}
+use Rattle.world.specs.declared.output.Output.{Output}
+use Rattle.world.specs.World.{OpenConnection, OpenConnections, Clients, World}
+use Rattle.world.specs.Steps.{StepResult, prepend_outputs, no_output, and_then, fold_steps}
+use Rattle.world.specs.Clients.{close_clients, close_all_clients, notices_of}
+use Rattle.observer_core.specs.Leader.{WorldAndLoading, step_with_loading, send_effect, item_step, Delivery, delivery_of, deliver_item, is_refused, place_after, StreamProgress, take_items}
+use Rattle.world.specs.Sending.{with_watches, to_leader}
 use Rattle.data_tree.specs.declared.outcome.Trigger.{Trigger}
 use Rattle.quorum_packet.specs.declared.packet.QuorumPacket.{QuorumPacket}
-use Rattle.observer_core.specs.Inner.{tell_all, send_outcome, ReceivesItem, DeliversItems, FollowsStream}
-use Rattle.client_service.specs.Results.{MeetsStep}
+use Rattle.observer_core.specs.Inner.{tell_all, send_outcome, ReceivesItem}
+use Rattle.world.specs.Results.{MeetsStep}
 use Rattle.jute.specs.Format.{◌>>=◌}
 use Rattle.snapshot_codec.specs.Made.{Loading}
 use Rattle.replica.specs.Replica.{Replica}
 use Rattle.replica.specs.declared.item_outcome.ItemOutcome.{ItemOutcome}
-use Rattle.replica.specs.Taking.{ItemEffect, TakesItem, take_item, without_leader}
+use Rattle.replica.specs.Taking.{ItemEffect, TakesItem, take_item}
 use Rattle.watch_manager.specs.declared.event.Event.{Event}
 use Rattle.watch_manager.specs.Watches.{fire}
 use Rattle.values.specs.declared.fault.ReadError.{ReadError}
-use Rattle.client_service.proofs.Steps.{SoFar, steps, ends, stops, stops_in_step, passed_over, behind_behind, then_meets}
-use Rattle.client_service.proofs.NatMaps.{keys-empty}
+use Rattle.world.proofs.Steps.{SoFar, steps, ends, stops, stops_in_step, passed_over}
+use Rattle.world.proofs.NatMaps.{keys-empty}
 
 abbrev came_to : Items Phase Item → StepResult (Delivery WorldAndLoading)
     → StepResult (StreamProgress Phase WorldAndLoading)
@@ -69,19 +62,6 @@ module _ (w : WorldAndLoading) (found : Items Phase Item) where
       ap (take_items item_step w) is ∙ ap (first_taken w others) refused
       ∙ ap (came_to others) (passed_over is_refused (deliver_item item_step) (record { left = w; fault = Some e })
       others.found refl)
-
-  stands : (place : Place Phase) (u : Unread) → is_err u ≡ false → place_or_fault place u ≡ Ok place
-  stands place (Ok bytes) e = refl
-  stands place (Err fault) e = absurd (true≢false e)
-
-  pub none_found : (place : Place Phase) → found ≡ no_items place → is_err place.unread ≡ false
-      → take_items item_step w found ≡ quietly w (Ok place)
-  none_found place is fine = ap (take_items item_step w) is ∙ ap (quietly w) (stands place place.unread fine)
-
-  pub fault_found : (place : Place Phase) (e : Fault) → found ≡ no_items place → place.unread ≡ Err e
-      → take_items item_step w found ≡ quietly w (Err e)
-  fault_found place e is fault = ap (take_items item_step w) is
-      ∙ ap (λ (u : Unread). quietly w (place_or_fault place u)) fault
 
 -- ---- one more packet or part
 
@@ -171,14 +151,6 @@ module _ (d : WorldAndLoading) (i : Item) (old : List Output) where
         ReceivesItem (Ok tt) old m d new (record { loading = loading; world = after }))
         (sym (ap telling_it taken)) (ap (step_with_loading loading) told)
 
-    -- An allocation was refused while its effect was sent.
-    pub untold : (new : List Output) (after : WorldAndLoading)
-        → Gains old (send_outcome (record d.world { replica = r }) brought).outputs new
-        → ReceivesItem (Err errors.NoMemory) old (item_step d i) d new after
-    untold new after gains =
-        subst (λ (m : Result (StepResult WorldAndLoading) Fault). ReceivesItem (Err errors.NoMemory) old m d new after)
-        (sym (ap telling_it taken)) gains
-
   -- An allocation was refused while it was taken.
   pub untaken : (after : WorldAndLoading) → ReceivesItem (Err errors.NoMemory) old (item_step d i) d old after
   untaken after = by (item_step d i)
@@ -214,116 +186,7 @@ module _ (d : WorldAndLoading) (i : Item) (old : List Output) where
 
 -- ---- connections
 
-pub closed_first : (old new : Clients) (n : ℕ) → finmap.keys old.connections ≡ n ∷ finmap.keys new.connections
-    → new ≡ without_client n old
-    → close_all_clients old ≡ prepend_outputs (CloseClient n ∷ []) (close_all_clients new)
-closed_first old new n keys is =
-    ap (λ (ks : List ℕ). close_clients ks old) keys
-    ∙ ap (λ (c : Clients). prepend_outputs (CloseClient n ∷ []) (close_clients (finmap.keys new.connections) c))
-    (sym is)
-
 pub none_open : (old : Clients) → old.connections ≡ finmap.empty → close_all_clients old ≡ no_output old
 none_open old is =
     ap (λ (m : OpenConnections). close_clients (finmap.keys m) old) is ∙ ap (λ (ks : List ℕ). close_clients ks old)
     (keys-empty OpenConnection)
-
-pub disconnects : (old new : List Output) (w : World) (clients : Clients)
-    → MeetsStep (Ok tt) old (close_all_clients w.clients) new clients
-    → MeetsStep (Ok tt) old (disconnect_all w) new
-    (record w { replica = without_leader w.replica; clients = record clients { pending = nothing_pending } })
-disconnects old new w clients m =
-    ap (λ (h : StepResult Clients). record {
-      outputs = h.outputs;
-      after =
-          record w
-          { replica = without_leader w.replica; clients = record h.after { pending = nothing_pending } };
-    }) m
-
--- ---- the leader is lost
-
--- The clients are closed after the leader.
-pub loses : (r : Result (Unit {0}) NoMemory) (mid put new : List Output) (w left : World) (e : Fault)
-    → put ≡ mid ++ CloseLeader e ∷ []
-    → MeetsStep r put (disconnect_all w) new left
-    → MeetsStep r mid (prepend_outputs (CloseLeader e ∷ []) (disconnect_all w)) new left
-loses (Ok u) mid put new w left e is m =
-    behind_behind mid (CloseLeader e ∷ []) (disconnect_all w)
-    ∙ ap (λ (o : List Output). prepend_outputs o (disconnect_all w)) (sym is) ∙ m
-loses (Err n) mid put new w left e is m = gains_behind mid (CloseLeader e ∷ []) is m
-
--- There is no leader any more.
-pub alone : (r : Result (Unit {0}) NoMemory) (old new : List Output) (h : StepResult World) (left : World)
-    → MeetsStep r old h new left → MeetsStep {S =
-    Machine} r old (with_leader None h) new (record { leader = None; world = left })
-alone (Ok u) old new h left m = ap (with_leader None) m
-alone (Err e) old new h left m = m
-
--- ---- a piece
-
--- The state of the leader's stream after its packets and parts.
-abbrev left_by : StepResult (StreamProgress Phase WorldAndLoading) → StepResult (WorldAndLeader Leader)
-left_by h = record {
-  outputs = h.outputs;
-  after = record { world = h.after.left.world; leader = leader_at h.after.left.loading h.after.place };
-}
-
-pub followed : (r : Result (Option Fault) NoMemory) (old new : List Output) (l : Leader) (w : World) (bytes : List ℕ)
-    (begun place : Place Phase) (left : WorldAndLoading)
-    → begun ≡ with_more_bytes l.place bytes
-    → DeliversItems r old (take_items item_step (record { loading = l.loading; world = w }) (items_shown_at begun)) new
-    place left
-    → FollowsStream r old (part_reader.taken l w bytes) new (record { place = place; loading = left.loading })
-    left.world
-followed r old new l w bytes begun place left is d = by r
-    (subst (λ (p : Place Phase). DeliversItems r old
-    (take_items item_step (record { loading = l.loading; world = w }) (items_shown_at p)) new
-    place left) is d)
-  where
-    whole : StepResult (StreamProgress Phase WorldAndLoading)
-    whole = take_items item_step (record { loading = l.loading; world = w })
-        (items_shown_at (with_more_bytes l.place bytes))
-
-    by : (r : Result (Option Fault) NoMemory) → DeliversItems r old whole new place left
-        → FollowsStream r old (left_by whole) new (record { place = place; loading = left.loading }) left.world
-    by (Ok None) m = ap left_by m
-    by (Ok (Some e)) m = ap left_by m
-    by (Err e) gains = gains
-
-module _ (old : List Output) (leader : Option Leader) (l : Leader) (w : World) (bytes : List ℕ)
-    (leads : leader ≡ Some l) where
-  abbrev came : StepResult (WorldAndLeader Leader)
-  came = part_reader.taken l w bytes
-
-  abbrev leaving : WorldAndLeader Leader → StepResult Machine
-  leaving a = with_leader_or_fault a.world a.leader
-
-  taken : take_leader_bytes part_reader leader w bytes ≡ and_then came leaving
-  taken = ap (λ (o : Option Leader). take_leader_bytes part_reader o w bytes) leads
-
-  pub stays : (new : List Output) (after : Leader) (left : World) → FollowsStream (Ok None) old came new after left
-      → MeetsStep (Ok tt) old (take_leader_bytes part_reader leader w bytes) new
-      (record { leader = Some after; world = left })
-  stays new after left is =
-      let m : Machine = record { leader = Some after; world = left } in
-      ap (prepend_outputs old) taken
-      ∙ then_meets (Ok tt) old new new came leaving (record { world = left; leader = Ok after }) m is
-      (ap (λ (o : List Output). record { outputs = o; after = m }) (append-nil new))
-
-  -- A fault came after the items that were delivered.
-  pub loses_in_piece : (r : Result (Unit {0}) NoMemory) (mid new : List Output) (after : Leader)
-      (left last : World) (e : Fault)
-      → FollowsStream (Ok (Some e)) old came mid after left
-      → MeetsStep r mid (prepend_outputs (CloseLeader e ∷ []) (disconnect_all left)) new last
-      → MeetsStep r old (take_leader_bytes part_reader leader w bytes) new (record { leader = None; world = last })
-  loses_in_piece r mid new after left last e is m =
-      subst (λ (h : StepResult Machine). MeetsStep r old h new (record { leader = None; world = last })) (sym taken)
-      (then_meets r old mid new came leaving (record { world = left; leader = Err e })
-      (record { leader = None; world = last }) is
-      (alone r mid new (prepend_outputs (CloseLeader e ∷ []) (disconnect_all left)) last m))
-
-  -- An allocation was refused on the way.
-  pub stops_in_piece : (new : List Output) → Gains old came.outputs new
-      → Gains old (take_leader_bytes part_reader leader w bytes).outputs new
-  stops_in_piece new gains =
-      subst (λ (h : StepResult Machine). Gains old h.outputs new) (sym taken)
-      (gains_first (leaving came.after).outputs gains)

@@ -12,12 +12,13 @@ use Rattle.quorum_packet.specs.Feed.{end_of}
 use Rattle.replica.specs.Taking.{ItemEffect, take_item}
 use Rattle.sessions.specs.State.{SessionTable as Sessions, ConnectedClient}
 use Rattle.sessions.specs.Sessions.{connection_of, close_as, close_if_some, close_connection}
-use Rattle.client_service.specs.declared.output.Output.TheVariants.{CloseClient}
-use Rattle.client_service.specs.World.{World}
-use Rattle.client_service.specs.Steps.{StepResult}
-use Rattle.client_service.specs.Clients.{idle_connection, is_open, heard_connection, with_connection, without_client}
-use Rattle.client_service.specs.Serve.{close_client, with_sessions, close_client_if_some, take_client_bytes, expire_session}
-use Rattle.client_service.proofs.NatMaps.{get-removed}
+use Rattle.world.specs.declared.output.Output.TheVariants.{CloseClient}
+use Rattle.world.specs.World.{World}
+use Rattle.world.specs.Steps.{StepResult}
+use Rattle.world.specs.Clients.{idle_connection, is_open, heard_connection, with_connection, without_client}
+use Rattle.world.specs.Sending.{close_client, with_sessions, close_client_if_some}
+use Rattle.client_service.specs.Serve.{take_client_bytes, expire_session}
+use Rattle.world.proofs.NatMaps.{get-removed}
 use Rattle.observer_core.specs.declared.event.Event.{Event}
 use Rattle.observer_core.specs.declared.event.Event.TheVariants as event
 use Rattle.observer_core.specs.Machine.{Leader, Machine}

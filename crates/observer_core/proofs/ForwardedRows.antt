@@ -42,9 +42,9 @@ use Rattle.sessions.specs.Credentials.{session_id_of}
 use Rattle.watch_manager.specs.Watches.{FireResult}
 use Rattle.forwarding.specs.declared.request.PendingRequest.{PendingRequest}
 use Rattle.forwarding.specs.declared.request.PendingRequest.TheVariants.{Write}
-use Rattle.forwarding.specs.declared.request.WriteKind.{WriteKind}
+use Rattle.forwarding.specs.declared.request.AnsweredWrite.{AnsweredWrite}
 use Rattle.forwarding.specs.declared.request.WriteKind.TheVariants as writes
-use Rattle.forwarding.specs.Queue.{RequestQueue, answered_write, after_answer, settled_request, with_oldest_settled, ready_request, without_front_if}
+use Rattle.forwarding.specs.Queue.{RequestQueue, found_write, after_answer, settled_request, with_oldest_settled, ready_request, without_front_if}
 use Rattle.forwarding.specs.State.{PendingTable}
 use Rattle.forwarding.specs.Pending.{queue_in, queue_of, put_queue, push_write, push_sync, unsettled_sync, answer_write, take_ready}
 use Rattle.read_processor.specs.Look.{look_of_path, without_body}
@@ -52,15 +52,16 @@ use Rattle.read_processor.specs.Reply.{reply_frame}
 use Rattle.client_frames.specs.declared.call.Call.{Call}
 use Rattle.client_frames.specs.declared.call.CallBody.TheVariants.{Forward, Sync}
 use Rattle.client_frames.specs.Call.{call_in, call_after_header, call_body, sync_of, value_if_read}
-use Rattle.client_service.specs.declared.world.Settings.{Settings}
-use Rattle.client_service.specs.declared.output.Output.{Output}
-use Rattle.client_service.specs.declared.output.Output.TheVariants.{ToLeader, ToClient}
-use Rattle.client_service.specs.World.{World}
-use Rattle.client_service.specs.Steps.{StepResult, prepend_outputs, no_output, and_then, fold_steps}
-use Rattle.client_service.specs.Serve.{to_leader, send_or_close, with_pending, forward_frame, serve_as, serve_frame, frames_of_client}
-use Rattle.leader_answers.specs.Answering.{answer_up_to, answer_front, answer_if_ready, answer_ready, txn_number, reply_as, reply_of, give_answer, answer_last_txn, answer_sync}
+use Rattle.world.specs.declared.world.Settings.{Settings}
+use Rattle.world.specs.declared.output.Output.{Output}
+use Rattle.world.specs.declared.output.Output.TheVariants.{ToLeader, ToClient}
+use Rattle.world.specs.World.{World}
+use Rattle.world.specs.Steps.{StepResult, prepend_outputs, no_output, and_then, fold_steps}
+use Rattle.world.specs.Sending.{to_leader, send_or_close, with_pending}
+use Rattle.client_service.specs.Serve.{forward_frame, serve_as, serve_frame, frames_of_client}
+use Rattle.leader_answers.specs.Answering.{answer_up_to, answer_front, answer_if_ready, answer_ready, txn_number, reply_as, reply_of, give_answer, answer_applied_txn, answer_sync}
 use Rattle.write_replies.specs.Replies.{write_look}
-use Rattle.client_service.proofs.NatMaps.{get-inserted, get-removed}
+use Rattle.world.proofs.NatMaps.{get-inserted, get-removed}
 use Rattle.observer_core.specs.declared.event.Event.{Event}
 use Rattle.observer_core.specs.declared.event.Event.TheVariants.{LeaderBytes, ClientBytes}
 use Rattle.observer_core.specs.Machine.{Machine}
@@ -268,13 +269,14 @@ module _ (settings : Settings) (three : IsThird settings) (operation : Operation
   left = (answer_write (create_waits settings) 1 (pos 4) (txn_number t)).after
 
   answered : (err : ℤ)
-      → answered_write (queue_of (create_waits settings) 1) (pos 4) (txn_number t) ≡ Some writes.Create
+      → found_write (queue_of (create_waits settings) 1) (pos 4) (txn_number t)
+      ≡ Some (record { place = 0; kind = writes.Create })
       → after_answer (queue_of (create_waits settings) 1) (pos 4) (txn_number t) ≡ []
       → reply_frame (pos 4) (pos 4294967297) (write_look applied.replica.tree writes.Create t.body err) ≡ Some reply
-      → answer_last_txn applied err ≡ replying reply (with_pending applied (take_ready left 1).after)
+      → answer_applied_txn applied 0 err ≡ replying reply (with_pending applied (take_ready left 1).after)
   answered err answers none replies =
       ap (λ (o : Option ℕ). give_answer applied t err (reply_of applied.clients t o)) (connected settings three)
-      ∙ ap (λ (kind : Option WriteKind). give_answer applied t err (reply_as 1 kind)) answers
+      ∙ ap (λ (write : Option AnsweredWrite). give_answer applied t err (reply_as 1 write)) answers
       ∙ ap (λ (f : Option (List ℕ)). and_then (send_or_close 1 (with_pending applied left) f) (answer_front 1)) replies
       ∙ ap (prepend_outputs (ToClient 1 reply ∷ [])) (front_over (with_pending applied left) 1023 empty)
     where
@@ -285,7 +287,7 @@ module _ (settings : Settings) (three : IsThird settings) (operation : Operation
 
   txn_comes : (again : ReadAgain) (nobody : NobodyTold) (bytes : List ℕ) → txn_format.Fits t
       → items_shown_at (place_at Packets bytes) ≡ one_packet (packet_of (pos 4294967297) (txn_format.written t))
-      → answer_last_txn applied (answer_of (effect_of_txn (start settings) t)).err
+      → answer_applied_txn applied 0 (answer_of (effect_of_txn (start settings) t)).err
       ≡ replying reply (with_pending applied (take_ready left 1).after)
       → play_event (waiting_machine settings (create_waits settings)) (LeaderBytes bytes)
       ≡ (record {
@@ -322,7 +324,7 @@ create_answered again nobody settings three =
     (txn_comes settings three (operations.Create create_body) reply_of_forwarded again nobody inform_of_forwarded
     create_fits create_found
     (answered settings three (operations.Create create_body) reply_of_forwarded err
-    (ap (λ (q : RequestQueue). answered_write q (pos 4) (txn_number create_txn)) (queue_is 1 waiting_write))
+    (ap (λ (q : RequestQueue). found_write q (pos 4) (txn_number create_txn)) (queue_is 1 waiting_write))
     (ap (λ (q : RequestQueue). after_answer q (pos 4) (txn_number create_txn)) (queue_is 1 waiting_write))
     (ap (λ (e : ℤ). reply_frame (pos 4) (pos 4294967297) (write_look tree writes.Create create_txn.body e))
     (create_error settings) ∙ create_replied)))
@@ -336,7 +338,7 @@ error_answered again nobody settings three =
     (txn_comes settings three (operations.Error (negsuc 109)) reply_of_error again nobody inform_of_error error_fits
     error_found
     (answered settings three (operations.Error (negsuc 109)) reply_of_error (negsuc 109)
-    (ap (λ (q : RequestQueue). answered_write q (pos 4) (txn_number error_txn)) (queue_is 1 waiting_write))
+    (ap (λ (q : RequestQueue). found_write q (pos 4) (txn_number error_txn)) (queue_is 1 waiting_write))
     (ap (λ (q : RequestQueue). after_answer q (pos 4) (txn_number error_txn)) (queue_is 1 waiting_write))
     error_replied))
 

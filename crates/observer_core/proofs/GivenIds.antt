@@ -19,9 +19,10 @@ use Rattle.forwarding.specs.declared.request.PendingConnect.{PendingConnect}
 use Rattle.forwarding.specs.Queue.{waiting_connect}
 use Rattle.forwarding.specs.State.{PendingTable, WaitingConnects}
 use Rattle.forwarding.specs.Pending.{nothing_pending, queue_of, connecting_to, without_connect, drop_connection, settle_first, settle_sync}
-use Rattle.client_service.specs.World.{Clients, World}
-use Rattle.client_service.specs.Clients.{heard_connection, without_client, without_clients}
-use Rattle.client_service.specs.Serve.{with_sessions, close_client_if_some, take_client_bytes}
+use Rattle.world.specs.World.{Clients, World}
+use Rattle.world.specs.Clients.{heard_connection, without_client, without_clients}
+use Rattle.world.specs.Sending.{with_sessions, close_client_if_some}
+use Rattle.client_service.specs.Serve.{take_client_bytes}
 use Rattle.observer_core.specs.declared.event.Event.{Event}
 use Rattle.observer_core.specs.Machine.{Machine}
 use Rattle.observer_core.specs.Leader.{tell_effect, send_effect}

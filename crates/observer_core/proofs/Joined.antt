@@ -21,11 +21,12 @@ use Rattle.forwarding.specs.Pending.{is_full, is_idle, connecting_to, push_conne
 use Rattle.client_frames.specs.declared.connecting.Connecting.{Connecting}
 use Rattle.client_frames.specs.Call.{call_in}
 use Rattle.client_frames.specs.Connect.{connecting_in, session_request_of}
-use Rattle.client_service.specs.World.{Clients, World}
-use Rattle.client_service.specs.Steps.{StepResult, and_then, fold_steps}
-use Rattle.client_service.specs.Clients.{is_open, without_client}
-use Rattle.client_service.specs.Serve.{close_client, with_sessions, with_pending, touched_as, close_client_if_some, send_connect_response, ask_for_session, is_new_session, finish_connect, may_connect, is_live, handle_connect, serve_as, serve_by, header_len, is_refused_frame, serve_frame, word_without_session, word_at, is_unheard}
-use Rattle.client_service.proofs.NatMaps.{get-inserted}
+use Rattle.world.specs.World.{Clients, World}
+use Rattle.world.specs.Steps.{StepResult, and_then, fold_steps}
+use Rattle.world.specs.Clients.{is_open, without_client}
+use Rattle.world.specs.Sending.{close_client, with_sessions, with_pending, close_client_if_some}
+use Rattle.client_service.specs.Serve.{touched_as, send_connect_response, ask_for_session, is_new_session, finish_connect, may_connect, is_live, handle_connect, serve_as, serve_by, header_len, is_refused_frame, serve_frame, word_without_session, word_at, is_unheard}
+use Rattle.world.proofs.NatMaps.{get-inserted}
 use Rattle.observer_core.proofs.Keeping.{happening_keeps}
 use Rattle.observer_core.proofs.Walking.{first_false, first_true}
 use Rattle.observer_core.proofs.Taking.{HasIfOpen, closed_has, greet_has, call_in_has}

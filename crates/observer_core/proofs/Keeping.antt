@@ -1,7 +1,7 @@
 -- An invariant of each step is an invariant of the whole list.
 use Rattle.std.proofs.Common.{◌≡◌, Bool, false, List, [], ◌∷◌}
 use Rattle.std.proofs.lemmas.Bool.{cond_both}
-use Rattle.client_service.specs.Steps.{StepResult, no_output, and_then, fold_steps}
+use Rattle.world.specs.Steps.{StepResult, no_output, and_then, fold_steps}
 
 -- No step is made where the state is at its end.
 module _ {S A : Type 0} (P : S → Type 0) (is_end : S → Bool) (step : S → A → StepResult S)

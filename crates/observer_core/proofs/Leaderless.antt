@@ -32,12 +32,13 @@ use Rattle.watch_manager.specs.declared.event.Event.{Event as NodeEvent}
 use Rattle.client_records.specs.declared.codes.TheConstants.{NOTIFICATION_XID}
 use Rattle.read_processor.specs.Events.{look_of_event}
 use Rattle.read_processor.specs.Reply.{reply_frame}
-use Rattle.client_service.specs.declared.output.Output.{Output}
-use Rattle.client_service.specs.declared.output.Output.TheVariants.{ToLeader, ToClient, CloseLeader, CloseClient}
-use Rattle.client_service.specs.World.{OpenConnection, World}
-use Rattle.client_service.specs.Steps.{StepResult, no_output, and_then, fold_steps}
-use Rattle.client_service.specs.Clients.{idle_connection, is_open, heard_connection, with_connection, sent_to, notice_to, notices_of}
-use Rattle.client_service.specs.Serve.{to_leader, close_client, close_client_if_some, with_sessions, touched_as, handle_connect, serve_by, is_refused_frame, serve_frame, word_at, is_unheard, with_waiting_bytes, wait_if_heard, wait_at, frames_of_client, tell_or_serve, take_client_bytes, expire_session}
+use Rattle.world.specs.declared.output.Output.{Output}
+use Rattle.world.specs.declared.output.Output.TheVariants.{ToLeader, ToClient, CloseLeader, CloseClient}
+use Rattle.world.specs.World.{OpenConnection, World}
+use Rattle.world.specs.Steps.{StepResult, no_output, and_then, fold_steps}
+use Rattle.world.specs.Clients.{idle_connection, is_open, heard_connection, with_connection, sent_to, notice_to, notices_of}
+use Rattle.world.specs.Sending.{to_leader, close_client, close_client_if_some, with_sessions}
+use Rattle.client_service.specs.Serve.{touched_as, handle_connect, serve_by, is_refused_frame, serve_frame, word_at, is_unheard, with_waiting_bytes, wait_if_heard, wait_at, frames_of_client, tell_or_serve, take_client_bytes, expire_session}
 use Rattle.observer_core.specs.declared.event.Event.{Event}
 use Rattle.observer_core.specs.declared.event.Event.TheVariants as event
 use Rattle.observer_core.specs.Machine.{Leader, Machine}

@@ -15,7 +15,7 @@ use Rattle.std.proofs.lemmas.Map.Views.{tells_apart}
 use Rattle.std.specs.FinMap as finmap
 use mathlib.Core.Bool.{true≢false}
 use Rattle.data_tree.specs.Sessions.{SessionTimeouts}
-use Rattle.client_service.specs.World.{World}
+use Rattle.world.specs.World.{World}
 use Rattle.observer_core.specs.Timeouts.{HasTimeout, IsLeast, IsLeastTimeout}
 use Rattle.observer_core.specs.Inner.{lesser_timeout}
 

@@ -1,5 +1,5 @@
 -- The session of each connection lives, after every event.
-use Rattle.std.proofs.Common.{◌≡◌, ◌≢◌, ◌⊎◌, inl, inr, ℕ, ◌+◌, ℤ, Bool, true, false, cond, List, [], ◌∷◌, ◌++◌, Option, Some, None, Result, Ok, Err, refl, sym, ap, subst, ◌∙◌}
+use Rattle.std.proofs.Common.{◌≡◌, ◌≢◌, ◌⊎◌, inl, inr, ℕ, ◌+◌, ◌-◌, ℤ, Bool, true, false, cond, List, [], ◌∷◌, ◌++◌, length, slice_get, Option, Some, None, Result, Ok, Err, refl, sym, ap, subst, ◌∙◌}
 use Rattle.std.specs.Prelude.{is_some, int_lt}
 use Rattle.std.specs.Option.{unwrap_or}
 use Rattle.std.specs.Ordering.{eq_by_cmp, nat_cmp, int_cmp, is_eq}
@@ -39,6 +39,7 @@ use Rattle.learner_sync.specs.declared.message.Message.TheVariants as message
 use Rattle.learner_sync.specs.declared.phase.Phase.{Phase}
 use Rattle.learner_sync.specs.declared.phase.Phase.TheVariants as phase
 use Rattle.replica.specs.Replica.{Replica}
+use Rattle.replica.proofs.Following.{last-push}
 use Rattle.replica.specs.Taking.{ItemEffect, nothing_loaded, no_effect, last_txn, apply_to_tree, carry_out_all, with_learner, take_item, is_serving_in, is_serving, checkpoint_if}
 use Rattle.replica.specs.Laws.{ServingStays}
 use Rattle.replica.specs.declared.item_outcome.LeaderNews.{LeaderNews}
@@ -49,16 +50,17 @@ use Rattle.client_records.specs.declared.codes.TheConstants.{OK}
 use Rattle.forwarding.specs.declared.request.PendingConnect.{PendingConnect}
 use Rattle.forwarding.specs.declared.request.Settled.{Settled}
 use Rattle.forwarding.specs.declared.request.Settled.TheVariants.{NoSync, Gone, Of}
-use Rattle.forwarding.specs.declared.request.WriteKind.{WriteKind}
-use Rattle.forwarding.specs.Queue.{waiting_connect, answered_write}
+use Rattle.forwarding.specs.declared.request.AnsweredWrite.{AnsweredWrite}
+use Rattle.forwarding.specs.Queue.{waiting_connect, found_write}
 use Rattle.forwarding.specs.Pending.{queue_of, connecting_to, pending_close, settle_sync}
 use Rattle.sessions.specs.Credentials.{digest_id}
 use Rattle.sessions.specs.State.{SessionTable as Sessions, ConnectedClient as SessionConnection}
 use Rattle.sessions.specs.Sessions.{session_in, session_of_connection, connection_of, close_connection, close_if_some, new_connection, give_session, AuthResult, are_within_limits, is_same_id, with_id, show_in, digest_text, auth_by, add_auth}
-use Rattle.client_service.specs.declared.world.Settings.{Settings}
-use Rattle.client_service.specs.World.{Clients, World}
-use Rattle.client_service.specs.Clients.{heard_connection, no_clients}
-use Rattle.client_service.specs.Serve.{send_last, with_sessions, with_pending, close_client_if_some, is_live, take_client_bytes}
+use Rattle.world.specs.declared.world.Settings.{Settings}
+use Rattle.world.specs.World.{Clients, World}
+use Rattle.world.specs.Clients.{heard_connection, no_clients}
+use Rattle.world.specs.Sending.{send_last, with_sessions, with_pending, close_client_if_some}
+use Rattle.client_service.specs.Serve.{is_live, take_client_bytes}
 use Rattle.leader_answers.specs.Answering.{txn_number, admission_of, ending_of, reply_as, reply_of, due_by, admit_client, close_ended, give_answer, answer_txn, answer_optional_txn, answer_settled}
 use Rattle.observer_core.specs.Leader.{tell_effect, answer_news, send_effect, disconnect_all}
 use Rattle.observer_core.specs.Play.{is_serving_clients, primed_session, primed_machine}
@@ -105,24 +107,20 @@ close_leaves header s =
 -- The item leaves the tree, and no transaction was applied.
 record LeavesTree (r : Replica) (t : ItemEffect) : Type 0 where
   tree : t.replica.tree ≡ r.tree
-  none : (err : ℤ) → t.news ≢ Some (news.Applied err)
+  none : (place : ℕ) (err : ℤ) → t.news ≢ Some (news.Applied place err)
 
--- The log's newest transaction was applied.
+-- A transaction of the log was applied.
 record AppliesTxn (r : Replica) (t : ItemEffect) : Type 0 where
   txn : Txn
+  place : ℕ
   err : ℤ
   tree : t.replica.tree ≡ (effect_of_txn r.tree txn).state
-  told : t.news ≡ Some (news.Applied err)
-  newest : last_txn t.replica.learner.log ≡ Some txn
+  told : t.news ≡ Some (news.Applied place err)
+  at : slice_get t.replica.learner.log place ≡ Some txn
 
 abbrev Serves : Replica → Result ItemEffect Fault → Type 0
 Serves r (Ok t) = LeavesTree r t ⊎ AppliesTxn r t
 Serves r (Err e) = Unit {0}
-
-last_of : (log : List Txn) (txn : Txn) → last_txn (log ++ txn ∷ []) ≡ Some txn
-last_of [] txn = refl
-last_of (t ∷ []) txn = refl
-last_of (t ∷ u ∷ log) txn = last_of (u ∷ log) txn
 
 module _ (loading : Loading) (r : Replica) where
   abbrev carried : Result LearnerStep Fault → Result ItemEffect Fault
@@ -132,7 +130,7 @@ module _ (loading : Loading) (r : Replica) where
   applied l txn =
       cond_both (int_lt (zxid_floor l.phase l.last_zxid) txn.header.zxid) _ _
       (λ (x : Result LearnerStep Fault). Serves r (carried x))
-      (λ _. by (last_txn (with_applied l txn).log) (last_of l.log txn)) (λ _. tt)
+      (λ _. by (last_txn (with_applied l txn).log) (last-push l.log txn)) (λ _. tt)
     where
       t : ItemEffect
       t = no_effect loading (with_learner r (record { acts = act.Apply ∷ []; after = with_applied l txn }))
@@ -140,10 +138,11 @@ module _ (loading : Loading) (r : Replica) where
       by : (o : Option Txn) → o ≡ Some txn → Serves r (Ok (apply_to_tree t o))
       by o e = subst (λ (o : Option Txn). Serves r (Ok (apply_to_tree t o))) (sym e) (inr (record {
         txn = txn;
+        place = length (with_applied l txn).log - 1;
         err = (effect_of_txn r.tree txn).err;
         tree = refl;
         told = refl;
-        newest = last_of l.log txn;
+        at = last-push l.log txn;
       }))
 
   informed : (l : Learner) (bytes : List ℕ) → Serves r (carried (learn_inform l bytes))
@@ -155,26 +154,26 @@ module _ (loading : Loading) (r : Replica) where
 
   -- Nothing is told.
   untold : (t : ItemEffect) → t.replica.tree ≡ r.tree → t.news ≡ None → LeavesTree r t
-  untold t same is = record { tree = same; none = λ err e. true≢false (sym (ap is_some (sym is ∙ e))) }
+  untold t same is = record { tree = same; none = λ place err e. true≢false (sym (ap is_some (sym is ∙ e))) }
 
   nothing : (l : Learner) → Serves r (carried (Ok (record { acts = []; after = l })))
   nothing l = inl (untold (no_effect loading (with_learner r (record { acts = []; after = l }))) refl refl)
 
   -- Only an INFORM brings a transaction where clients are served.
   message_serves : (l : Learner) (m : Message) → Serves r (carried (message_in_serving l m))
-  message_serves l (message.Ping p) = inl (record { tree = refl; none = λ err e. true≢false (ap was_ping e) })
+  message_serves l (message.Ping p) = inl (record { tree = refl; none = λ place err e. true≢false (ap was_ping e) })
     where
       was_ping : Option LeaderNews → Bool
       was_ping None = false
       was_ping (Some (news.Ping p)) = true
-      was_ping (Some (news.Applied err)) = false
+      was_ping (Some (news.Applied place err)) = false
       was_ping (Some news.SyncSettled) = false
-  message_serves l message.Sync = inl (record { tree = refl; none = λ err e. true≢false (ap was_sync e) })
+  message_serves l message.Sync = inl (record { tree = refl; none = λ place err e. true≢false (ap was_sync e) })
     where
       was_sync : Option LeaderNews → Bool
       was_sync None = false
       was_sync (Some (news.Ping p)) = false
-      was_sync (Some (news.Applied err)) = false
+      was_sync (Some (news.Applied place err)) = false
       was_sync (Some news.SyncSettled) = true
   message_serves l (message.Inform bytes) = informed l bytes
   message_serves l (message.LeaderInfo epoch bytes) = nothing l
@@ -366,13 +365,13 @@ module _ (stays : ServingStays) (laws : LowerLaws) where
       → SessionsLive (give_answer w t err (reply_of w.clients t o)).after
   replied_live w t err None a live = live
   replied_live w t err (Some n) a live =
-      by (answered_write (queue_of w.clients.pending n) t.header.cxid (txn_number t))
+      by (found_write (queue_of w.clients.pending n) t.header.cxid (txn_number t))
     where
-      by : (o : Option WriteKind) → SessionsLive (give_answer w t err (reply_as n o)).after
+      by : (o : Option AnsweredWrite) → SessionsLive (give_answer w t err (reply_as n o)).after
       by None = live
-      by (Some kind) =
+      by (Some write) =
           (write_makes n (Unit {0}) Agreeing KeepsLive (agreeing_ground laws n) (replies_live n)
-          (agreeing_answers laws n) (answers_live n) w t err kind a).is live
+          (agreeing_answers laws n) (answers_live n) w t err write.kind a).is live
 
   -- Only the session that has ended doesn't live.
   abbrev OthersLive : World → ℤ → Type 0
@@ -477,11 +476,11 @@ module _ (stays : ServingStays) (laws : LowerLaws) where
       (answers_live n) w a).is live
 
   -- No transaction was applied.
-  news_live : (o : Option LeaderNews) (w : World) → ((err : ℤ) → o ≢ Some (news.Applied err)) → Agreeing w
+  news_live : (o : Option LeaderNews) (w : World) → ((place : ℕ) (err : ℤ) → o ≢ Some (news.Applied place err)) → Agreeing w
       → SessionsLive w → SessionsLive (answer_news o w).after
   news_live None w none a live = live
   news_live (Some (news.Ping ping)) w none a live = live
-  news_live (Some (news.Applied err)) w none a live = absurd (none err refl)
+  news_live (Some (news.Applied place err)) w none a live = absurd (none place err refl)
   news_live (Some news.SyncSettled) w none a live =
       let s = settle_sync w.clients.pending in
       settled_live (with_pending w s.after) s.settled (settled_agrees laws w a) live
@@ -511,7 +510,7 @@ module _ (stays : ServingStays) (laws : LowerLaws) where
           (λ n session has. ap (λ (s : State). finmap.contains_key s.sessions session) leaves.tree ∙ h.1 n session has)
       serves (inr applies) =
           subst (λ (o : Option LeaderNews). SessionsLive (answer_news o v).after) (sym applies.told)
-          (subst (λ (o : Option Txn). SessionsLive (answer_optional_txn v applies.err o).after) (sym applies.newest)
+          (subst (λ (o : Option Txn). SessionsLive (answer_optional_txn v applies.err o).after) (sym applies.at)
           (txn_lives v w.replica.tree applies.txn applies.err applies.tree told h.1))
 
       by : (b : Bool) → is_serving w.replica ≡ b → SessionsLive (send_effect w t).after

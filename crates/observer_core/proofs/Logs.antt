@@ -10,10 +10,10 @@ use Rattle.replica.specs.Taking.{ItemEffect, take_item}
 use Rattle.replica.specs.Laws.{FollowsItsLog, LogsAreFollowed as ReplicasFollow}
 use Rattle.observer_core.specs.declared.event.Event.{Event}
 use Rattle.observer_core.specs.declared.event.Event.TheVariants as event
-use Rattle.client_service.specs.World.{World}
+use Rattle.world.specs.World.{World}
 use Rattle.observer_core.specs.Machine.{Leader, Machine}
 use Rattle.observer_core.specs.Leader.{tell_effect, answer_news, WorldAndLoading, step_with_loading, send_effect, item_step, Delivery, delivery_of, deliver_item, is_refused, deliver_all, place_after, part_reader, leader_at, meet_leader, with_leader_or_fault, take_leader_bytes, on_stream_end, end_leader}
-use Rattle.client_service.specs.Clients.{heard_connection}
+use Rattle.world.specs.Clients.{heard_connection}
 use Rattle.client_service.specs.Serve.{take_client_bytes, open_client, end_client, expire_session}
 use Rattle.observer_core.specs.Play.{is_serving_clients, play_event, primed_session}
 use Rattle.observer_core.specs.Logs.{MachinesFollowTheirLogs}

@@ -28,7 +28,7 @@ use Rattle.forwarding.specs.Queue.{RequestQueue, with_oldest_settled}
 use Rattle.forwarding.specs.State.{PendingTable}
 use Rattle.forwarding.specs.Pending.{queue_in, queue_of, with_queue, put_queue, settle_first, settle_sync}
 use Rattle.client_service.specs.Serve.{with_watch}
-use Rattle.client_service.proofs.NatMaps.{get-beside}
+use Rattle.world.proofs.NatMaps.{get-beside}
 
 or_first : (a b : Bool) → b ≡ false → (a || b) ≡ true → a ≡ true
 or_first a b none h = sym (or-false a) ∙ ap (λ x. a || x) (sym none) ∙ h

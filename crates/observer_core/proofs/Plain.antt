@@ -1,6 +1,6 @@
 -- Steps of which nothing is known but what is asked of them.
 use Rattle.std.proofs.Common.{ℕ}
-use Rattle.client_service.specs.World.{World}
+use Rattle.world.specs.World.{World}
 use Rattle.observer_core.proofs.Walking.{IsGround}
 use Rattle.observer_core.proofs.Answered.{IsAnswerGround}
 

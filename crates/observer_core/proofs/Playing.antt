@@ -19,20 +19,21 @@ use Rattle.four_letter.specs.Words.{word_of}
 use Rattle.four_letter.specs.declared.word.Word.{Word}
 use Rattle.observer_core.specs.declared.event.Event.{Event}
 use Rattle.observer_core.specs.declared.event.Event.TheVariants.{LeaderBytes, ClientBytes}
-use Rattle.client_service.specs.declared.output.Output.{Output}
-use Rattle.client_service.specs.declared.output.Output.TheVariants.{CloseClient}
-use Rattle.client_service.specs.World.{OpenConnection, OpenConnections, World}
+use Rattle.world.specs.declared.output.Output.{Output}
+use Rattle.world.specs.declared.output.Output.TheVariants.{CloseClient}
+use Rattle.world.specs.World.{OpenConnection, OpenConnections, World}
 use Rattle.observer_core.specs.Machine.{Leader, Machine}
-use Rattle.client_service.specs.Steps.{StepResult, prepend_outputs, no_output, and_then, fold_steps}
-use Rattle.client_service.specs.Clients.{idle_connection, is_open, heard_in, heard_connection}
+use Rattle.world.specs.Steps.{StepResult, prepend_outputs, no_output, and_then, fold_steps}
+use Rattle.world.specs.Clients.{idle_connection, is_open, heard_in, heard_connection}
 use Rattle.observer_core.specs.Leader.{WorldAndLoading, item_step, Delivery, deliver_item, is_refused, place_after, deliver_all, part_reader, leader_at, with_leader, with_leader_or_fault, take_leader_bytes}
 use Rattle.forwarding.specs.Pending.{is_idle}
-use Rattle.client_service.specs.Serve.{close_client, serve_frame, tell_word, word_without_session, word_at, is_unheard, with_waiting_bytes, wait_or_close, wait_if_heard, wait_at, client_frame_limit, frames_of_client, serve_all, tell_or_serve, take_client_bytes}
+use Rattle.world.specs.Sending.{close_client}
+use Rattle.client_service.specs.Serve.{serve_frame, tell_word, word_without_session, word_at, is_unheard, with_waiting_bytes, wait_or_close, wait_if_heard, wait_at, client_frame_limit, frames_of_client, serve_all, tell_or_serve, take_client_bytes}
 use Rattle.observer_core.specs.Play.{is_serving_clients, play_event, play}
 use Rattle.observer_core.proofs.Keeping.{happening_keeps}
 use Rattle.observer_core.proofs.Closing.{serve_closes}
-use Rattle.client_service.proofs.Steps.{behind_behind, passed_over, happening_on}
-use Rattle.client_service.proofs.NatMaps.{get-inserted, get-removed, insert-insert, insert-same}
+use Rattle.world.proofs.Steps.{behind_behind, passed_over, happening_on}
+use Rattle.world.proofs.NatMaps.{get-inserted, get-removed, insert-insert, insert-same}
 use Rattle.client_service.proofs.Streams.{frames_streamed}
 use Rattle.observer_core.proofs.Unmoved.{client_same}
 use Rattle.observer_core.proofs.Words.{same_front, still_says, still_waits, short_frame}

@@ -8,16 +8,16 @@ use Rattle.txn_codec.specs.Row.{session_change}
 use Rattle.forwarding.specs.declared.request.PendingConnect.{PendingConnect}
 use Rattle.forwarding.specs.declared.request.Settled.{Settled}
 use Rattle.forwarding.specs.declared.request.Settled.TheVariants.{NoSync, Gone, Of}
-use Rattle.forwarding.specs.declared.request.WriteKind.{WriteKind}
-use Rattle.forwarding.specs.Queue.{waiting_connect, answered_write}
+use Rattle.forwarding.specs.declared.request.AnsweredWrite.{AnsweredWrite}
+use Rattle.forwarding.specs.Queue.{waiting_connect, found_write}
 use Rattle.forwarding.specs.Pending.{queue_of, connecting_to, pending_close, settle_sync}
 use Rattle.forwarding.specs.Laws.{OtherQueuesStay}
 use Rattle.sessions.specs.Sessions.{session_of_connection, connection_of, close_connection}
 use Rattle.sessions.specs.Agreement.{AgreementIsKept, OtherConnectionsStay}
 use Rattle.watch_manager.specs.Laws.{OthersKeepWatches}
-use Rattle.client_service.specs.World.{Clients, World}
-use Rattle.client_service.specs.Steps.{no_output}
-use Rattle.client_service.specs.Serve.{with_pending}
+use Rattle.world.specs.World.{Clients, World}
+use Rattle.world.specs.Steps.{no_output}
+use Rattle.world.specs.Sending.{with_pending}
 use Rattle.leader_answers.specs.declared.due.Due.{Due}
 use Rattle.leader_answers.specs.declared.due.Due.TheVariants as dues
 use Rattle.leader_answers.specs.Answering.{answer_front, txn_number, answer_due, due_by, admission_of, ending_of, reply_as, reply_of, give_answer, answer_txn, answer_settled, answer_sync}
@@ -36,20 +36,20 @@ abbrev due_to : ℕ → Due → ℕ
 due_to k dues.Nothing = k
 due_to k (dues.Admission n) = n
 due_to k (dues.Ending n) = n
-due_to k (dues.Reply n kind) = n
+due_to k (dues.Reply n write) = n
 
 -- What is due, as a number.
 abbrev due_place : Due → ℕ
 due_place dues.Nothing = 0
 due_place (dues.Admission n) = 1
 due_place (dues.Ending n) = 2
-due_place (dues.Reply n kind) = 3
+due_place (dues.Reply n write) = 3
 
 -- An admission is of the connection that waits for the session, and anything else is of the one that has it.
 record IsDueTo (c : Clients) (session : ℤ) (due : Due) : Type 0 where
   admits : (n : ℕ) → due ≡ dues.Admission n → connecting_to c.pending session ≡ Some n
   ends : (n : ℕ) → due ≡ dues.Ending n → connection_of c.sessions session ≡ Some n
-  replies : (n : ℕ) (kind : WriteKind) → due ≡ dues.Reply n kind → connection_of c.sessions session ≡ Some n
+  replies : (n : ℕ) (write : AnsweredWrite) → due ≡ dues.Reply n write → connection_of c.sessions session ≡ Some n
 
 apart_from : {X : Type 0} (d e : Due) → (due_place d ≡ due_place e → ⊥) → d ≡ e → X
 apart_from d e other same = absurd (other (ap due_place same))
@@ -58,7 +58,7 @@ nothing_due : (c : Clients) (session : ℤ) → IsDueTo c session dues.Nothing
 nothing_due c session = record {
   admits = λ n e. apart_from dues.Nothing (dues.Admission n) (λ x. omega arith) e;
   ends = λ n e. apart_from dues.Nothing (dues.Ending n) (λ x. omega arith) e;
-  replies = λ n kind e. apart_from dues.Nothing (dues.Reply n kind) (λ x. omega arith) e;
+  replies = λ n write e. apart_from dues.Nothing (dues.Reply n write) (λ x. omega arith) e;
 }
 
 due_is : (c : Clients) (t : Txn) → IsDueTo c t.header.client_id (answer_due c t)
@@ -72,7 +72,7 @@ due_is c t = by (session_change t.body)
     admitted (Some m) is = record {
       admits = λ n e. is ∙ ap (λ (d : Due). Some (due_to m d)) e;
       ends = λ n e. apart_from (dues.Admission m) (dues.Ending n) (λ x. omega arith) e;
-      replies = λ n kind e. apart_from (dues.Admission m) (dues.Reply n kind) (λ x. omega arith) e;
+      replies = λ n write e. apart_from (dues.Admission m) (dues.Reply n write) (λ x. omega arith) e;
     }
 
     ended : (o : Option ℕ) → connection_of c.sessions session ≡ o → IsDueTo c session (ending_of o)
@@ -80,21 +80,21 @@ due_is c t = by (session_change t.body)
     ended (Some m) is = record {
       admits = λ n e. apart_from (dues.Ending m) (dues.Admission n) (λ x. omega arith) e;
       ends = λ n e. is ∙ ap (λ (d : Due). Some (due_to m d)) e;
-      replies = λ n kind e. apart_from (dues.Ending m) (dues.Reply n kind) (λ x. omega arith) e;
+      replies = λ n write e. apart_from (dues.Ending m) (dues.Reply n write) (λ x. omega arith) e;
     }
 
-    replies_as : (m : ℕ) (o : Option WriteKind) → connection_of c.sessions session ≡ Some m
+    replies_as : (m : ℕ) (o : Option AnsweredWrite) → connection_of c.sessions session ≡ Some m
         → IsDueTo c session (reply_as m o)
     replies_as m None is = nothing_due c session
-    replies_as m (Some kind) is = record {
-      admits = λ n e. apart_from (dues.Reply m kind) (dues.Admission n) (λ x. omega arith) e;
-      ends = λ n e. apart_from (dues.Reply m kind) (dues.Ending n) (λ x. omega arith) e;
+    replies_as m (Some write) is = record {
+      admits = λ n e. apart_from (dues.Reply m write) (dues.Admission n) (λ x. omega arith) e;
+      ends = λ n e. apart_from (dues.Reply m write) (dues.Ending n) (λ x. omega arith) e;
       replies = λ n other e. is ∙ ap (λ (d : Due). Some (due_to m d)) e;
     }
 
     replied : (o : Option ℕ) → connection_of c.sessions session ≡ o → IsDueTo c session (reply_of c t o)
     replied None is = nothing_due c session
-    replied (Some m) is = replies_as m (answered_write (queue_of c.pending m) t.header.cxid (txn_number t)) is
+    replied (Some m) is = replies_as m (found_write (queue_of c.pending m) t.header.cxid (txn_number t)) is
 
     by : (change : SessionChange) → IsDueTo c session (due_by c t change)
     by (changes.Begins time_out) = admitted (connecting_to c.pending session) refl
@@ -108,15 +108,15 @@ number_in k (Of n) = n
 
 module _ (kept : AgreementIsKept) (stay : OtherConnectionsStay) (keep_watches : OthersKeepWatches)
     (queues : OtherQueuesStay) where
-  replies_reach : (w : World) (t : Txn) (err : ℤ) (n : ℕ) (kind : WriteKind) → ClientsAgree w.clients
-      → answer_due w.clients t ≡ dues.Reply n kind
+  replies_reach : (w : World) (t : Txn) (err : ℤ) (n : ℕ) (write : AnsweredWrite) → ClientsAgree w.clients
+      → answer_due w.clients t ≡ dues.Reply n write
       → (session_of_connection w.clients.sessions n ≡ Some t.header.client_id) × AnswersOnly n w (answer_txn w t err)
-  replies_reach w t err n kind a is = (
-    owner_has w.clients.sessions t.header.client_id n a.sessions ((due_is w.clients t).replies n kind is),
+  replies_reach w t err n write a is = (
+    owner_has w.clients.sessions t.header.client_id n a.sessions ((due_is w.clients t).replies n write is),
     subst (λ (due : Due). AnswersOnly n w (give_answer w t err due)) (sym is)
         (write_makes n ⊥ Always (IsApart n NoSession Nobody) (plain_ground n)
         (replies_apart NoSession Nobody stay keep_watches queues n) (plain_answer_ground n)
-        (answers_apart NoSession Nobody stay keep_watches queues n) w t err kind tt).is,
+        (answers_apart NoSession Nobody stay keep_watches queues n) w t err write.kind tt).is,
   )
 
   endings_reach : (w : World) (t : Txn) (err : ℤ) (n : ℕ) → ClientsAgree w.clients

@@ -6,13 +6,13 @@ use Rattle.jute.specs.Stream.{with_more_bytes}
 use Rattle.quorum_packet.specs.declared.item.Item.{Item}
 use Rattle.quorum_packet.specs.Items.{items_shown_at}
 use Rattle.observer_core.specs.declared.event.Event.TheVariants.{LeaderBytes}
-use Rattle.client_service.specs.World.{World}
+use Rattle.world.specs.World.{World}
 use Rattle.observer_core.specs.Machine.{Leader, Machine}
-use Rattle.client_service.specs.Steps.{StepResult, prepend_outputs, no_output, and_then, fold_steps}
+use Rattle.world.specs.Steps.{StepResult, prepend_outputs, no_output, and_then, fold_steps}
 use Rattle.observer_core.specs.Leader.{WorldAndLoading, Delivery, item_step, delivery_of, deliver_item, is_refused, place_after, leader_at, with_leader_or_fault, on_leader_fault}
 use Rattle.observer_core.specs.Play.{play_event}
 use Rattle.observer_core.specs.Logs.{delivery_of_items, RefusalsChangeNothing}
-use Rattle.client_service.proofs.Steps.{passed_over, goes_on, happening_on}
+use Rattle.world.proofs.Steps.{passed_over, goes_on, happening_on}
 
 abbrev refused_with : Delivery WorldAndLoading → Fault → Delivery WorldAndLoading
 refused_with d e = record { left = d.left; fault = Some e }

@@ -1,10 +1,10 @@
 -- The worked rows: what the bytes read as, the state after each transaction, and the reply to each request.
-use Rattle.std.proofs.Common.{◌≡◌, ◌≤◌, ◌||◌, ℕ, ◌+◌, List, [], ◌∷◌, ◌++◌, length, map, take, not, Option, Some, None, Result, Ok, Bool, true, false, cond, refl, sym, ap, ◌∙◌, arith, rules}
+use Rattle.std.proofs.Common.{◌≡◌, ◌≤◌, ◌||◌, ℕ, ◌+◌, ◌-◌, List, [], ◌∷◌, ◌++◌, length, slice_get, map, take, not, Option, Some, None, Result, Ok, Bool, true, false, cond, refl, sym, ap, ◌∙◌, arith, rules}
 use Rattle.std.specs.Prelude.{ℤ, pos, codes, is_some, nat_lt}
 use Rattle.std.specs.List.{AllByRecursion}
 use Rattle.std.specs.Cmp.{nat_cmp_total}
 use mathlib.Core.Bool.{true≢false}
-use Rattle.client_service.proofs.Steps.{goes_on}
+use Rattle.world.proofs.Steps.{goes_on}
 use Rattle.std.specs.FinMap as finmap
 use Rattle.std.specs.FinSet as set
 use Rattle.std.specs.Cmp.Lexicographic.{slice_cmp, nat_list_cmp_total}
@@ -57,19 +57,19 @@ use Rattle.watch_manager.specs.Watching.{WatchTables, no_watch}
 use Rattle.watch_manager.specs.Watches.{FireResult, fire}
 use Rattle.watch_manager.specs.Laws.{AllPass, AllLastingPass, OnlyWatchersAreTold, NoEventKeepsWatches}
 use Rattle.read_processor.specs.Watch.{watch_of}
-use Rattle.client_service.specs.declared.world.Settings.{Settings}
+use Rattle.world.specs.declared.world.Settings.{Settings}
 use Rattle.client_frames.specs.declared.call.Call.{Call}
 use Rattle.client_frames.specs.declared.call.CallBody.TheVariants.{Local}
 use Rattle.client_frames.specs.declared.call.LocalCall.{LocalCall}
 use Rattle.client_frames.specs.declared.call.LocalCall.TheVariants.{Read}
-use Rattle.forwarding.specs.Queue.{RequestQueue, pending_limit, answered_write}
+use Rattle.forwarding.specs.Queue.{RequestQueue, pending_limit, found_write}
 use Rattle.forwarding.specs.State.{TouchedSessions, PendingTable}
 use Rattle.forwarding.specs.Pending.{nothing_pending, queue_in, is_idle, hold_frame, touch_session}
-use Rattle.leader_answers.specs.Answering.{txn_number, reply_as, reply_of, is_due, lets_answer, answer_optional_txn, answer_last_txn}
-use Rattle.client_service.specs.declared.output.Output.{Output}
+use Rattle.leader_answers.specs.Answering.{txn_number, reply_as, reply_of, is_due, lets_answer, answer_optional_txn, answer_applied_txn}
+use Rattle.world.specs.declared.output.Output.{Output}
 use Rattle.observer_core.proofs.Batches.{no_answer}
 use Rattle.observer_core.specs.declared.event.Event.TheVariants.{ClientBytes}
-use Rattle.client_service.specs.declared.output.Output.TheVariants.{ToClient, CloseLeader, CloseClient}
+use Rattle.world.specs.declared.output.Output.TheVariants.{ToClient, CloseLeader, CloseClient}
 use Rattle.read_processor.specs.declared.shown.Look.{Look}
 use Rattle.read_processor.specs.declared.request.Request.{Request}
 use Rattle.read_processor.specs.Kinds.{reply_body as shown_body}
@@ -77,21 +77,22 @@ use Rattle.read_processor.specs.Look.{look_at_state, look_at_node, shown_look}
 use Rattle.read_processor.specs.Reply.{reply_frame}
 use Rattle.values.specs.Hex.{hex_bytes}
 use Rattle.observer_core.specs.Rows.{inform_of_create, inform_of_set_data, get_data_frame_start, get_data_frame_end, reply_of_create, reply_of_set_data, create_inform_event, set_data_inform_event, get_data_event}
-use Rattle.client_service.specs.World.{OpenConnection, OpenConnections, Clients, World}
+use Rattle.world.specs.World.{OpenConnection, OpenConnections, Clients, World}
 use Rattle.observer_core.specs.Machine.{Leader, Machine}
 use Rattle.client_frames.specs.Call.{call_in, call_after_header, call_body, read_as, read_with_flag, value_if_read}
-use Rattle.client_service.specs.Steps.{StepResult, prepend_outputs, no_output, and_then, fold_steps}
-use Rattle.client_service.specs.Clients.{heard_in, without_client, close_clients, no_clients, notices_of}
+use Rattle.world.specs.Steps.{StepResult, prepend_outputs, no_output, and_then, fold_steps}
+use Rattle.world.specs.Clients.{heard_in, without_client, close_clients, no_clients, notices_of}
 use Rattle.replica.specs.Replica.{Replica}
-use Rattle.replica.specs.Taking.{nothing_loaded, last_txn, no_effect as unled, with_learner, carry_out_all, without_leader}
+use Rattle.replica.specs.Taking.{nothing_loaded, no_effect as unled, with_learner, carry_out_all, without_leader}
 use Rattle.learner_sync.specs.Learn.{LearnerStep, apply_txn}
 use Rattle.learner_sync.specs.declared.phase.Phase.TheVariants.{Serving}
 use Rattle.observer_core.specs.Leader.{WorldAndLoading, step_with_loading, send_effect, item_step, delivery_of, deliver_item, is_refused, part_reader, leader_at, with_leader_or_fault, place_after, with_leader, take_leader_bytes}
 use Rattle.four_letter.specs.Words.{word_of}
 use Rattle.four_letter.specs.declared.word.Word.{Word}
-use Rattle.client_service.specs.Serve.{close_client, send_or_close, send_reply, with_watch_if, with_watches, handle_local, with_pending, handle_or_hold, touched_as, serve_as, serve_by, header_len, is_refused_frame, serve_frame, word_without_session, is_unheard, with_waiting_bytes, wait_if_heard, wait_at, frames_of_client, serve_all, tell_or_serve, take_client_bytes}
+use Rattle.world.specs.Sending.{close_client, send_or_close, send_reply, with_watches, with_pending}
+use Rattle.client_service.specs.Serve.{with_watch_if, handle_local, handle_or_hold, touched_as, serve_as, serve_by, header_len, is_refused_frame, serve_frame, word_without_session, is_unheard, with_waiting_bytes, wait_if_heard, wait_at, frames_of_client, serve_all, tell_or_serve, take_client_bytes}
 use Rattle.observer_core.specs.Play.{play_event, primed_session, first_client}
-use Rattle.client_service.proofs.NatMaps.{get-inserted, insert-insert, insert-same, entries-empty}
+use Rattle.world.proofs.NatMaps.{get-inserted, insert-insert, insert-same, entries-empty}
 
 -- ---- texts
 
@@ -343,7 +344,7 @@ module _ (header : TxnHeader) (operation : Operation) where
   nobody_asked c touched none = by (connection_of c.sessions header.client_id)
     where
       answered : ℕ → Option RequestQueue → Bool
-      answered n o = is_due (reply_as n (answered_write (queue_in o) header.cxid (txn_number txn_of)))
+      answered n o = is_due (reply_as n (found_write (queue_in o) header.cxid (txn_number txn_of)))
 
       by : (o : Option ℕ) → is_due (reply_of c txn_of o) ≡ false
       by None = refl
@@ -351,10 +352,11 @@ module _ (header : TxnHeader) (operation : Operation) where
           ap (λ (p : PendingTable). answered n (finmap.get p.queues n)) none
           ∙ ap (answered n) (finmap.get-empty nat_cmp n)
 
-  pub unasked : (w : World) (touched : TouchedSessions) (err : ℤ) → w.clients.pending ≡ pending_at touched
-      → last_txn w.replica.learner.log ≡ Some txn_of → answer_last_txn w err ≡ no_output w
-  unasked w touched err none last =
-      ap (answer_optional_txn w err) last ∙ no_answer w txn_of err (nobody_asked w.clients touched none)
+  pub unasked : (w : World) (touched : TouchedSessions) (place : ℕ) (err : ℤ)
+      → w.clients.pending ≡ pending_at touched → slice_get w.replica.learner.log place ≡ Some txn_of
+      → answer_applied_txn w place err ≡ no_output w
+  unasked w touched place err none at =
+      ap (answer_optional_txn w err) at ∙ no_answer w txn_of err (nobody_asked w.clients touched none)
 
 -- ---- the reply to a read
 
@@ -533,9 +535,11 @@ after_set settings touched =
 abbrev pub told : List Output → StepResult World → Result (StepResult WorldAndLoading) Fault
 told events answers = Ok (step_with_loading nothing_loaded (prepend_outputs events answers))
 
--- The events of a transaction's triggers are sent, and then its client is answered.
+-- The events of the last transaction's triggers are sent, and then its client is answered.
 abbrev pub told_by : World → ℤ → FireResult → Result (StepResult WorldAndLoading) Fault
-told_by w err fired = told (notices_of fired.events) (answer_last_txn (with_watches w fired.left) err)
+told_by w err fired =
+    told (notices_of fired.events)
+    (answer_applied_txn (with_watches w fired.left) (length w.replica.learner.log - 1) err)
 
 -- The create takes effect, and the setData after it.
 abbrev pub meant_create : Settings → Clients → World
@@ -565,7 +569,7 @@ create_comes again nobody settings touched rest =
     ∙ ap (λ (f : FireResult). one_delivered w (told_by (meant_create settings clients) err f))
     (nobody (effect_of_txn (start settings) create_txn).triggers)
     ∙ ap (λ (h : StepResult World). one_delivered w (told [] h))
-    (unasked create_header (operations.Create create_body) (meant_create settings clients) touched err refl refl)
+    (unasked create_header (operations.Create create_body) (meant_create settings clients) touched 0 err refl refl)
     ∙ ap (λ (s : State). no_output (following settings (pos 4294967297) (create_txn ∷ []) s touched rest))
     (made-is settings)
 
@@ -581,7 +585,7 @@ set_comes again nobody settings touched =
     ∙ ap (λ (f : FireResult). one_delivered w (told_by (meant_set settings clients) err f))
     (nobody (effect_of_txn (made settings) set_txn).triggers)
     ∙ ap (λ (h : StepResult World). one_delivered w (told [] h))
-    (unasked set_header (operations.SetData set_body) (meant_set settings clients) touched err refl refl)
+    (unasked set_header (operations.SetData set_body) (meant_set settings clients) touched 1 err refl refl)
     ∙ ap (λ (s : State). no_output (following settings (pos 4294967298) (create_txn ∷ set_txn ∷ []) s touched []))
     (written-is settings)
 

@@ -1,5 +1,5 @@
 -- After every event, no connection has a session or a request that waits where clients aren't served.
-use Rattle.std.proofs.Common.{◌≡◌, ℕ, zero, suc, ℤ, Bool, true, false, cond, not, ◌||◌, List, [], ◌∷◌, ◌++◌, Option, Some, None, Result, Ok, Err, refl, sym, ap, subst, ◌∙◌}
+use Rattle.std.proofs.Common.{◌≡◌, ℕ, zero, suc, ℤ, Bool, true, false, cond, not, ◌||◌, List, [], ◌∷◌, ◌++◌, slice_get, Option, Some, None, Result, Ok, Err, refl, sym, ap, subst, ◌∙◌}
 use Rattle.std.specs.Prelude.{is_some}
 use Rattle.std.specs.List.{list_any}
 use Rattle.std.specs.Ordering.{eq_by_cmp, nat_cmp}
@@ -19,7 +19,7 @@ use Rattle.learner_sync.specs.Learn.{start_in, checkpoint_in}
 use Rattle.learner_sync.specs.declared.phase.Phase.{Phase}
 use Rattle.learner_sync.specs.declared.phase.Phase.TheVariants as phase
 use Rattle.replica.specs.Replica.{Replica}
-use Rattle.replica.specs.Taking.{ItemEffect, take_item, follow_leader, is_serving_in, is_serving, checkpoint_if, checkpoint_replica, last_txn}
+use Rattle.replica.specs.Taking.{ItemEffect, take_item, follow_leader, is_serving_in, is_serving, checkpoint_if, checkpoint_replica}
 use Rattle.replica.specs.Laws.{ServingStays}
 use Rattle.replica.specs.declared.item_outcome.LeaderNews.{LeaderNews}
 use Rattle.replica.specs.declared.item_outcome.LeaderNews.TheVariants as news
@@ -35,10 +35,11 @@ use Rattle.forwarding.specs.State.{PendingTable}
 use Rattle.sessions.specs.State.{SessionTable as Sessions, ConnectedClient as SessionConnection}
 use Rattle.sessions.specs.Sessions.{session_in, session_of_connection, connection_of}
 use Rattle.watch_manager.specs.Pairs.{same_connection}
-use Rattle.client_service.specs.World.{OpenConnection, Clients, World}
-use Rattle.client_service.specs.Steps.{StepResult, fold_steps}
-use Rattle.client_service.specs.Clients.{idle_connection, is_open, heard_connection, with_connection, without_client, without_clients}
-use Rattle.client_service.specs.Serve.{close_client, with_pending, touched_as, handle_connect, serve_by, is_refused_frame, serve_frame, word_at, is_unheard, with_waiting_bytes, wait_if_heard, frames_of_client, tell_or_serve, take_client_bytes}
+use Rattle.world.specs.World.{OpenConnection, Clients, World}
+use Rattle.world.specs.Steps.{StepResult, fold_steps}
+use Rattle.world.specs.Clients.{idle_connection, is_open, heard_connection, with_connection, without_client, without_clients}
+use Rattle.world.specs.Sending.{close_client, with_pending}
+use Rattle.client_service.specs.Serve.{touched_as, handle_connect, serve_by, is_refused_frame, serve_frame, word_at, is_unheard, with_waiting_bytes, wait_if_heard, frames_of_client, tell_or_serve, take_client_bytes}
 use Rattle.leader_answers.specs.declared.due.Due.{Due}
 use Rattle.leader_answers.specs.declared.due.Due.TheVariants as dues
 use Rattle.leader_answers.specs.Answering.{answer_if_ready, answer_up_to, answer_due, due_by, admission_of, ending_of, reply_of, give_answer, answer_optional_txn, answer_settled}
@@ -294,7 +295,7 @@ sync_quiet w (Of n) q = front_quiet n pending_limit w q
 pub news_quiet : (o : Option LeaderNews) (w : World) → Agreeing w → IsQuiet w.clients → QuietAfter (answer_news o w)
 news_quiet None w a q = q
 news_quiet (Some (news.Ping ping)) w a q = record { nobody = q.nobody; nothing = q.nothing }
-news_quiet (Some (news.Applied err)) w a q = txn_quiet w err (last_txn w.replica.learner.log) a q
+news_quiet (Some (news.Applied place err)) w a q = txn_quiet w err (slice_get w.replica.learner.log place) a q
 news_quiet (Some news.SyncSettled) w a q =
     let s = settle_sync w.clients.pending in
     sync_quiet (with_pending w s.after) s.settled

@@ -58,15 +58,16 @@ use Rattle.client_frames.specs.declared.call.LocalCall.TheVariants.{Ping}
 use Rattle.client_frames.specs.declared.connecting.Connecting.{Connecting}
 use Rattle.client_frames.specs.Call.{call_in, call_after_header, call_body}
 use Rattle.client_frames.specs.Connect.{connecting_after_request, connecting_in, answer_to_connect, response_of}
-use Rattle.client_service.specs.declared.world.Settings.{Settings}
-use Rattle.client_service.specs.declared.output.Output.{Output}
-use Rattle.client_service.specs.declared.output.Output.TheVariants.{ToLeader, ToClient}
-use Rattle.client_service.specs.World.{OpenConnection, OpenConnections, Clients, World}
-use Rattle.client_service.specs.Steps.{StepResult, prepend_outputs, no_output, and_then}
-use Rattle.client_service.specs.Clients.{idle_connection, heard_in, with_connection}
-use Rattle.client_service.specs.Serve.{to_leader, close_client, send_or_close, with_sessions, with_pending, answer_connect, send_connect_response, finish_connect, handle_connect, touched_as, serve_as, serve_by, is_refused_frame, header_len, connect_or_hold, serve_frame, word_without_session, with_waiting_bytes, frames_of_client, serve_all, tell_or_serve, take_client_bytes}
-use Rattle.leader_answers.specs.Answering.{admission_of, admit_as, admit_with, give_answer, answer_last_txn, answer_ping}
-use Rattle.client_service.proofs.NatMaps.{get-inserted, insert-insert}
+use Rattle.world.specs.declared.world.Settings.{Settings}
+use Rattle.world.specs.declared.output.Output.{Output}
+use Rattle.world.specs.declared.output.Output.TheVariants.{ToLeader, ToClient}
+use Rattle.world.specs.World.{OpenConnection, OpenConnections, Clients, World}
+use Rattle.world.specs.Steps.{StepResult, prepend_outputs, no_output, and_then}
+use Rattle.world.specs.Clients.{idle_connection, heard_in, with_connection}
+use Rattle.world.specs.Sending.{to_leader, close_client, send_or_close, with_sessions, with_pending}
+use Rattle.client_service.specs.Serve.{answer_connect, send_connect_response, finish_connect, handle_connect, touched_as, serve_as, serve_by, is_refused_frame, header_len, connect_or_hold, serve_frame, word_without_session, with_waiting_bytes, frames_of_client, serve_all, tell_or_serve, take_client_bytes}
+use Rattle.leader_answers.specs.Answering.{admission_of, admit_as, admit_with, give_answer, answer_applied_txn, answer_ping}
+use Rattle.world.proofs.NatMaps.{get-inserted, insert-insert}
 use Rattle.observer_core.specs.declared.event.Event.{Event}
 use Rattle.observer_core.specs.declared.event.Event.TheVariants.{LeaderBytes, ClientUp, ClientBytes}
 use Rattle.observer_core.specs.Machine.{Machine}
@@ -492,7 +493,7 @@ module _ (settings : Settings) (three : IsThird settings)
         after = with_session_connected (close_if_some (sessions_after settings 2) older) 2 second_session;
       }
 
-  connect_answered : answer_last_txn applied error ≡ responded response_of_session
+  connect_answered : answer_applied_txn applied 0 error ≡ responded response_of_session
   connect_answered =
       ap (λ (o : Option ℕ). give_answer applied session_txn error (admission_of o))
       (finmap.get-insert int_cmp_total finmap.empty second_session 2 second_session)

@@ -20,11 +20,11 @@ use Rattle.quorum_packet.specs.Kinds.{code_of, kind_of}
 use Rattle.quorum_packet.specs.WholeItems.{WholeItem, OnePacket, OneImage, is_owed, whole_items}
 use Rattle.replica.specs.Taking.{ItemEffect, nothing_loaded, no_effect as nothing_taken, take_item, take_whole}
 use Rattle.replica.specs.Laws.{awaits_image, ImagesComeInParts}
-use Rattle.client_service.specs.declared.output.Output.{Output}
-use Rattle.client_service.specs.World.{World}
-use Rattle.client_service.specs.Steps.{StepResult, prepend_outputs, no_output, and_then, fold_steps}
+use Rattle.world.specs.declared.output.Output.{Output}
+use Rattle.world.specs.World.{World}
+use Rattle.world.specs.Steps.{StepResult, prepend_outputs, no_output, and_then, fold_steps}
 use Rattle.observer_core.specs.Leader.{tell_effect, send_effect, WorldAndLoading, step_with_loading, item_step, whole_item_step, Delivery, delivery_of, deliver_item, is_refused, place_or_fault, place_after, StreamProgress, take_items}
-use Rattle.client_service.proofs.Steps.{passed_over}
+use Rattle.world.proofs.Steps.{passed_over}
 use Rattle.observer_core.proofs.Unmoved.{news_same}
 
 -- ---- the relation

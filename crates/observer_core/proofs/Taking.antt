@@ -17,11 +17,12 @@ use Rattle.sessions.specs.declared.request.SessionResponse.{SessionResponse}
 use Rattle.forwarding.specs.Pending.{is_full}
 use Rattle.client_frames.specs.declared.call.Call.{Call}
 use Rattle.client_frames.specs.Connect.{answer_to_connect}
-use Rattle.client_service.specs.World.{OpenConnection, Clients, World}
-use Rattle.client_service.specs.Steps.{StepResult}
-use Rattle.client_service.specs.Clients.{is_open, heard_connection, without_client}
-use Rattle.client_service.specs.Serve.{send_or_close, send_last, send_connect_response, serve_as, wait_if_heard}
-use Rattle.client_service.proofs.NatMaps.{get-inserted, get-removed}
+use Rattle.world.specs.World.{OpenConnection, Clients, World}
+use Rattle.world.specs.Steps.{StepResult}
+use Rattle.world.specs.Clients.{is_open, heard_connection, without_client}
+use Rattle.world.specs.Sending.{send_or_close, send_last}
+use Rattle.client_service.specs.Serve.{send_connect_response, serve_as, wait_if_heard}
+use Rattle.world.proofs.NatMaps.{get-inserted, get-removed}
 use Rattle.observer_core.proofs.Walking.{Steps, HoldsOfReplies, HoldsOfCalls, serve_as_makes, heard_there}
 use Rattle.observer_core.proofs.Answered.{closed_has_none}
 use Rattle.observer_core.proofs.Plain.{Always, plain_ground}

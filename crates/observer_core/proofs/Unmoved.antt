@@ -2,9 +2,10 @@
 use Rattle.std.proofs.Common.{◌≡◌, ℕ, ℤ, List, Option, Some, None, Bool, true, false, cond, refl, ◌∙◌}
 use Rattle.replica.specs.declared.item_outcome.LeaderNews.{LeaderNews}
 use Rattle.sessions.specs.Sessions.{connection_of, give_session, expire_owner}
-use Rattle.client_service.specs.World.{OpenConnection, World}
-use Rattle.client_service.specs.Clients.{idle_connection, is_open, with_connection, without_client}
-use Rattle.client_service.specs.Serve.{with_sessions, close_client_if_some, take_client_bytes, open_client, end_client, expire_session}
+use Rattle.world.specs.World.{OpenConnection, World}
+use Rattle.world.specs.Clients.{idle_connection, is_open, with_connection, without_client}
+use Rattle.world.specs.Sending.{with_sessions, close_client_if_some}
+use Rattle.client_service.specs.Serve.{take_client_bytes, open_client, end_client, expire_session}
 use Rattle.observer_core.specs.Leader.{answer_news}
 use Rattle.observer_core.proofs.Walking.{Steps, HoldsOfReplies, HoldsOfCalls, HoldsOfConnects, client_makes}
 use Rattle.observer_core.proofs.Answered.{HoldsOfAll, news_make}

@@ -37,12 +37,13 @@ use Rattle.read_processor.specs.Events.{look_of_event}
 use Rattle.watch_manager.specs.declared.event.Event.{Event}
 use Rattle.four_letter.specs.Texts.{reply_text}
 use Rattle.four_letter.specs.declared.word.Word.{Word}
-use Rattle.client_service.specs.declared.output.Output.TheVariants.{ToClient}
-use Rattle.client_service.specs.World.{OpenConnection, World}
-use Rattle.client_service.specs.Steps.{StepResult, no_output, and_then, fold_steps}
-use Rattle.client_service.specs.Clients.{is_open, heard_in, heard_connection, with_connection, sent_to, notice_to, notices_to}
-use Rattle.client_service.specs.Serve.{to_leader, close_client, send_or_close, send_last, with_watches, with_watch, with_watch_if, with_each_watch, answer_set_watches, answer_add_watch, answer_auth, with_sessions, with_pending, touched_as, touch_client, send_auth_result, close_client_if_some, send_connect_response, ask_for_session, is_new_session, finish_connect, may_connect, is_live, handle_connect, handle_local, forward_frame, with_leaving, handle_call, serve_as, serve_by, header_len, is_refused_frame, serve_frame, figures_of, word_at, is_unheard, with_waiting_bytes, wait_if_heard, wait_at, frames_of_client, tell_or_serve, take_client_bytes}
-use Rattle.client_service.proofs.NatMaps.{get-inserted}
+use Rattle.world.specs.declared.output.Output.TheVariants.{ToClient}
+use Rattle.world.specs.World.{OpenConnection, World}
+use Rattle.world.specs.Steps.{StepResult, no_output, and_then, fold_steps}
+use Rattle.world.specs.Clients.{is_open, heard_in, heard_connection, with_connection, sent_to, notice_to, notices_to}
+use Rattle.world.specs.Sending.{to_leader, close_client, send_or_close, send_last, with_watches, with_sessions, with_pending, close_client_if_some}
+use Rattle.client_service.specs.Serve.{with_watch, with_watch_if, with_each_watch, answer_set_watches, answer_add_watch, answer_auth, touched_as, touch_client, send_auth_result, send_connect_response, ask_for_session, is_new_session, finish_connect, may_connect, is_live, handle_connect, handle_local, forward_frame, with_leaving, handle_call, serve_as, serve_by, header_len, is_refused_frame, serve_frame, figures_of, word_at, is_unheard, with_waiting_bytes, wait_if_heard, wait_at, frames_of_client, tell_or_serve, take_client_bytes}
+use Rattle.world.proofs.NatMaps.{get-inserted}
 
 abbrev pub IsOpen : ℕ → World → Type 0
 IsOpen n w = is_open n w.clients ≡ true

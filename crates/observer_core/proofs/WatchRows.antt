@@ -31,12 +31,12 @@ use Rattle.watch_manager.specs.Watching.{WatchTables, no_watch}
 use Rattle.watch_manager.specs.Rows.{watches_on, WorkedRows as FiringRows}
 use Rattle.watch_manager.specs.Watches.{FireResult, fire}
 use Rattle.read_processor.specs.Watch.{watch_of}
-use Rattle.client_service.specs.declared.world.Settings.{Settings}
+use Rattle.world.specs.declared.world.Settings.{Settings}
 use Rattle.client_frames.specs.declared.call.CallBody.TheVariants.{Local}
 use Rattle.client_frames.specs.declared.call.LocalCall.TheVariants.{Read}
 use Rattle.observer_core.specs.declared.event.Event.{Event}
 use Rattle.observer_core.specs.declared.event.Event.TheVariants.{ClientBytes}
-use Rattle.client_service.specs.declared.output.Output.TheVariants.{ToClient, CloseLeader, CloseClient}
+use Rattle.world.specs.declared.output.Output.TheVariants.{ToClient, CloseLeader, CloseClient}
 use Rattle.read_processor.specs.declared.shown.Look.{Look}
 use Rattle.read_processor.specs.declared.request.Request.{Request}
 use Rattle.read_processor.specs.Events.{look_of_event}
@@ -44,15 +44,16 @@ use Rattle.read_processor.specs.Look.{look_at_state, without_body, look_at_node}
 use Rattle.read_processor.specs.Reply.{reply_frame}
 use Rattle.values.specs.Hex.{hex_bytes}
 use Rattle.observer_core.specs.Rows.{inform_of_create, get_data_frame_start, get_data_frame_end, reply_of_create, reply_of_set_data, exists_watch_frame, reply_of_missing, event_of_create, create_inform_event, set_data_inform_event, get_data_event, exists_watch_event}
-use Rattle.client_service.specs.World.{OpenConnection, OpenConnections, World}
+use Rattle.world.specs.World.{OpenConnection, OpenConnections, World}
 use Rattle.observer_core.specs.Machine.{Leader, Machine}
 use Rattle.client_frames.specs.Call.{call_in, call_after_header, call_body, read_as, read_with_flag, value_if_read}
-use Rattle.client_service.specs.Steps.{StepResult, prepend_outputs, no_output}
-use Rattle.client_service.specs.Clients.{heard_in, sent_to, notices_of}
+use Rattle.world.specs.Steps.{StepResult, prepend_outputs, no_output}
+use Rattle.world.specs.Clients.{heard_in, sent_to, notices_of}
 use Rattle.observer_core.specs.Leader.{with_leader}
-use Rattle.client_service.specs.Serve.{send_or_close, send_reply, with_watch_if, with_watches, serve_as, serve_frame, frames_of_client, take_client_bytes}
+use Rattle.world.specs.Sending.{send_or_close, send_reply, with_watches}
+use Rattle.client_service.specs.Serve.{with_watch_if, serve_as, serve_frame, frames_of_client, take_client_bytes}
 use Rattle.observer_core.specs.Play.{play_event, play, primed_session, new_machine, primed_machine}
-use Rattle.client_service.proofs.NatMaps.{get-removed}
+use Rattle.world.proofs.NatMaps.{get-removed}
 use Rattle.observer_core.proofs.Rows.{path_is_text, create_header, create_body, create_txn, create_fits, root, root_there, name_free, start, made-is, create_found, one_frame, get_found, heard_in_world, served_at, handled_at, unasked, NobodyTold, ReadAgain, at_first, heard, joined_first, no_ids_first, world_at, beginning, following, one_delivered, inform_comes, after_create, after_set, told, told_by, meant_create, create_error, create_comes, set_comes, closed, refusing, create_comes_again, replying, in_hand, frame_served, first_open, front_comes, get_after_create, get_after_set}
 
 -- ---- a watch
@@ -169,7 +170,7 @@ watched_create_comes again rows settings =
     ∙ ap (λ (f : FireResult). one_delivered w (told_by (meant_create settings clients) err f))
     (ap (fire one_watch) (create_triggers settings) ∙ rows.created)
     ∙ ap (λ (h : StepResult World). one_delivered w (told (notices_of ((1, node_created) ∷ [])) h))
-    (unasked create_header (operations.Create create_body) unwatching touched err refl refl)
+    (unasked create_header (operations.Create create_body) unwatching touched 0 err refl refl)
     ∙ ap (λ (frame : Option (List ℕ)). one_delivered w (told (sent_to 1 frame ++ []) (no_output unwatching)))
     event_sent
     ∙ ap (λ (s : State). replying event_of_create

@@ -18,11 +18,11 @@ use Rattle.replica.specs.Taking.{is_serving, checkpoint_if}
 use Rattle.replica.specs.Laws.{awaits_image_in, awaits_image, ImagesComeInParts}
 use Rattle.observer_core.specs.declared.event.Event.{Event}
 use Rattle.observer_core.specs.declared.event.Event.TheVariants as event
-use Rattle.client_service.specs.World.{World}
+use Rattle.world.specs.World.{World}
 use Rattle.observer_core.specs.Machine.{Leader, MachineBy, Machine}
-use Rattle.client_service.specs.Steps.{StepResult, prepend_outputs, no_output}
+use Rattle.world.specs.Steps.{StepResult, prepend_outputs, no_output}
 use Rattle.observer_core.specs.Leader.{WorldAndLoading, item_step, whole_item_step, StreamProgress, take_items, leader_at, whole_end, part_reader, image_reader, with_leader, on_leader_fault, with_leader_or_fault, on_stream_end}
-use Rattle.client_service.specs.Clients.{heard_connection}
+use Rattle.world.specs.Clients.{heard_connection}
 use Rattle.client_service.specs.Serve.{take_client_bytes, open_client, end_client, expire_session}
 use Rattle.observer_core.specs.Play.{is_serving_clients, with_checkpoint, play_event_by, play_event, play_by, play, new_machine, primed_machine, new_by, primed_by}
 use Rattle.observer_core.specs.WholeImages.{HasSameEffect, PartsAreWholeImages}

@@ -10,11 +10,11 @@ use Rattle.forwarding.specs.Queue.{waiting_connect}
 use Rattle.forwarding.specs.Pending.{is_idle, queue_of}
 use Rattle.forwarding.specs.Agreement.{PendingAgrees}
 use Rattle.forwarding.specs.Laws.{WaitsForLeader}
-use Rattle.client_service.specs.declared.world.Settings.{Settings}
+use Rattle.world.specs.declared.world.Settings.{Settings}
 use Rattle.observer_core.specs.declared.event.Event.{Event}
-use Rattle.client_service.specs.World.{Clients, World}
+use Rattle.world.specs.World.{Clients, World}
 use Rattle.observer_core.specs.Machine.{Machine}
-use Rattle.client_service.specs.Clients.{is_open}
+use Rattle.world.specs.Clients.{is_open}
 use Rattle.client_service.specs.Serve.{is_live}
 use Rattle.observer_core.specs.Play.{is_serving_clients, play, new_machine, primed_machine}
 

@@ -4,23 +4,23 @@ use Rattle.std.specs.List.{AllByRecursion}
 use Rattle.std.specs.FinMap as finmap
 use Rattle.std.specs.FinSet as set
 use Rattle.observer_core.specs.declared.event.Event.TheVariants.{ClientUp, ClientBytes, ClientEnd}
-use Rattle.client_service.specs.declared.output.Output.{Output}
-use Rattle.client_service.specs.declared.output.Output.TheVariants.{ToLeader, ToClient, CloseLeader, CloseClient}
-use Rattle.client_service.specs.World.{Clients, World}
+use Rattle.world.specs.declared.output.Output.{Output}
+use Rattle.world.specs.declared.output.Output.TheVariants.{ToLeader, ToClient, CloseLeader, CloseClient}
+use Rattle.world.specs.World.{Clients, World}
 use Rattle.observer_core.specs.Machine.{Machine}
 use Rattle.sessions.specs.Sessions.{session_of_connection}
 use Rattle.jute.specs.declared.owned.Id.{Id}
 use Rattle.quorum_packet.specs.Packet.{packet_format}
 use Rattle.learner_sync.specs.Answers.{request_of, session_request}
 use Rattle.txn_codec.specs.declared.txn.Txn.{Txn}
-use Rattle.forwarding.specs.declared.request.WriteKind.{WriteKind}
+use Rattle.forwarding.specs.declared.request.AnsweredWrite.{AnsweredWrite}
 use Rattle.forwarding.specs.declared.request.PendingConnect.{PendingConnect}
 use Rattle.forwarding.specs.declared.request.Settled.TheVariants.{Of}
 use Rattle.forwarding.specs.Queue.{waiting_connect}
 use Rattle.forwarding.specs.Pending.{queue_of, settle_sync}
 use Rattle.forwarding.specs.Laws.{Stays}
-use Rattle.client_service.specs.Steps.{StepResult, no_output}
-use Rattle.client_service.specs.Clients.{is_open}
+use Rattle.world.specs.Steps.{StepResult, no_output}
+use Rattle.world.specs.Clients.{is_open}
 use Rattle.leader_answers.specs.declared.due.Due.TheVariants as dues
 use Rattle.leader_answers.specs.Answering.{answer_due, answer_txn, answer_sync}
 use Rattle.observer_core.specs.Agreement.{ClientsAgree}
@@ -115,8 +115,8 @@ AnswersOnly n w h = IsApart n (λ session. ⊥) (λ k. ⊥) w h
 
 pub record AnswersReachOneClient : Type 0 where
   -- A transaction that was made of a write answers the client that has its session.
-  pub replies : (w : World) (t : Txn) (err : ℤ) (n : ℕ) (kind : WriteKind) → ClientsAgree w.clients
-      → answer_due w.clients t ≡ dues.Reply n kind
+  pub replies : (w : World) (t : Txn) (err : ℤ) (n : ℕ) (write : AnsweredWrite) → ClientsAgree w.clients
+      → answer_due w.clients t ≡ dues.Reply n write
       → (session_of_connection w.clients.sessions n ≡ Some t.header.client_id) × AnswersOnly n w (answer_txn w t err)
   -- One that ends a session answers the client that has it, whose connection closes.
   pub endings : (w : World) (t : Txn) (err : ℤ) (n : ℕ) → ClientsAgree w.clients

@@ -4,9 +4,9 @@ use Rattle.txn_codec.specs.declared.txn.Txn.{Txn}
 use Rattle.data_tree.specs.Meaning.{effect_of_txn, answer_of}
 use Rattle.data_tree.specs.declared.outcome.Outcome.{Outcome}
 use Rattle.watch_manager.specs.Watches.{fire}
-use Rattle.client_service.specs.World.{Clients, World}
-use Rattle.client_service.specs.Steps.{StepResult, fold_steps}
-use Rattle.client_service.specs.Clients.{notices_of}
+use Rattle.world.specs.World.{Clients, World}
+use Rattle.world.specs.Steps.{StepResult, fold_steps}
+use Rattle.world.specs.Clients.{notices_of}
 
 -- The watchers of what a transaction changed are told.
 abbrev pub tell_outcome : Clients → Outcome → StepResult Clients

@@ -1,7 +1,7 @@
 -- The ids of sessions that an observer gives out: none is asked for twice, whatever happens in between.
 use Rattle.std.specs.Prelude.{◌≡◌, ◌⊎◌, ◌≤◌, ℕ, ℤ, List}
 use Rattle.sessions.specs.Agreement.{IsGivenOut, IsNewId}
-use Rattle.client_service.specs.World.{Clients}
+use Rattle.world.specs.World.{Clients}
 use Rattle.observer_core.specs.declared.event.Event.{Event}
 use Rattle.observer_core.specs.Machine.{Machine}
 use Rattle.observer_core.specs.Play.{play}

@@ -1,5 +1,5 @@
 -- The contracts of the private functions. No public contract cites this.
-use Rattle.std.specs.Prelude.{◌≡◌, ℕ, ℤ, List, ◌++◌, map, drop, Result, Ok, Err, Option, Some, None, Bool, false, length, ◌-◌}
+use Rattle.std.specs.Prelude.{◌≡◌, ℕ, ℤ, List, ◌++◌, map, drop, Result, Ok, Err, Option, Some, None, length, ◌-◌}
 use Rattle.std.specs.List.{slice_get}
 use Rattle.std.specs.Int.{int_min}
 use Rattle.values.specs.Gains.{Gains}
@@ -10,23 +10,23 @@ use Rattle.values.specs.declared.fault.ReadError.TheVariants as errors
 use Rattle.jute.specs.Stream.{Place, Items, with_first}
 use Rattle.quorum_packet.specs.declared.item.Item.{Item}
 use Rattle.quorum_packet.specs.declared.phase.Phase.{Phase}
-use Rattle.client_service.specs.declared.output.Output.{Output}
-use Rattle.client_service.specs.World.{Clients, World}
+use Rattle.world.specs.declared.output.Output.{Output}
+use Rattle.world.specs.World.{World}
 use Rattle.observer_core.specs.Machine.{Leader, Machine}
-use Rattle.client_service.specs.Steps.{StepResult, no_output, and_then}
+use Rattle.world.specs.Steps.{StepResult, no_output, and_then}
 use Rattle.observer_core.specs.Gathering.{tell_outcomes, apply_in_turn}
 use Rattle.observer_core.specs.Leader.{WorldAndLoading, StreamProgress, WorldAndLeader, answer_news, item_step, take_items, with_leader}
-use Rattle.client_service.specs.Serve.{to_leader}
-use Rattle.leader_answers.specs.Answering.{lets_answer, answer_last_txn}
+use Rattle.world.specs.Sending.{to_leader, with_clients_of}
+use Rattle.leader_answers.specs.Answering.{answer_applied_txn}
 use Rattle.txn_codec.specs.declared.txn.Txn.{Txn}
 use Rattle.data_tree.specs.Meaning.{outcomes_of_txns}
 use Rattle.data_tree.specs.declared.outcome.Outcome.{Outcome}
 use Rattle.data_tree.specs.declared.outcome.Trigger.{Trigger}
 use Rattle.quorum_packet.specs.declared.packet.QuorumPacket.{QuorumPacket}
-use Rattle.client_service.specs.Clients.{notices_of}
+use Rattle.world.specs.Clients.{notices_of}
 use Rattle.replica.specs.declared.item_outcome.ItemOutcome.{ItemOutcome}
 use Rattle.watch_manager.specs.Watches.{fire}
-use Rattle.client_service.specs.Results.{MeetsStep, SoFar}
+use Rattle.world.specs.Results.{MeetsStep, SoFar}
 use Rattle.client_service.specs.Runs.{AskedRead, answer_all_asked}
 
 -- The packets go to the leader, and an event to each watcher.
@@ -58,30 +58,23 @@ take_items_after done d found =
     and_then (apply_in_turn d.world (drop done d.world.replica.learner.log))
     (λ w. take_items item_step (record d { world = w }) found)
 
--- Whether the transaction that the log has gained, if it has gained one, answers a request.
-abbrev pub gained_answers : Clients → Option Txn → Bool
-gained_answers c None = false
-gained_answers c (Some t) = lets_answer c t
-
--- The log's newest transaction, which has this outcome, answers its client.
-abbrev pub answer_outcome : Option Outcome → World → StepResult World
-answer_outcome None w = no_output w
-answer_outcome (Some outcome) w = answer_last_txn w outcome.err
+-- The transaction at this place of the log, which has this outcome, answers its client.
+abbrev pub answer_outcome : ℕ → Option Outcome → World → StepResult World
+answer_outcome place None w = no_output w
+answer_outcome place (Some outcome) w = answer_applied_txn w place outcome.err
 
 abbrev pub last_outcome : List Outcome → Option Outcome
 last_outcome outcomes = slice_get outcomes (length outcomes - 1)
 
--- The watchers of each outcome are told, and then the client of the last.
-abbrev pub tell_and_answer : World → List Outcome → StepResult World
-tell_and_answer w outcomes =
-    let told = tell_outcomes w.clients outcomes in
-    and_then (record { outputs = told.outputs; after = record w { clients = told.after } })
-    (answer_outcome (last_outcome outcomes))
+-- The watchers of each outcome are told, and then the client of the last, whose transaction has this place.
+abbrev pub tell_and_answer : World → ℕ → List Outcome → StepResult World
+tell_and_answer w place outcomes =
+    and_then (with_clients_of w (tell_outcomes w.clients outcomes)) (answer_outcome place (last_outcome outcomes))
 
--- The transactions are applied one after the other, and the last answers its client.
-abbrev pub settle_and_answer : World → List Txn → StepResult World
-settle_and_answer w txns =
-    and_then (apply_in_turn w txns) (answer_outcome (last_outcome (outcomes_of_txns w.replica.tree txns)))
+-- The transactions are applied one after the other, and the last, which has this place, answers its client.
+abbrev pub settle_and_answer : World → ℕ → List Txn → StepResult World
+settle_and_answer w place txns =
+    and_then (apply_in_turn w txns) (answer_outcome place (last_outcome (outcomes_of_txns w.replica.tree txns)))
 
 -- One more item was taken or gathered; or it was refused, and what was gathered before it is settled; or an allocation
 -- was refused. The others are the items after it.
@@ -121,11 +114,14 @@ FollowsStream (Err e) old whole new leader world = Gains old whole.outputs new
 abbrev pub answer_waiting : List AskedRead → Machine → StepResult Machine
 answer_waiting asked m = with_leader m.leader (answer_all_asked asked m.world)
 
--- The step was made but for the answers to the reads that wait now; or an allocation was refused.
-abbrev pub LeavesReads : Result (Unit {0}) NoMemory → List Output → StepResult Machine → List Output → List AskedRead
-    → Machine → Type 0
-LeavesReads (Ok u) old whole new asked after = SoFar old whole new (answer_waiting asked after)
-LeavesReads (Err e) old whole new asked after = Gains old whole.outputs new
+-- After the reads that waited a step was made, but for the answers to the reads that wait now; or an allocation was
+-- refused.
+abbrev pub LeavesReads : Result (Unit {0}) NoMemory → StepResult Machine → List AskedRead
+    → (Machine → StepResult Machine) → StepResult Machine → List AskedRead → Type 0
+LeavesReads (Ok u) old asked step new left =
+    SoFar old.outputs (and_then (answer_waiting asked old.after) step) new.outputs (answer_waiting left new.after)
+LeavesReads (Err e) old asked step new left =
+    Gains old.outputs (and_then (answer_waiting asked old.after) step).outputs new.outputs
 
 -- The lesser of two timeouts, of which each may be missing.
 abbrev pub lesser_timeout : Option ℤ → Option ℤ → Option ℤ

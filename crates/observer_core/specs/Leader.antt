@@ -15,13 +15,13 @@ use Rattle.replica.specs.declared.item_outcome.LeaderNews.{LeaderNews}
 use Rattle.replica.specs.declared.item_outcome.LeaderNews.TheVariants as news
 use Rattle.replica.specs.Taking.{ItemEffect, nothing_loaded, take_item, take_whole, follow_leader, without_leader}
 use Rattle.watch_manager.specs.Watches.{fire}
-use Rattle.client_service.specs.declared.output.Output.TheVariants.{CloseLeader}
-use Rattle.client_service.specs.World.{World}
+use Rattle.world.specs.declared.output.Output.TheVariants.{CloseLeader}
+use Rattle.world.specs.World.{World}
 use Rattle.observer_core.specs.Machine.{Leader, MachineBy}
-use Rattle.client_service.specs.Steps.{StepResult, prepend_outputs, no_output, and_then, fold_steps}
-use Rattle.client_service.specs.Clients.{notices_of, close_all_clients}
-use Rattle.client_service.specs.Serve.{to_leader}
-use Rattle.leader_answers.specs.Answering.{answer_last_txn, answer_sync, answer_ping}
+use Rattle.world.specs.Steps.{StepResult, prepend_outputs, no_output, and_then, fold_steps}
+use Rattle.world.specs.Clients.{notices_of, close_all_clients}
+use Rattle.world.specs.Sending.{to_leader}
+use Rattle.leader_answers.specs.Answering.{answer_applied_txn, answer_sync, answer_ping}
 use Rattle.forwarding.specs.Pending.{nothing_pending}
 
 -- ---- one packet, part or image
@@ -40,7 +40,7 @@ tell_effect w t =
 abbrev pub answer_news : Option LeaderNews → World → StepResult World
 answer_news None w = no_output w
 answer_news (Some (news.Ping ping)) w = answer_ping w ping
-answer_news (Some (news.Applied err)) w = answer_last_txn w err
+answer_news (Some (news.Applied place err)) w = answer_applied_txn w place err
 answer_news (Some news.SyncSettled) w = answer_sync w
 
 -- Events come before answers.

@@ -5,11 +5,11 @@ use Rattle.learner_sync.specs.Answers.{observer_info}
 use Rattle.learner_sync.specs.declared.phase.Phase.TheVariants.{Down}
 use Rattle.sessions.specs.Sessions.{session_of_connection}
 use Rattle.forwarding.specs.Pending.{is_idle}
-use Rattle.client_service.specs.declared.output.Output.{Output}
-use Rattle.client_service.specs.declared.output.Output.TheVariants.{ToLeader, CloseLeader}
-use Rattle.client_service.specs.declared.world.Settings.{Settings}
-use Rattle.client_service.specs.World.{World}
-use Rattle.client_service.specs.Serve.{to_leader}
+use Rattle.world.specs.declared.output.Output.{Output}
+use Rattle.world.specs.declared.output.Output.TheVariants.{ToLeader, CloseLeader}
+use Rattle.world.specs.declared.world.Settings.{Settings}
+use Rattle.world.specs.World.{World}
+use Rattle.world.specs.Sending.{to_leader}
 use Rattle.observer_core.specs.declared.event.Event.{Event}
 use Rattle.observer_core.specs.declared.event.Event.TheVariants.{LeaderUp, LeaderEnd}
 use Rattle.observer_core.specs.Machine.{Machine}

@@ -6,12 +6,12 @@ use Rattle.quorum_packet.specs.declared.item.Item.{Item}
 use Rattle.quorum_packet.specs.Items.{items_shown_at}
 use Rattle.replica.specs.Replica.{Replica}
 use Rattle.replica.specs.Laws.{FollowsItsLog}
-use Rattle.client_service.specs.declared.world.Settings.{Settings}
+use Rattle.world.specs.declared.world.Settings.{Settings}
 use Rattle.observer_core.specs.declared.event.Event.{Event}
 use Rattle.observer_core.specs.declared.event.Event.TheVariants.{LeaderBytes}
-use Rattle.client_service.specs.World.{World}
+use Rattle.world.specs.World.{World}
 use Rattle.observer_core.specs.Machine.{Leader, Machine}
-use Rattle.client_service.specs.Steps.{StepResult, no_output, and_then}
+use Rattle.world.specs.Steps.{StepResult, no_output, and_then}
 use Rattle.observer_core.specs.Leader.{WorldAndLoading, Delivery, item_step, deliver_item, deliver_all, on_leader_fault}
 use Rattle.observer_core.specs.Play.{play, play_event, new_machine, primed_machine}
 

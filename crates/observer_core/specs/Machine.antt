@@ -4,7 +4,8 @@ use Rattle.std.specs.Coded.{Coded, code_by, coded×, coded_option}
 use Rattle.jute.specs.Stream.{Place}
 use Rattle.snapshot_codec.specs.Made.{Loading}
 use Rattle.quorum_packet.specs.declared.phase.Phase.{Phase}
-use Rattle.client_service.specs.World.{World}
+use Rattle.world.specs.World.{World}
+use Rattle.world.specs.Steps.{StepResult}
 
 -- The place in the leader's stream, and the image that is being loaded.
 pub record Leader : Type 0 where
@@ -30,3 +31,9 @@ abbrev pub machine_code : Coded Leader → Coded World → Coded Machine
 machine_code leader world =
     code_by (Option Leader × World) (coded× (coded_option leader) world) (λ m. (m.leader, m.world))
     (λ p. record { leader = p.0; world = p.1 }) (λ _. refl)
+
+abbrev pub staged_machine_code : Coded Leader → Coded (StepResult World) → Coded (StepResult Machine)
+staged_machine_code leader stage =
+    code_by (Option Leader × StepResult World) (coded× (coded_option leader) stage)
+    (λ s. (s.after.leader, record { outputs = s.outputs; after = s.after.world }))
+    (λ p. record { outputs = p.1.outputs; after = record { leader = p.0; world = p.1.after } }) (λ _. refl)

@@ -4,13 +4,13 @@ use Rattle.replica.specs.Replica.{Replica, new_replica, primed_replica}
 use Rattle.replica.specs.Taking.{is_serving, checkpoint_replica}
 use Rattle.sessions.specs.Credentials.{session_id_of}
 use Rattle.sessions.specs.Sessions.{give_session}
-use Rattle.client_service.specs.declared.world.Settings.{Settings}
+use Rattle.world.specs.declared.world.Settings.{Settings}
 use Rattle.observer_core.specs.declared.event.Event.{Event}
 use Rattle.observer_core.specs.declared.event.Event.TheVariants.{LeaderUp, LeaderBytes, LeaderEnd, ClientUp, ClientBytes, ClientEnd, Expire, Checkpoint}
-use Rattle.client_service.specs.World.{Clients, World}
+use Rattle.world.specs.World.{Clients, World}
 use Rattle.observer_core.specs.Machine.{MachineBy, Machine}
-use Rattle.client_service.specs.Steps.{StepResult, no_output, fold_steps}
-use Rattle.client_service.specs.Clients.{idle_connection, heard_connection, with_connection, no_clients}
+use Rattle.world.specs.Steps.{StepResult, no_output, fold_steps}
+use Rattle.world.specs.Clients.{idle_connection, heard_connection, with_connection, no_clients}
 use Rattle.observer_core.specs.Leader.{StreamReader, part_reader, with_leader, meet_leader, take_leader_bytes, end_leader}
 use Rattle.client_service.specs.Serve.{take_client_bytes, open_client, end_client, expire_session}
 

@@ -3,7 +3,7 @@ use Rattle.std.specs.Prelude.{◌≡◌, List, ◌++◌, Result, Ok, Err, Option
 use Rattle.values.specs.Gains.{Gains}
 use Rattle.observer_core.specs.Machine.{Machine}
 use Rattle.observer_core.specs.declared.event.Event.{Event}
-use Rattle.client_service.specs.declared.output.Output.{Output}
+use Rattle.world.specs.declared.output.Output.{Output}
 use Rattle.observer_core.specs.declared.engine.Stop.{Stop}
 use Rattle.observer_core.specs.declared.engine.Stop.TheVariants as stops
 use Rattle.observer_core.specs.Play.{play}

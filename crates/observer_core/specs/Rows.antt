@@ -3,11 +3,11 @@ use Rattle.std.specs.Prelude.{◌≡◌, ℕ, pos, List, [], ◌∷◌, ◌++◌
 use Rattle.values.specs.Hex.{hex_bytes}
 use Rattle.values.specs.declared.fault.Fault.TheVariants.{OutOfOrder}
 use Rattle.settings.specs.Settings.{timeout_pair}
-use Rattle.client_service.specs.declared.world.Settings.{Settings}
+use Rattle.world.specs.declared.world.Settings.{Settings}
 use Rattle.observer_core.specs.declared.event.Event.{Event}
 use Rattle.observer_core.specs.declared.event.Event.TheVariants.{LeaderBytes, ClientUp, ClientBytes}
-use Rattle.client_service.specs.declared.output.Output.{Output}
-use Rattle.client_service.specs.declared.output.Output.TheVariants.{ToLeader, ToClient, CloseLeader, CloseClient}
+use Rattle.world.specs.declared.output.Output.{Output}
+use Rattle.world.specs.declared.output.Output.TheVariants.{ToLeader, ToClient, CloseLeader, CloseClient}
 use Rattle.observer_core.specs.Play.{play, new_machine, primed_machine}
 
 -- An INFORM of a create of /a with the data "hi", zxid 0x100000001.

@@ -2,7 +2,7 @@
 use Rattle.std.specs.Prelude.{List, IsTrue}
 use Rattle.settings.specs.Settings.{is_server_id, is_first_counter}
 use Rattle.replica.specs.Laws.{FollowsItsLog}
-use Rattle.client_service.specs.declared.world.Settings.{Settings}
+use Rattle.world.specs.declared.world.Settings.{Settings}
 use Rattle.observer_core.specs.declared.event.Event.{Event}
 use Rattle.observer_core.specs.Machine.{Machine}
 use Rattle.observer_core.specs.Play.{play, new_machine, primed_machine}

@@ -2,7 +2,7 @@
 use Rattle.std.specs.Prelude.{◌≡◌, ℤ, Option, Some, None, true}
 use Rattle.std.specs.Int.Signed.{◌≤ℤ◌}
 use Rattle.std.specs.FinMap as finmap
-use Rattle.client_service.specs.World.{World}
+use Rattle.world.specs.World.{World}
 
 -- A session that a connection has here has this timeout in the tree, in milliseconds.
 pub record HasTimeout (w : World) (time_out : ℤ) : Type 0 where

@@ -1,9 +1,9 @@
 -- A leader's stream may be taken part by part: the outputs and the world left are those of taking whole images.
 use Rattle.std.specs.Prelude.{◌≡◌, List}
-use Rattle.client_service.specs.declared.world.Settings.{Settings}
+use Rattle.world.specs.declared.world.Settings.{Settings}
 use Rattle.observer_core.specs.declared.event.Event.{Event}
 use Rattle.observer_core.specs.Machine.{MachineBy}
-use Rattle.client_service.specs.Steps.{StepResult}
+use Rattle.world.specs.Steps.{StepResult}
 use Rattle.observer_core.specs.Leader.{image_reader}
 use Rattle.observer_core.specs.Play.{play, play_by, new_machine, primed_machine, new_by, primed_by}
 

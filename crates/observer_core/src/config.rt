@@ -6,10 +6,10 @@ ghost use Rattle.settings.specs.Settings.{epoch_pair, timeout_pair};
 ghost use Rattle.settings.specs.Settings.{is_server_id, are_epochs, are_timeouts, is_secret, default_first_counter};
 
 use batcher::{Limits, SpreadThreshold};
-use client_service::Settings;
 use settings::{Epochs, FirstCounter, Secret, ServerId, TimeoutBounds};
 use thiserror::Error;
 use values::Blob;
+use world::Settings;
 
 /// The settings of an observer, the limits on what it does at once, and the least work that it spreads over threads. No
 /// answer depends on the limits and the threshold.

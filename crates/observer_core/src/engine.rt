@@ -1,17 +1,14 @@
 //! The engine: a machine that a refused allocation closes.
-//!
-//! Laws that go over this: `Agreeing`, `WholeImages`.
 
-ghost use Rattle.std.specs.Prelude.{◌≡◌, Some, None, IfOk, OnOk};
-ghost use Rattle.std.specs.FinMap as finmap;
+ghost use Rattle.std.specs.Prelude.{◌≡◌, Some, IsTrue, IfOk, OnOk};
 ghost use Rattle.std.specs.Thread.{IsSync};
 ghost use Rattle.data_tree.specs.Meaning.{state_after, outcomes_of_txns};
 ghost use Rattle.replica.specs.Gathering.{AppliesTxns};
 ghost use Rattle.read_processor.specs.Asking.{looks_at, LooksAtAsks};
 ghost use Rattle.watch_manager.specs.Counts.{watch_count_of};
-ghost use Rattle.sessions.specs.Sessions.{name_session, give_session};
-ghost use Rattle.client_service.specs.Clients.{idle_connection, with_connection};
-ghost use Rattle.observer_core.specs.Play.{initial_machine, new_machine, primed_machine};
+ghost use Rattle.settings.specs.Settings.{is_first_counter};
+ghost use Rattle.world.specs.Clients.{no_clients};
+ghost use Rattle.observer_core.specs.Play.{initial_machine, new_machine, primed_session, first_client, primed_machine};
 ghost use Rattle.observer_core.specs.Machine.{Machine as TheMachine};
 ghost use Rattle.observer_core.specs.Plays.{PlaysEvents};
 ghost use Rattle.observer_core.specs.Timeouts.{IsLeastTimeout};
@@ -24,7 +21,6 @@ use crate::run::run;
 use crate::timeouts::least_timeout;
 use apply_workers::{Gate, apply_list, apply_list_inline};
 use batcher::{Limits, SpreadThreshold};
-use client_service::{Clients, Output, Settings, World};
 use data_tree::{Outcome, Tree};
 use learner_sync::Learner;
 use quorum_packet::PacketFeed;
@@ -35,10 +31,12 @@ use sessions::SessionRequest;
 use snapshot_codec::Loader;
 use std::alloc::Global;
 use std::marker::Model;
+use std::mem;
 use std::thread::Threads;
 use thiserror::Error;
 use txn_codec::Txn;
 use values::NoMemory;
+use world::{Clients, Output, Settings, Stage, World};
 
 // The connection that `primed` opens.
 const FIRST: u64 = 1;
@@ -66,25 +64,25 @@ pub struct Engine {
 impl Model for Engine {
     ghost use Rattle.std.specs.Prelude.{Option, Some, None, if◌then◌else◌};
     ghost use Rattle.std.specs.Coded.{coded_option};
-    ghost use Rattle.observer_core.specs.Machine.{Machine as TheMachine};
-    ghost use Rattle.observer_core.specs.contracts.machine.Machine as contracts;
+    ghost use Rattle.world.specs.contracts.world.World as of_world;
+    ghost use Rattle.observer_core.specs.contracts.machine.Leader as of_leader;
+    ghost use Rattle.observer_core.specs.Machine.{Machine as TheMachine, machine_code};
 
     ghost Value = { Option TheMachine };
 
-    ghost coded = { coded_option contracts.the_row.coded };
+    ghost coded = { coded_option (machine_code of_leader.the_row.coded of_world.the_row.coded) };
 
-    ghost view = { λ e. if e.closed then None else Some e.machine };
+    ghost view = { λ e. if e.closed then None else Some e.machine.after };
 }
 
-// Opens connection 1, and gives it a new session with this timeout. Returns the session's id.
-fn open_first(alloc: Global, time_out: i32, clients: &mut Clients) -> Result<i64, NoMemory>
-    requires { finmap.get clients.old.sessions.connections 1 ≡ None }
-    ensures session { let named = name_session clients.old.sessions time_out in
-        IfOk result (λ session. session ≡ named.connected.response.session_id) }
-    ensures clients { let named = name_session clients.old.sessions time_out in
-        let given = give_session named.after 1 named.connected.response.session_id time_out in
-        OnOk result (clients.new ≡ with_connection 1 idle_connection (record clients.old { sessions = given.after })) }
+// Opens connection 1, and gives it a new session with the greatest timeout. Returns the session's id.
+fn open_first(alloc: Global, settings: &Settings, clients: &mut Clients) -> Result<i64, NoMemory>
+    requires begins { IsTrue (is_first_counter settings.now.first_counter) }
+    requires nobody { clients.old ≡ no_clients settings.now }
+    ensures session { IfOk result (λ session. session ≡ primed_session settings.now) }
+    ensures clients { OnOk result (clients.new ≡ first_client settings.now) }
 {
+    let time_out = settings.timeouts.greatest();
     let request = SessionRequest {
         time_out,
         session_id: 0,
@@ -108,7 +106,7 @@ impl Engine {
         let settings = &config.settings;
         let replica = Replica::new(alloc, settings.epochs)?;
         let clients = Clients::new(alloc, settings)?;
-        Ok(Engine::started(config, replica, None, clients))
+        Ok(Engine::started(alloc, config, replica, None, clients))
     }
 
     /// An observer that follows a leader in epoch 1 and serves clients. Its tree has the first session, with the
@@ -119,18 +117,23 @@ impl Engine {
         ensures { IfOk result (λ e. e ≡ Some (primed_machine config.settings)) }
     {
         let settings = &config.settings;
-        let longest = settings.timeouts.greatest();
         let mut clients = Clients::new(alloc, settings)?;
-        let session = open_first(alloc, longest, &mut clients)?;
-        let replica = Replica::primed(alloc, session, longest)?;
+        let session = open_first(alloc, settings, &mut clients)?;
+        let replica = Replica::primed(alloc, session, settings.timeouts.greatest())?;
         let leader = Leader {
             feed: PacketFeed::new(alloc),
             loader: Loader::new(alloc),
         };
-        Ok(Engine::started(config, replica, Some(leader), clients))
+        Ok(Engine::started(alloc, config, replica, Some(leader), clients))
     }
 
-    fn started(config: Config, replica: Replica, leader: Option<Leader>, clients: Clients) -> Engine
+    fn started(
+        alloc: Global,
+        config: Config,
+        replica: Replica,
+        leader: Option<Leader>,
+        clients: Clients,
+    ) -> Engine
         ensures { result ≡ Some (initial_machine config.settings replica leader clients) }
     {
         let Config {
@@ -143,26 +146,34 @@ impl Engine {
             replica,
             clients,
         };
+        let stage = Stage::new(alloc, world);
         Engine {
-            machine: Machine { leader, world },
+            machine: Machine { leader, stage },
             limits,
             threshold,
             closed: false,
         }
     }
 
+    // The world. That of a closed engine is unspecified.
+    fn world(&self) -> &World
+        ensures { (m : TheMachine) → self.now ≡ Some m → result.now ≡ m.world }
+    {
+        &self.machine.stage.world
+    }
+
     /// The data tree. The tree of a closed engine is unspecified.
     pub fn tree(&self) -> &Tree
         ensures { (m : TheMachine) → self.now ≡ Some m → result.now ≡ m.world.replica.tree }
     {
-        self.machine.world.replica.tree()
+        self.world().replica.tree()
     }
 
     /// How far the leader was followed. The learner of a closed engine is unspecified.
     pub fn learner(&self) -> &Learner
         ensures { (m : TheMachine) → self.now ≡ Some m → result.now ≡ m.world.replica.learner }
     {
-        self.machine.world.replica.learner()
+        self.world().replica.learner()
     }
 
     /// The least timeout, in milliseconds, of the sessions that connections have here: the tree's timeout of each. None
@@ -171,7 +182,7 @@ impl Engine {
     pub fn least_timeout(&self) -> Option<i32>
         ensures { (m : TheMachine) → self.now ≡ Some m → IsLeastTimeout m.world result }
     {
-        least_timeout(&self.machine.world)
+        least_timeout(self.world())
     }
 
     /// The number of watches of a connection, of all kinds. That of a closed engine is unspecified. Takes time logarithmic
@@ -180,7 +191,7 @@ impl Engine {
         ensures { (m : TheMachine) → self.now ≡ Some m
             → result ≡ watch_count_of connection m.world.clients.watches }
     {
-        self.machine.world.clients.watches.count_of(connection)
+        self.world().clients.watches.count_of(connection)
     }
 
     // Plays the events. The closures apply the transactions of an event of the leader, and answer a run of reads.
@@ -204,7 +215,8 @@ impl Engine {
         if self.closed {
             return Err(Stop::Closed);
         }
-        match run(
+        mem::swap(&mut self.machine.stage.outputs, outputs);
+        let played = run(
             alloc,
             doer,
             looker,
@@ -212,8 +224,9 @@ impl Engine {
             gathers,
             &mut self.machine,
             events,
-            outputs,
-        ) {
+        );
+        mem::swap(&mut self.machine.stage.outputs, outputs);
+        match played {
             Ok(()) => Ok(()),
             Err(NoMemory) => {
                 self.closed = true;

@@ -4,27 +4,29 @@
 //! packet is sent, a client's request or a fault is answered, and at the end of the event.
 
 ghost use Rattle.std.specs.Prelude.{◌≡◌, ◌≤◌, true, length, drop, OnOk};
-ghost use Rattle.std.specs.List.{slice_get};
+ghost use Rattle.quorum_packet.specs.Lending.{owned_item};
 ghost use Rattle.quorum_packet.specs.Feed.{CanBeWritten};
 ghost use Rattle.snapshot_codec.specs.Made.{Loading};
 ghost use Rattle.replica.specs.Gathering.{brings_txns, AppliesTxns};
-ghost use Rattle.client_service.specs.Results.{MeetsStep};
+ghost use Rattle.leader_answers.specs.Answering.{due_in_log};
 ghost use Rattle.observer_core.specs.Gathering.{tell_outcome, tell_outcomes, apply_in_turn};
-ghost use Rattle.observer_core.specs.Inner.{gained_answers, tell_and_answer, settle_and_answer, TakesNextItem};
+ghost use Rattle.observer_core.specs.Inner.{tell_and_answer, settle_and_answer, TakesNextItem};
+ghost use Rattle.world.specs.Results.{MakesStep, MeetsStep};
 
 use crate::event::Event;
 use crate::leader::receive_item;
-use client_service::{Clients, Output, World, notify_each};
 use data_tree::{Outcome, Tree};
-use leader_answers::{answer_last_txn, lets_answer};
-use quorum_packet::Item;
+use leader_answers::{Due, answer_applied_txn, due_in_log};
+use quorum_packet::LentItem;
 use replica::brings_txns;
 use snapshot_codec::Loader;
 use std::alloc::Global;
 use txn_codec::Txn;
 use values::{NoMemory, ReadError};
+use world::{Clients, Output, Stage, World, notify_each};
 
 // Tells the watchers of what a transaction changed.
+#[tactic(auto, using(crate::proofs::Batches::outcome_told))]
 fn tell_outcome(
     alloc: Global,
     clients: &mut Clients,
@@ -59,17 +61,21 @@ pub(crate) fn settle_txns<D: Fn(&mut Tree, &[Txn]) -> Result<Vec<Outcome>, NoMem
     alloc: Global,
     doer: &D,
     done: usize,
-    world: &mut World,
-    outputs: &mut Vec<Output>,
+    stage: &mut Stage,
 ) -> Result<(), NoMemory>
-    requires within { done ≤ length world.old.replica.learner.log }
+    requires within { done ≤ length stage.old.after.replica.learner.log }
     requires applies { AppliesTxns (D.pre doer.now) (D.post doer.now) }
-    ensures { MeetsStep result outputs.old.items
-        (apply_in_turn world.old (drop done world.old.replica.learner.log))
-        outputs.new.items world.new }
+    ensures { MakesStep result stage.old
+        (λ w. apply_in_turn w (drop done w.replica.learner.log))
+        stage.new }
 {
-    let outcomes = world.replica.apply_gathered(done, doer)?;
-    tell_each(alloc, &mut world.clients, outcomes.as_slice(), outputs)
+    let outcomes = stage.world.replica.apply_gathered(done, doer)?;
+    tell_each(
+        alloc,
+        &mut stage.world.clients,
+        outcomes.as_slice(),
+        &mut stage.outputs,
+    )
 }
 
 fn log_len(world: &World) -> usize
@@ -78,51 +84,51 @@ fn log_len(world: &World) -> usize
     world.replica.learner().since_base().len()
 }
 
-// Whether the log has gained a transaction that answers a client.
-fn gained_answers(before: usize, world: &World) -> bool
-    ensures { result ≡ gained_answers world.now.clients (slice_get world.now.replica.learner.log before) }
-{
-    match world.replica.learner().since_base().get(before) {
-        None => false,
-        Some(txn) => lets_answer(&world.clients, txn),
-    }
-}
-
-// Tells the watchers of each outcome, in order, and then answers the client of the last transaction.
-#[tactic(auto, using(client_service::proofs::Steps::then_meets, client_service::proofs::Steps::first_stops))]
+// Tells the watchers of each outcome, in order, and then answers the client of the last transaction, which has this
+// place in the log and brings `due`.
+#[tactic(auto, using(world::proofs::Steps::then_meets, world::proofs::Steps::first_stops))]
 fn tell_and_answer(
     alloc: Global,
-    world: &mut World,
+    stage: &mut Stage,
+    place: usize,
+    due: Due,
     outcomes: &[Outcome],
-    outputs: &mut Vec<Output>,
 ) -> Result<(), NoMemory>
-    ensures { MeetsStep result outputs.old.items
-        (tell_and_answer world.old outcomes.now)
-        outputs.new.items world.new }
+    requires { due ≡ due_in_log stage.old.after place }
+    ensures { MakesStep result stage.old
+        (λ w. tell_and_answer w place outcomes.now)
+        stage.new }
 {
-    tell_each(alloc, &mut world.clients, outcomes, outputs)?;
+    tell_each(
+        alloc,
+        &mut stage.world.clients,
+        outcomes,
+        &mut stage.outputs,
+    )?;
     match outcomes.last() {
         None => Ok(()),
-        Some(outcome) => answer_last_txn(alloc, world, outcome.err, outputs),
+        Some(outcome) => answer_applied_txn(alloc, stage, place, due, outcome.err),
     }
 }
 
-// Settles what is gathered, where the last transaction answers a client.
+// Settles what is gathered, if the last transaction, which has this place in the log, answers a client: it brings `due`.
 fn settle_and_answer<D: Fn(&mut Tree, &[Txn]) -> Result<Vec<Outcome>, NoMemory>>(
     alloc: Global,
     doer: &D,
     done: usize,
-    world: &mut World,
-    outputs: &mut Vec<Output>,
+    stage: &mut Stage,
+    place: usize,
+    due: Due,
 ) -> Result<(), NoMemory>
-    requires within { done ≤ length world.old.replica.learner.log }
+    requires within { done ≤ length stage.old.after.replica.learner.log }
+    requires due { due ≡ due_in_log stage.old.after place }
     requires applies { AppliesTxns (D.pre doer.now) (D.post doer.now) }
-    ensures { MeetsStep result outputs.old.items
-        (settle_and_answer world.old (drop done world.old.replica.learner.log))
-        outputs.new.items world.new }
+    ensures { MakesStep result stage.old
+        (λ w. settle_and_answer w place (drop done w.replica.learner.log))
+        stage.new }
 {
-    let applied = world.replica.apply_gathered(done, doer)?;
-    tell_and_answer(alloc, world, applied.as_slice(), outputs)
+    let applied = stage.world.replica.apply_gathered(done, doer)?;
+    tell_and_answer(alloc, stage, place, due, applied.as_slice())
 }
 
 // Takes an item that brings transactions. A transaction that answers a client ends the batch: it is settled with those
@@ -132,32 +138,31 @@ fn gather_item<D: Fn(&mut Tree, &[Txn]) -> Result<Vec<Outcome>, NoMemory>>(
     alloc: Global,
     doer: &D,
     done: &mut usize,
-    world: &mut World,
-    item: Item,
-    outputs: &mut Vec<Output>,
+    stage: &mut Stage,
+    item: LentItem<'_>,
 ) -> Result<(), ReadError>
-    requires brings { brings_txns item ≡ true }
-    requires within { done.old ≤ length world.old.replica.learner.log }
+    requires brings { brings_txns (owned_item item) ≡ true }
+    requires within { done.old ≤ length stage.old.after.replica.learner.log }
     requires applies { AppliesTxns (D.pre doer.now) (D.post doer.now) }
-    ensures within { OnOk result (done.new ≤ length world.new.replica.learner.log) }
-    ensures takes { (loading : Loading) → TakesNextItem result outputs.old.items done.old
-        (record { loading = loading; world = world.old }) item
-        outputs.new.items done.new (record { loading = loading; world = world.new }) }
+    ensures within { OnOk result (done.new ≤ length stage.new.after.replica.learner.log) }
+    ensures takes { (loading : Loading) → TakesNextItem result stage.old.outputs done.old
+        (record { loading = loading; world = stage.old.after }) (owned_item item.entry)
+        stage.new.outputs done.new (record { loading = loading; world = stage.new.after }) }
 {
     let waits_from = *done;
-    let before = log_len(world);
-    match world.replica.gather(alloc, item) {
+    let place = stage.world.replica.learner().since_base().len();
+    match stage.world.replica.gather(alloc, item) {
         Ok(()) => {
-            if !gained_answers(before, world) {
-                return Ok(());
+            let due = due_in_log(&stage.world, place);
+            if due.answers() {
+                settle_and_answer(alloc, doer, waits_from, stage, place, due)?;
+                *done = log_len(&stage.world);
             }
-            settle_and_answer(alloc, doer, waits_from, world, outputs)?;
-            *done = log_len(world);
             Ok(())
         }
         Err(ReadError::NoMemory) => Err(ReadError::NoMemory),
         Err(ReadError::Fault(fault)) => {
-            settle_txns(alloc, doer, waits_from, world, outputs)?;
+            settle_txns(alloc, doer, waits_from, stage)?;
             Err(ReadError::Fault(fault))
         }
     }
@@ -172,23 +177,23 @@ pub fn take_item<D: Fn(&mut Tree, &[Txn]) -> Result<Vec<Outcome>, NoMemory>>(
     doer: &D,
     done: &mut usize,
     loader: &mut Loader,
-    world: &mut World,
-    item: Item,
-    outputs: &mut Vec<Output>,
+    stage: &mut Stage,
+    item: LentItem<'_>,
 ) -> Result<(), ReadError>
-    requires writable { CanBeWritten item }
-    requires within { done.old ≤ length world.old.replica.learner.log }
+    requires writable { CanBeWritten (owned_item item) }
+    requires within { done.old ≤ length stage.old.after.replica.learner.log }
     requires applies { AppliesTxns (D.pre doer.now) (D.post doer.now) }
-    ensures within { OnOk result (done.new ≤ length world.new.replica.learner.log) }
-    ensures takes { TakesNextItem result outputs.old.items done.old (record { loading = loader.old; world = world.old }) item
-        outputs.new.items done.new (record { loading = loader.new; world = world.new }) }
+    ensures within { OnOk result (done.new ≤ length stage.new.after.replica.learner.log) }
+    ensures takes { TakesNextItem result stage.old.outputs done.old
+        (record { loading = loader.old; world = stage.old.after }) (owned_item item.entry)
+        stage.new.outputs done.new (record { loading = loader.new; world = stage.new.after }) }
 {
     if brings_txns(&item) {
-        return gather_item(alloc, doer, done, world, item, outputs);
+        return gather_item(alloc, doer, done, stage, item);
     }
-    settle_txns(alloc, doer, *done, world, outputs)?;
-    receive_item(alloc, loader, world, item, outputs)?;
-    *done = log_len(world);
+    settle_txns(alloc, doer, *done, stage)?;
+    receive_item(alloc, loader, stage, item)?;
+    *done = log_len(&stage.world);
     Ok(())
 }
 

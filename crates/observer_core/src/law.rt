@@ -4,7 +4,7 @@ ghost use Rattle.std.specs.Prelude.{◌≡◌, List, ℕ, ◌∷◌, ◌++◌};
 ghost use Rattle.observer_core.specs.Machine.{Machine};
 ghost use Rattle.observer_core.specs.declared.event.Event.{Event};
 ghost use Rattle.observer_core.specs.declared.event.Event.TheVariants.{LeaderBytes, ClientBytes};
-ghost use Rattle.client_service.specs.Steps.{prepend_outputs};
+ghost use Rattle.world.specs.Steps.{prepend_outputs};
 ghost use Rattle.observer_core.specs.Play.{play};
 ghost use Rattle.observer_core.specs.Logs.{MachinesFollowTheirLogs, RefusalsChangeNothing};
 ghost use Rattle.observer_core.specs.Agreement.{ConnectionsAgree, SessionsAreServed, ConnectedSessionsLive, NothingWaitsInVain};

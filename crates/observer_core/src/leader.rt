@@ -1,37 +1,36 @@
 //! What a leader does: it connects, sends, and leaves.
-//!
-//! Laws that go over this: `Agreeing`, `GivenIds`, `Leaderless`, `Logs`, `Playing`, `Refusals`, `Served`,
-//! `Simulation`, `WholeImages`.
 
 ghost use Rattle.std.specs.Prelude.{◌≡◌, map, ◌∷◌, [], IfOk, OnOk};
 ghost use Rattle.std.specs.List.{All};
 ghost use Rattle.values.specs.Gains.{Puts};
 ghost use Rattle.quorum_packet.specs.Feed.{CanBeWritten};
 ghost use Rattle.quorum_packet.specs.Items.{items_shown_at};
+ghost use Rattle.quorum_packet.specs.Lending.{owned_item};
 ghost use Rattle.quorum_packet.specs.Packet.{packet_format};
 ghost use Rattle.replica.specs.Gathering.{AppliesTxns};
 ghost use Rattle.replica.specs.Taking.{IsAnswerable};
-ghost use Rattle.client_service.specs.Clients.{close_all_clients};
-ghost use Rattle.client_service.specs.Steps.{prepend_outputs};
-ghost use Rattle.client_service.specs.declared.output.Output.TheVariants.{CloseLeader};
+ghost use Rattle.world.specs.Clients.{close_all_clients};
+ghost use Rattle.world.specs.Steps.{prepend_outputs};
+ghost use Rattle.world.specs.declared.output.Output.TheVariants.{CloseLeader};
 ghost use Rattle.watch_manager.specs.Watches.{fire};
-ghost use Rattle.client_service.specs.Serve.{with_watches, to_leader};
+ghost use Rattle.world.specs.Sending.{with_watches, to_leader};
 ghost use Rattle.observer_core.specs.Leader.{part_reader, take_items, item_step, answer_news, meet_leader, disconnect_all, take_leader_bytes, end_leader};
 ghost use Rattle.observer_core.specs.Inner.{tell_all, send_outcome, ReceivesItem, DeliversItems, FollowsStream};
-ghost use Rattle.client_service.specs.Results.{MeetsStep};
+ghost use Rattle.world.specs.Results.{MakesStep, MeetsStep};
 
 use crate::gathering::{settle_txns, take_item};
 use crate::machine::{Leader, Machine};
-use client_service::{Clients, Output, World, notify_each, send_to_leader};
 use data_tree::{Outcome, Tree, Trigger};
-use leader_answers::{answer_last_txn, answer_ping, answer_sync};
-use quorum_packet::{Item, PacketFeed, QuorumPacket};
+use leader_answers::{answer_applied_txn, answer_ping, answer_sync, due_in_log};
+use quorum_packet::{LentItem, LentItems, PacketFeed, QuorumPacket};
 use replica::{ItemOutcome, LeaderNews};
 use snapshot_codec::Loader;
 use std::alloc::Global;
+use std::mem;
 use txn_codec::Txn;
 use values::{Fault, NoMemory, ReadError};
 use watch_manager::Event;
+use world::{Clients, Output, Stage, World, notify_each, send_to_leader};
 
 // Sends packets to the leader, in order and one output each.
 fn send_each(
@@ -62,82 +61,75 @@ fn fire(
 }
 
 // Sends packets to the leader, and then an event to each watcher.
+#[tactic(auto, using(crate::proofs::Delivering::told_meets))]
 fn tell(
     alloc: Global,
-    world: &mut World,
+    stage: &mut Stage,
     packets: &[QuorumPacket],
     triggers: &[Trigger],
-    outputs: &mut Vec<Output>,
 ) -> Result<(), NoMemory>
     requires { All packet_format.Writable packets.now }
-    ensures { MeetsStep result outputs.old.items
-        (tell_all world.old packets.now triggers.now)
-        outputs.new.items world.new }
+    ensures { MakesStep result stage.old
+        (λ w. tell_all w packets.now triggers.now)
+        stage.new }
 {
-    let events = fire(alloc, world, triggers)?;
-    send_each(alloc, packets, outputs)?;
-    notify_each(alloc, events.as_slice(), outputs)
+    let events = fire(alloc, &mut stage.world, triggers)?;
+    send_each(alloc, packets, &mut stage.outputs)?;
+    notify_each(alloc, events.as_slice(), &mut stage.outputs)
 }
 
 // Answers a PING, or the clients that the news of the leader concerns.
-fn answer_news(
-    alloc: Global,
-    world: &mut World,
-    news: Option<LeaderNews>,
-    outputs: &mut Vec<Output>,
-) -> Result<(), NoMemory>
+fn answer_news(alloc: Global, stage: &mut Stage, news: Option<LeaderNews>) -> Result<(), NoMemory>
     requires { IsAnswerable news }
-    ensures { MeetsStep result outputs.old.items (answer_news news world.old) outputs.new.items world.new }
+    ensures { MakesStep result stage.old
+        (answer_news news)
+        stage.new }
 {
     match news {
         None => Ok(()),
-        Some(LeaderNews::Ping(ping)) => answer_ping(alloc, world, ping, outputs),
-        Some(LeaderNews::Applied(error)) => answer_last_txn(alloc, world, error, outputs),
-        Some(LeaderNews::SyncSettled) => answer_sync(alloc, world, outputs),
+        Some(LeaderNews::Ping(ping)) => answer_ping(alloc, stage, ping),
+        Some(LeaderNews::Applied { place, error }) => {
+            let due = due_in_log(&stage.world, place);
+            answer_applied_txn(alloc, stage, place, due, error)
+        }
+        Some(LeaderNews::SyncSettled) => answer_sync(alloc, stage),
     }
 }
 
 // Tells what an item brought, and then answers those that it concerns.
-#[tactic(auto, using(client_service::proofs::Steps::then_meets, client_service::proofs::Steps::first_stops))]
-fn send_outcome(
-    alloc: Global,
-    world: &mut World,
-    brought: ItemOutcome,
-    outputs: &mut Vec<Output>,
-) -> Result<(), NoMemory>
+#[tactic(auto, using(world::proofs::Steps::then_meets, world::proofs::Steps::first_stops))]
+fn send_outcome(alloc: Global, stage: &mut Stage, brought: ItemOutcome) -> Result<(), NoMemory>
     requires writable { All packet_format.Writable brought.replies }
     requires answerable { IsAnswerable brought.news }
-    ensures { MeetsStep result outputs.old.items
-        (send_outcome world.old brought)
-        outputs.new.items world.new }
+    ensures { MakesStep result stage.old
+        (λ w. send_outcome w brought)
+        stage.new }
 {
     tell(
         alloc,
-        world,
+        stage,
         brought.replies.as_slice(),
         brought.triggers.as_slice(),
-        outputs,
     )?;
-    answer_news(alloc, world, brought.news, outputs)
+    answer_news(alloc, stage, brought.news)
 }
 
 #[tactic(auto, using(crate::proofs::Delivering::all_of))]
 pub(crate) fn receive_item(
     alloc: Global,
     loader: &mut Loader,
-    world: &mut World,
-    item: Item,
-    outputs: &mut Vec<Output>,
+    stage: &mut Stage,
+    item: LentItem<'_>,
 ) -> Result<(), ReadError>
-    requires { CanBeWritten item }
-    ensures { ReceivesItem result outputs.old.items
-        (item_step (record { loading = loader.old; world = world.old }) item)
-        (record { loading = loader.old; world = world.old })
-        outputs.new.items
-        (record { loading = loader.new; world = world.new }) }
+    requires { CanBeWritten (owned_item item) }
+    ensures { ReceivesItem result stage.old.outputs
+        (item_step (record { loading = loader.old; world = stage.old.after }) (owned_item item.entry))
+        (record { loading = loader.old; world = stage.old.after })
+        stage.new.outputs
+        (record { loading = loader.new; world = stage.new.after }) }
 {
-    match world.replica.take(alloc, loader, item) {
-        Ok(brought) => Ok(send_outcome(alloc, world, brought, outputs)?),
+    match stage.world.replica.take(alloc, loader, item) {
+        Ok(brought) => Ok(send_outcome(alloc, stage, brought)?),
         Err(error) => Err(error),
     }
 }
@@ -146,19 +138,19 @@ pub(crate) fn receive_item(
 // one.
 fn drain(
     alloc: Global,
-    feed: &mut PacketFeed,
+    items: &mut LentItems<'_>,
     loader: &mut Loader,
-    world: &mut World,
-    outputs: &mut Vec<Output>,
+    stage: &mut Stage,
 ) -> Result<Option<Fault>, NoMemory>
-    ensures { DeliversItems result outputs.old.items
-        (take_items item_step (record { loading = loader.old; world = world.old }) (items_shown_at feed.old))
-        outputs.new.items feed.new (record { loading = loader.new; world = world.new }) }
+    ensures source { items.new.source ≡ items.old.source }
+    ensures delivers { DeliversItems result stage.old.outputs
+        (take_items item_step (record { loading = loader.old; world = stage.old.after }) (items_shown_at items.old.place))
+        stage.new.outputs items.new.place (record { loading = loader.new; world = stage.new.after }) }
 {
     loop {
-        match feed.next(alloc) {
+        match items.next(alloc) {
             Ok(None) => return Ok(None),
-            Ok(Some(item)) => match receive_item(alloc, loader, world, item, outputs) {
+            Ok(Some(item)) => match receive_item(alloc, loader, stage, item) {
                 Ok(()) => {}
                 Err(ReadError::NoMemory) => return Err(NoMemory),
                 Err(ReadError::Fault(fault)) => return Ok(Some(fault)),
@@ -173,25 +165,25 @@ fn drain(
 fn drain_gathered<D: Fn(&mut Tree, &[Txn]) -> Result<Vec<Outcome>, NoMemory>>(
     alloc: Global,
     doer: &D,
-    feed: &mut PacketFeed,
+    items: &mut LentItems<'_>,
     loader: &mut Loader,
-    world: &mut World,
-    outputs: &mut Vec<Output>,
+    stage: &mut Stage,
 ) -> Result<Option<Fault>, NoMemory>
     requires { AppliesTxns (D.pre doer.now) (D.post doer.now) }
-    ensures { DeliversItems result outputs.old.items
-        (take_items item_step (record { loading = loader.old; world = world.old }) (items_shown_at feed.old))
-        outputs.new.items feed.new (record { loading = loader.new; world = world.new }) }
+    ensures source { items.new.source ≡ items.old.source }
+    ensures delivers { DeliversItems result stage.old.outputs
+        (take_items item_step (record { loading = loader.old; world = stage.old.after }) (items_shown_at items.old.place))
+        stage.new.outputs items.new.place (record { loading = loader.new; world = stage.new.after }) }
 {
-    let mut done = world.replica.learner().since_base().len();
+    let mut done = stage.world.replica.learner().since_base().len();
     'item: loop {
-        match feed.next(alloc) {
+        match items.next(alloc) {
             Ok(None) => {
-                settle_txns(alloc, doer, done, world, outputs)?;
+                settle_txns(alloc, doer, done, stage)?;
                 return Ok(None);
             }
             Ok(Some(item)) => {
-                match take_item(alloc, doer, &mut done, loader, world, item, outputs) {
+                match take_item(alloc, doer, &mut done, loader, stage, item) {
                     Ok(()) => {}
                     Err(ReadError::NoMemory) => return Err(NoMemory),
                     Err(ReadError::Fault(fault)) => return Ok(Some(fault)),
@@ -199,7 +191,7 @@ fn drain_gathered<D: Fn(&mut Tree, &[Txn]) -> Result<Vec<Outcome>, NoMemory>>(
             }
             Err(ReadError::NoMemory) => return Err(NoMemory),
             Err(ReadError::Fault(fault)) => {
-                settle_txns(alloc, doer, done, world, outputs)?;
+                settle_txns(alloc, doer, done, stage)?;
                 return Ok(Some(fault));
             }
         }
@@ -208,9 +200,7 @@ fn drain_gathered<D: Fn(&mut Tree, &[Txn]) -> Result<Vec<Outcome>, NoMemory>>(
 
 // Closes all connections in ascending order of their numbers.
 fn close_all(clients: &mut Clients, outputs: &mut Vec<Output>) -> Result<(), NoMemory>
-    ensures { MeetsStep result outputs.old.items
-        (close_all_clients clients.old)
-        outputs.new.items clients.new }
+    ensures { MeetsStep result outputs.old.items (close_all_clients clients.old) outputs.new.items clients.new }
 {
     while let Some(number) = clients.close_first() {
         outputs.push(Output::CloseClient(number))?;
@@ -219,52 +209,62 @@ fn close_all(clients: &mut Clients, outputs: &mut Vec<Output>) -> Result<(), NoM
 }
 
 // Ends the replica's stream, and drops all clients and their requests.
-fn disconnect(alloc: Global, world: &mut World, outputs: &mut Vec<Output>) -> Result<(), NoMemory>
-    ensures { MeetsStep result outputs.old.items (disconnect_all world.old) outputs.new.items world.new }
+fn disconnect(alloc: Global, stage: &mut Stage) -> Result<(), NoMemory>
+    ensures { MakesStep result stage.old disconnect_all stage.new }
 {
+    let world = &mut stage.world;
     world.replica.end();
-    close_all(&mut world.clients, outputs)?;
+    close_all(&mut world.clients, &mut stage.outputs)?;
     world.clients.pending.clear(alloc);
     Ok(())
 }
 
 // Closes the leader for a fault, and then all clients.
-fn close_on_fault(
-    alloc: Global,
-    fault: Fault,
-    world: &mut World,
-    outputs: &mut Vec<Output>,
-) -> Result<(), NoMemory>
-    ensures { MeetsStep result outputs.old.items
-        (prepend_outputs (CloseLeader fault ∷ []) (disconnect_all world.old))
-        outputs.new.items world.new }
+fn close_on_fault(alloc: Global, fault: Fault, stage: &mut Stage) -> Result<(), NoMemory>
+    ensures { MakesStep result stage.old
+        (λ w. prepend_outputs (CloseLeader fault ∷ []) (disconnect_all w))
+        stage.new }
 {
-    outputs.push(Output::CloseLeader(fault))?;
-    disconnect(alloc, world, outputs)
+    stage.outputs.push(Output::CloseLeader(fault))?;
+    disconnect(alloc, stage)
 }
 
 /// A leader has connected, and the observer introduces itself. While it has a leader, another one is ignored.
-///
-/// Fails only if an allocation is refused; then a prefix of the outputs has been appended.
-pub(crate) fn meet_leader(
-    alloc: Global,
-    machine: &mut Machine,
-    outputs: &mut Vec<Output>,
-) -> Result<(), NoMemory>
-    ensures { MeetsStep result outputs.old.items
-        (meet_leader part_reader machine.old.leader machine.old.world)
-        outputs.new.items machine.new }
+pub(crate) fn meet_leader(alloc: Global, machine: &mut Machine) -> Result<(), NoMemory>
+    ensures { MakesStep result machine.old (λ m. meet_leader part_reader m.leader m.world) machine.new }
 {
     if machine.leader.is_some() {
         return Ok(());
     }
-    let server_id = machine.world.settings.server_id;
-    let replies = machine.world.replica.start(alloc, server_id)?;
+    let server_id = machine.stage.world.settings.server_id;
+    let replies = machine.stage.world.replica.start(alloc, server_id)?;
     machine.leader = Some(Leader {
         feed: PacketFeed::new(alloc),
         loader: Loader::new(alloc),
     });
-    send_each(alloc, replies.as_slice(), outputs)
+    send_each(alloc, replies.as_slice(), &mut machine.stage.outputs)
+}
+
+// Does what `drain` does. Whether transactions are applied as one list is the caller's choice.
+fn drain_either<D: Fn(&mut Tree, &[Txn]) -> Result<Vec<Outcome>, NoMemory>>(
+    alloc: Global,
+    doer: &D,
+    gathers: bool,
+    items: &mut LentItems<'_>,
+    loader: &mut Loader,
+    stage: &mut Stage,
+) -> Result<Option<Fault>, NoMemory>
+    requires { AppliesTxns (D.pre doer.now) (D.post doer.now) }
+    ensures source { items.new.source ≡ items.old.source }
+    ensures delivers { DeliversItems result stage.old.outputs
+        (take_items item_step (record { loading = loader.old; world = stage.old.after }) (items_shown_at items.old.place))
+        stage.new.outputs items.new.place (record { loading = loader.new; world = stage.new.after }) }
+{
+    if gathers {
+        drain_gathered(alloc, doer, items, loader, stage)
+    } else {
+        drain(alloc, items, loader, stage)
+    }
 }
 
 // Takes a piece of the leader's stream. Returns the fault that ends the stream, if there is one.
@@ -273,73 +273,57 @@ fn follow<D: Fn(&mut Tree, &[Txn]) -> Result<Vec<Outcome>, NoMemory>>(
     doer: &D,
     gather_from: usize,
     leader: &mut Leader,
-    world: &mut World,
+    stage: &mut Stage,
     bytes: &[u8],
-    outputs: &mut Vec<Output>,
 ) -> Result<Option<Fault>, NoMemory>
     requires { AppliesTxns (D.pre doer.now) (D.post doer.now) }
-    ensures { FollowsStream result outputs.old.items
-        (part_reader.taken leader.old world.old bytes.now)
-        outputs.new.items leader.new world.new }
+    ensures { FollowsStream result stage.old.outputs
+        (part_reader.taken leader.old stage.old.after bytes.now)
+        stage.new.outputs leader.new stage.new.after }
 {
-    leader.feed.feed(bytes)?;
-    let feed = &mut leader.feed;
+    let feed = mem::replace(&mut leader.feed, PacketFeed::new(alloc));
+    let (source, progress) = feed.open(bytes)?;
+    let mut items = LentItems::new(source.as_slice(), progress);
+    let gathers = bytes.len() >= gather_from;
     let loader = &mut leader.loader;
-    if bytes.len() < gather_from {
-        return drain(alloc, feed, loader, world, outputs);
+    if let Some(fault) = drain_either(alloc, doer, gathers, &mut items, loader, stage)? {
+        return Ok(Some(fault));
     }
-    drain_gathered(alloc, doer, feed, loader, world, outputs)
+    let (used, progress) = items.close();
+    leader.feed = PacketFeed::resume(source, used, progress)?;
+    Ok(None)
 }
 
 /// Takes a piece of the leader's stream. A fault closes the leader and all clients. Without a leader the bytes are
 /// ignored. In a piece of `gather_from` bytes or more, transactions are gathered for `doer`; in a shorter one each is
 /// applied as soon as it is read.
-///
-/// Fails only if an allocation is refused; then a prefix of the outputs has been appended.
 pub(crate) fn take_leader_bytes<D: Fn(&mut Tree, &[Txn]) -> Result<Vec<Outcome>, NoMemory>>(
     alloc: Global,
     doer: &D,
     gather_from: usize,
     machine: &mut Machine,
     bytes: &[u8],
-    outputs: &mut Vec<Output>,
 ) -> Result<(), NoMemory>
     requires { AppliesTxns (D.pre doer.now) (D.post doer.now) }
-    ensures { MeetsStep result outputs.old.items
-        (take_leader_bytes part_reader machine.old.leader machine.old.world bytes.now)
-        outputs.new.items machine.new }
+    ensures { MakesStep result machine.old
+        (λ m. take_leader_bytes part_reader m.leader m.world bytes.now)
+        machine.new }
 {
     let Some(leader) = &mut machine.leader else {
         return Ok(());
     };
-    match follow(
-        alloc,
-        doer,
-        gather_from,
-        leader,
-        &mut machine.world,
-        bytes,
-        outputs,
-    )? {
+    match follow(alloc, doer, gather_from, leader, &mut machine.stage, bytes)? {
         None => Ok(()),
         Some(fault) => {
             machine.leader = None;
-            close_on_fault(alloc, fault, &mut machine.world, outputs)
+            close_on_fault(alloc, fault, &mut machine.stage)
         }
     }
 }
 
 /// The leader is gone, and all clients are closed. A stream that ends inside a packet or an image is a fault.
-///
-/// Fails only if an allocation is refused; then a prefix of the outputs has been appended.
-pub(crate) fn end_leader(
-    alloc: Global,
-    machine: &mut Machine,
-    outputs: &mut Vec<Output>,
-) -> Result<(), NoMemory>
-    ensures { MeetsStep result outputs.old.items
-        (end_leader part_reader machine.old.leader machine.old.world)
-        outputs.new.items machine.new }
+pub(crate) fn end_leader(alloc: Global, machine: &mut Machine) -> Result<(), NoMemory>
+    ensures { MakesStep result machine.old (λ m. end_leader part_reader m.leader m.world) machine.new }
 {
     let Some(leader) = machine.leader.take() else {
         return Ok(());
@@ -347,7 +331,7 @@ pub(crate) fn end_leader(
     let ended = leader.feed.end();
     drop(leader);
     match ended {
-        Ok(()) => disconnect(alloc, &mut machine.world, outputs),
-        Err(fault) => close_on_fault(alloc, fault, &mut machine.world, outputs),
+        Ok(()) => disconnect(alloc, &mut machine.stage),
+        Err(fault) => close_on_fault(alloc, fault, &mut machine.stage),
     }
 }

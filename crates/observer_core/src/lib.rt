@@ -42,7 +42,7 @@ mod machine;
 mod run;
 mod timeouts;
 
-pub use client_service::{CLIENT_FRAME_LIMIT, Output, Settings};
+pub use client_service::CLIENT_FRAME_LIMIT;
 pub use config::{BadConfig, Config, default_limits};
 pub use engine::{Engine, Stop};
 pub use event::Event;
@@ -52,3 +52,4 @@ pub use law::{
     parts_are_whole_images, plays_on, refusals_change_nothing, sessions_are_served,
     silent_without_leader, worked_rows,
 };
+pub use world::{Output, Settings};

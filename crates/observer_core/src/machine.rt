@@ -1,9 +1,9 @@
 //! The machine of the definitions as Rust holds it.
 
-use client_service::World;
 use quorum_packet::PacketFeed;
 use snapshot_codec::Loader;
 use std::marker::Model;
+use world::Stage;
 
 /// The state of a leader's stream.
 #[derive(Drop)]
@@ -25,22 +25,26 @@ impl Model for Leader {
     ghost view = { λ l. record { place = l.feed; loading = l.loader } };
 }
 
-/// The whole state of an observer.
+/// The whole state of an observer, and the outputs so far.
 #[derive(Drop)]
 pub struct Machine {
     /// The state of the leader's stream, while there is a leader.
     pub leader: Option<Leader>,
-    pub world: World,
+    pub stage: Stage,
 }
 
 impl Model for Machine {
     ghost use Rattle.observer_core.specs.contracts.machine.Leader as of_leader;
-    ghost use Rattle.client_service.specs.contracts.world.World as of_world;
-    ghost use Rattle.observer_core.specs.Machine.{Machine as TheMachine, machine_code};
+    ghost use Rattle.world.specs.contracts.stage.Stage as of_stage;
+    ghost use Rattle.world.specs.Steps.{StepResult};
+    ghost use Rattle.observer_core.specs.Machine.{Machine as TheMachine, staged_machine_code};
 
-    ghost Value = { TheMachine };
+    ghost Value = { StepResult TheMachine };
 
-    ghost coded = { machine_code of_leader.the_row.coded of_world.the_row.coded };
+    ghost coded = { staged_machine_code of_leader.the_row.coded of_stage.the_row.coded };
 
-    ghost view = { λ m. record { leader = m.leader; world = m.world } };
+    ghost view = { λ m. record {
+      outputs = m.stage.outputs;
+      after = record { leader = m.leader; world = m.stage.after };
+    } };
 }

@@ -2,23 +2,19 @@
 //!
 //! A read that a client asks for may wait while others follow. The reads that wait are answered before anything that
 //! could tell the difference: before a client's frame that is no read, before any other event, and at the end.
-//!
-//! Laws that go over this: `Agreeing`, `GivenIds`, `Leaderless`, `Logs`, `Playing`, `Refusals`, `Served`,
-//! `WholeImages`.
 
 ghost use Rattle.std.specs.Prelude.{◌≢◌, ℕ, List};
 ghost use Rattle.replica.specs.Gathering.{AppliesTxns};
 ghost use Rattle.read_processor.specs.Asking.{LooksAtAsks};
 ghost use Rattle.observer_core.specs.Play.{play_event, play};
-ghost use Rattle.observer_core.specs.Inner.{answer_waiting, LeavesReads};
-ghost use Rattle.client_service.specs.Steps.{and_then};
-ghost use Rattle.client_service.specs.Results.{MeetsStep};
+ghost use Rattle.observer_core.specs.Inner.{LeavesReads};
+ghost use Rattle.world.specs.Results.{MakesStep};
 
 use crate::event::Event;
 use crate::leader::{end_leader, meet_leader, take_leader_bytes};
 use crate::machine::Machine;
 use client_service::{
-    AskedRead, Output, end_client, expire_session, open_client, settle_reads, take_client_bytes,
+    AskedRead, end_client, expire_session, open_client, settle_reads, take_client_bytes,
 };
 use data_tree::{Outcome, Tree};
 use read_processor::{Ask, Look};
@@ -33,28 +29,29 @@ fn happen_alone<D: Fn(&mut Tree, &[Txn]) -> Result<Vec<Outcome>, NoMemory>>(
     gather_from: usize,
     machine: &mut Machine,
     event: &Event<'_>,
-    outputs: &mut Vec<Output>,
 ) -> Result<(), NoMemory>
     requires applies { AppliesTxns (D.pre doer.now) (D.post doer.now) }
     requires other { (number : ℕ) (bytes : List ℕ) → event.now ≢ Event.ClientBytes number bytes }
-    ensures { MeetsStep result outputs.old.items
-        (play_event machine.old event.now)
-        outputs.new.items machine.new }
+    ensures { MakesStep result machine.old (λ m. play_event m event.now) machine.new }
 {
     match event {
-        Event::LeaderUp => meet_leader(alloc, machine, outputs),
-        Event::LeaderBytes(bytes) => {
-            take_leader_bytes(alloc, doer, gather_from, machine, bytes.as_slice(), outputs)
-        }
-        Event::LeaderEnd => end_leader(alloc, machine, outputs),
-        Event::ClientUp(number) => open_client(alloc, *number, &mut machine.world),
+        Event::LeaderUp => meet_leader(alloc, machine),
+        Event::LeaderBytes(bytes) => take_leader_bytes(
+            alloc,
+            doer,
+            gather_from,
+            machine,
+            bytes.as_slice(),
+        ),
+        Event::LeaderEnd => end_leader(alloc, machine),
+        Event::ClientUp(number) => open_client(alloc, *number, &mut machine.stage.world),
         Event::ClientBytes(_, _) => unreachable!(),
         Event::ClientEnd(number) => {
-            end_client(*number, &mut machine.world);
+            end_client(*number, &mut machine.stage.world);
             Ok(())
         }
-        Event::Expire(session) => expire_session(session, &mut machine.world, outputs),
-        Event::Checkpoint => machine.world.replica.checkpoint(alloc),
+        Event::Expire(session) => expire_session(session, &mut machine.stage),
+        Event::Checkpoint => machine.stage.world.replica.checkpoint(alloc),
     }
 }
 
@@ -71,33 +68,29 @@ fn happen<
     machine: &mut Machine,
     asked: &mut Vec<AskedRead>,
     event: &Event<'_>,
-    outputs: &mut Vec<Output>,
 ) -> Result<(), NoMemory>
     requires applies { AppliesTxns (D.pre doer.now) (D.post doer.now) }
     requires looks { LooksAtAsks (L.pre looker.now) (L.post looker.now) }
-    ensures { LeavesReads result outputs.old.items
-        (and_then (answer_waiting asked.old.items machine.old) (λ m. play_event m event.now))
-        outputs.new.items asked.new.items machine.new }
+    ensures { LeavesReads result machine.old asked.old.items (λ m. play_event m event.now) machine.new asked.new.items }
 {
     sessions::others_stay();
     match event {
         Event::ClientBytes(number, bytes) => {
-            let serving = machine.world.replica.is_serving();
+            let serving = machine.stage.world.replica.is_serving();
             take_client_bytes(
                 alloc,
                 looker,
                 serving,
                 gathers,
                 *number,
-                &mut machine.world,
+                &mut machine.stage,
                 asked,
                 bytes.as_slice(),
-                outputs,
             )
         }
         _ => {
-            settle_reads(alloc, looker, asked, &mut machine.world, outputs)?;
-            happen_alone(alloc, doer, gather_from, machine, event, outputs)
+            settle_reads(alloc, looker, asked, &mut machine.stage)?;
+            happen_alone(alloc, doer, gather_from, machine, event)
         }
     }
 }
@@ -119,13 +112,10 @@ pub fn run<
     gathers: bool,
     machine: &mut Machine,
     events: &[Event<'_>],
-    outputs: &mut Vec<Output>,
 ) -> Result<(), NoMemory>
     requires applies { AppliesTxns (D.pre doer.now) (D.post doer.now) }
     requires looks { LooksAtAsks (L.pre looker.now) (L.post looker.now) }
-    ensures { MeetsStep result outputs.old.items
-        (play machine.old events.now)
-        outputs.new.items machine.new }
+    ensures { MakesStep result machine.old (λ m. play m events.now) machine.new }
 {
     let mut asked = Vec::new(alloc);
     for event in events {
@@ -138,8 +128,7 @@ pub fn run<
             machine,
             &mut asked,
             event,
-            outputs,
         )?;
     }
-    settle_reads(alloc, looker, &mut asked, &mut machine.world, outputs)
+    settle_reads(alloc, looker, &mut asked, &mut machine.stage)
 }

@@ -4,7 +4,7 @@ ghost use Rattle.std.specs.Prelude.{◌≡◌};
 ghost use Rattle.observer_core.specs.Timeouts.{IsLeastTimeout};
 ghost use Rattle.observer_core.specs.Inner.{lesser_timeout};
 
-use client_service::World;
+use world::World;
 
 // The lesser of two timeouts, of which each may be missing.
 fn lesser(one: Option<i32>, other: Option<i32>) -> Option<i32>

@@ -14,14 +14,16 @@ use Rattle.snapshot_codec.specs.Parts.{Value, Count, Path, Close, Part, part_for
 use Rattle.snapshot_codec.specs.Reads.{ReadsPart}
 use Rattle.snapshot_codec.specs.declared.part.ImagePart.{ImagePart}
 use Rattle.snapshot_codec.specs.declared.part.PartPhase.{PartPhase}
-use Rattle.quorum_packet.specs.declared.feed.Step.{Step}
-use Rattle.quorum_packet.specs.declared.feed.Step.TheVariants as step
+use Rattle.quorum_packet.specs.declared.lending.Step.{Step}
+use Rattle.quorum_packet.specs.declared.lending.Step.TheVariants as step
 use Rattle.quorum_packet.specs.declared.item.Item.{Item}
 use Rattle.quorum_packet.specs.declared.item.Item.TheVariants as item
+use Rattle.quorum_packet.specs.declared.item.LentItem.{LentItem}
+use Rattle.quorum_packet.specs.declared.item.LentItem.TheVariants as lent
+use Rattle.quorum_packet.specs.Lending.{owned_item, CanBeWrittenOwned}
 use Rattle.quorum_packet.specs.declared.packet.QuorumPacket.{QuorumPacket}
 use Rattle.quorum_packet.specs.declared.phase.Phase.{Phase}
 use Rattle.quorum_packet.specs.declared.phase.Phase.TheVariants.{Packets, Image}
-use Rattle.quorum_packet.specs.Feed.{CanBeWritten}
 use Rattle.quorum_packet.specs.Held.{unread_of}
 use Rattle.quorum_packet.specs.Items.{FoundValue, OfPacket, OfImage, phase_after_packet, found_format, phase_after, stream_of_leader, shown_in, shown_items, items_shown_at}
 use Rattle.quorum_packet.specs.Packet.{packet_format}
@@ -52,7 +54,7 @@ value_fails phase old e read = rw read refl
 
 pub packet_found : (phase next : Phase) (old new : List ℕ) (p : QuorumPacket) → phase ≡ Packets
     → packet_format.read old ≡ Ok (p, new) → next ≡ phase_after_packet p
-    → FindsItem (Ok (Some (item.Packet p))) phase next old new
+    → FindsItem (Ok (Some (lent.Packet p))) phase next old new
 packet_found Packets next old new p at read to = (OfPacket p, packet_read old new p read, to, refl)
 packet_found (Image phase) next old new p at read to = absurd cc
 
@@ -64,7 +66,7 @@ packet_refused (Image phase) old new e at h same = absurd cc
 
 value_found : (parts behind : PartPhase) (old new : List ℕ) (v : Value) → (part_format parts).read old ≡ Ok (v, new)
     → behind ≡ part_after parts v → (last : Bool) → is_end v ≡ last
-    → (found : Option Item) → shown_in (OfImage v) ≡ items_of_option found
+    → (found : Option LentItem) → shown_in (OfImage v) ≡ items_of_option found
     → FindsItem (Ok found) (Image parts) (cond last Packets (Image behind)) old new
 value_found parts behind old new v read to last ends found same = (
   OfImage v,
@@ -96,11 +98,11 @@ hidden_found phase parts behind old new at r =
 -- A part.
 pub part_found : (phase : Phase) (parts behind : PartPhase) (old new : List ℕ) (part : ImagePart) (last : Bool)
     → phase ≡ Image parts → ReadsPart (Ok (Some part)) parts behind old new → is_end (Part part) ≡ last
-    → FindsItem (Ok (Some (item.Part part))) phase (cond last Packets (Image behind)) old new
+    → FindsItem (Ok (Some (lent.Part part))) phase (cond last Packets (Image behind)) old new
 part_found phase parts behind old new part last at r ends =
     let v = is_shown r.0 part r.3 in
-    subst (λ (p : Phase). FindsItem (Ok (Some (item.Part part))) p (cond last Packets (Image behind)) old new) (sym at)
-    (value_found parts behind old new r.0 r.1 r.2 last (ap is_end v ∙ ends) (Some (item.Part part))
+    subst (λ (p : Phase). FindsItem (Ok (Some (lent.Part part))) p (cond last Packets (Image behind)) old new) (sym at)
+    (value_found parts behind old new r.0 r.1 r.2 last (ap is_end v ∙ ends) (Some (lent.Part part))
     (ap (λ x. shown_in (OfImage x)) v))
 
 pub part_refused : (phase : Phase) (parts behind : PartPhase) (old new : List ℕ) (e : ReadError) → phase ≡ Image parts
@@ -114,12 +116,12 @@ part_refused phase parts behind old new (errors.Fault e) at r = (
 
 -- ---- at the front
 
-pub front_less : (phase next : Phase) (bytes rest : List ℕ) (found : Option Item)
+pub front_less : (phase next : Phase) (bytes rest : List ℕ) (found : Option LentItem)
     → FindsItem (Ok found) phase next bytes rest → length rest ≤ length bytes
 front_less phase next bytes rest found f =
     omega (arith, shorter_rest stream_of_leader leader_streamed phase bytes rest f.0 f.1)
 
-pub front_found : (phase next : Phase) (bytes rest : List ℕ) (found : Option Item) → IsBytes bytes
+pub front_found : (phase next : Phase) (bytes rest : List ℕ) (found : Option LentItem) → IsBytes bytes
     → FindsItem (Ok found) phase next bytes rest → ReadsFront (Ok (found, length bytes - length rest)) phase next bytes
 front_found phase next bytes rest found fits f =
     let t = (found_sound phase).lawful.takes bytes f.0 rest fits f.1 in (
@@ -142,11 +144,11 @@ is_packet (OfImage (Count n)) p e = absurd cc
 is_packet (OfImage (Path path)) p e = absurd cc
 is_packet (OfImage Close) p e = absurd cc
 
-pub found_writable : (phase next : Phase) (bytes rest : List ℕ) (found : Option Item) → IsBytes bytes
-    → FindsItem (Ok found) phase next bytes rest → IfSome found CanBeWritten
+pub found_writable : (phase next : Phase) (bytes rest : List ℕ) (found : Option LentItem) → IsBytes bytes
+    → FindsItem (Ok found) phase next bytes rest → IfSome found CanBeWrittenOwned
 found_writable phase next bytes rest None fits f = tt
-found_writable phase next bytes rest (Some (item.Part part)) fits f = tt
-found_writable phase next bytes rest (Some (item.Packet p)) fits f =
+found_writable phase next bytes rest (Some (lent.Part part)) fits f = tt
+found_writable phase next bytes rest (Some (lent.Packet p)) fits f =
     let s = found_sound phase in
     let t = s.lawful.takes bytes f.0 rest fits f.1 in
     let w = s.writable f.0 (s.limited f.0 t.text t.spells) in
@@ -170,7 +172,7 @@ module _ (waiting : List ℕ) (phase next : Phase) (fault : Option Fault) (old :
   pub is_fine : is_err old.unread ≡ false
   is_fine = ap (λ (p : Place Phase). is_err p.unread) ready
 
-  pub found_goes : (rest : List ℕ) (used : ℕ) (found : Option Item) → ReadsFront (Ok (found, used)) phase next waiting
+  pub found_goes : (rest : List ℕ) (used : ℕ) (found : Option LentItem) → ReadsFront (Ok (found, used)) phase next waiting
       → rest ≡ drop used waiting → FindsOne (items_of_option found) old (place_of rest next fault)
   found_goes rest used found r left =
       let new : place_of rest next fault ≡ place_at (phase_after phase r.0) (drop used waiting) =
@@ -210,11 +212,11 @@ refused_stops phase (Ok bytes) e h other = (
 )
 refused_stops phase (Err d) e h other = absurd h
 
-abbrev pub step_of : Option Item → Result Step ReadError
+abbrev pub step_of : Option LentItem → Result Step ReadError
 step_of None = Ok step.Hidden
 step_of (Some i) = Ok (step.Shown i)
 
-pub step_found : (found : Option Item) (result : Result Step ReadError) (old new : Place Phase)
+pub step_found : (found : Option LentItem) (result : Result Step ReadError) (old new : Place Phase)
     → result ≡ step_of found → FindsOne (items_of_option found) old new → IsStepResult result old new
 step_found None result old new is g = subst (λ (r : Result Step ReadError). IsStepResult r old new) (sym is) g
 step_found (Some i) result old new is g = subst (λ (r : Result Step ReadError). IsStepResult r old new) (sym is) g

@@ -211,7 +211,7 @@ left_more whole left bytes piece start h = record {
       (h.refuses (piece ++ more) e (rw (append_assoc bytes piece more) at k));
 }
 
-unseen_more : (bytes piece : List ℕ) (u : Option Unseen) → MayBeUnseen bytes u → MayBeUnseen (bytes ++ piece) u
+pub unseen_more : (bytes piece : List ℕ) (u : Option Unseen) → MayBeUnseen bytes u → MayBeUnseen (bytes ++ piece) u
 unseen_more bytes piece None h = tt
 unseen_more bytes piece (Some unseen.Whole) h = tt
 unseen_more bytes piece (Some (unseen.Texts texts)) h = left_more _ _ bytes piece texts.start h

@@ -2,6 +2,7 @@ pub mod Feed
 pub mod Held
 pub mod Items
 pub mod Kinds
+pub mod Lending
 pub mod Packet
 pub mod Steps
 pub mod Unseen

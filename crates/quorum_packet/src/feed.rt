@@ -1,21 +1,19 @@
 //! The leader's stream, in whatever pieces it comes.
 
-ghost use Rattle.std.specs.Prelude.{◌≡◌, ◌<◌, ◌^◌, [], Ok, Err, false, is_err};
-ghost use Rattle.std.specs.Prelude.{IsTrue, IsOk, IfOk, IfErr, IfSome, OnOk, OnErr};
+ghost use Rattle.std.specs.Prelude.{◌≡◌, ◌≤◌, ◌<◌, ◌^◌, [], IsTrue, IsOk, IfOk, IfSome, OnOk, OnErr, length, drop, is_err};
 ghost use Rattle.jute.specs.Stream.{with_more_bytes, place_at};
 ghost use Rattle.quorum_packet.specs.Feed.{AnswersNext, CanBeWritten, end_of, held_len, unread_len};
-ghost use Rattle.quorum_packet.specs.Items.{phase_after_packet};
-ghost use Rattle.quorum_packet.specs.Steps.{FindsItem, ReadsFront, RefusesNext, IsStepResult, item_of_step};
+ghost use Rattle.quorum_packet.specs.Lending.{place_with};
+ghost use Rattle.quorum_packet.specs.Unseen.{MayBeUnseen};
 ghost use Rattle.quorum_packet.specs.declared.phase.Phase.TheVariants.{Packets};
 
-use crate::item::Item;
-use crate::packet::QuorumPacket;
+use crate::item::{Item, LentItem};
+use crate::lending::{LentItems, Progress, Source};
 use crate::phase::Phase;
-use crate::unseen::{Unseen, scan_new_bytes};
-use jute::{ReadRecord, Reader};
-use snapshot_codec::{PartPhase, read_part};
+use crate::unseen::Unseen;
 use std::alloc::Global;
 use std::marker::Model;
+use std::mem;
 use values::{ByteQueue, Fault, NoMemory, ReadError};
 
 /// A reader of the leader's stream. Its model is the place in the stream: the phase, which says what comes next, and
@@ -44,68 +42,6 @@ impl Model for PacketFeed {
     ghost use Rattle.quorum_packet.specs.Unseen.{MayBeUnseen};
 
     ghost invariant = { λ f. MayBeUnseen f.waiting f.unseen };
-}
-
-fn phase_after_packet(packet: &QuorumPacket) -> Phase
-    ensures { result ≡ phase_after_packet packet.now }
-{
-    if packet.is_snap() {
-        Phase::Image(PartPhase::SessionCount)
-    } else {
-        Phase::Packets
-    }
-}
-
-// Reads the value at the reader's place, and moves the phase on. A value that only advances an image is `None`.
-fn read_found(
-    alloc: Global,
-    phase: &mut Phase,
-    reader: &mut Reader<'_>,
-) -> Result<Option<Item>, ReadError>
-    ensures { FindsItem result phase.old phase.new reader.old reader.new }
-{
-    match phase {
-        Phase::Packets => {
-            let packet = QuorumPacket::read(alloc, reader)?;
-            *phase = phase_after_packet(&packet);
-            Ok(Some(Item::Packet(packet)))
-        }
-        Phase::Image(parts) => match read_part(alloc, parts, reader)? {
-            None => Ok(None),
-            Some(part) => {
-                if part.is_end() {
-                    *phase = Phase::Packets;
-                    return Ok(Some(Item::Part(part)));
-                }
-                Ok(Some(Item::Part(part)))
-            }
-        },
-    }
-}
-
-// Reads the value at the front of the bytes, and returns the bytes that it takes.
-fn read_front(
-    alloc: Global,
-    phase: &mut Phase,
-    bytes: &[u8],
-) -> Result<(Option<Item>, usize), ReadError>
-    ensures front { ReadsFront result phase.old phase.new bytes.now }
-    ensures writable { IfOk result (λ x. IfSome x.0 CanBeWritten) }
-{
-    let mut ahead = Reader::new(bytes);
-    let found = read_found(alloc, phase, &mut ahead)?;
-    let left = ahead.rest().len();
-    Ok((found, bytes.len() - left))
-}
-
-/// The result of a step of the feed.
-#[derive(Debug, Drop)]
-pub(crate) enum Step {
-    /// There are too few bytes for a value.
-    Nothing,
-    /// A value that only advances an image.
-    Hidden,
-    Shown(Item),
 }
 
 impl PacketFeed {
@@ -140,58 +76,60 @@ impl PacketFeed {
         ensures first { AnswersNext result self.old self.new }
         ensures writable { IfOk result (λ found. IfSome found CanBeWritten) }
     {
-        loop {
-            match self.step(alloc)? {
-                Step::Nothing => return Ok(None),
-                Step::Hidden => {}
-                Step::Shown(item) => return Ok(Some(item)),
-            }
-        }
+        let progress = Progress {
+            unseen: self.unseen,
+            phase: mem::replace(&mut self.phase, Phase::Packets),
+            fault: self.fault,
+        };
+        let mut items = LentItems::new(self.waiting.as_slice(), progress);
+        let found = items.next(alloc);
+        let (used, progress) = items.close();
+        let item = match found {
+            Ok(None) => Ok(None),
+            // If the copy is refused, the packet is still the next one.
+            Ok(Some(LentItem::Packet(packet))) => Ok(Some(Item::Packet(packet.into_owned(alloc)?))),
+            Ok(Some(LentItem::Part(part))) => Ok(Some(Item::Part(part))),
+            Err(error) => Err(error),
+        };
+        self.waiting.drop_front(used);
+        self.unseen = progress.unseen;
+        self.phase = progress.phase;
+        self.fault = progress.fault;
+        item
     }
 
-    // Takes the next value, whether it is an item or not.
-    fn step(&mut self, alloc: Global) -> Result<Step, ReadError>
-        ensures steps { IsStepResult result self.old self.new }
-        ensures writable { IfSome (item_of_step result) CanBeWritten }
+    /// Ends the feed for a while: its unread bytes and the next piece are read where they lie. After a fault the piece
+    /// is dropped.
+    pub fn open<'a>(self, piece: &'a [u8]) -> Result<(Source<'a>, Progress), NoMemory>
+        ensures place { IfOk result (λ x. place_with x.1 x.0 ≡ with_more_bytes self piece.now) }
+        ensures unseen { IfOk result (λ x. MayBeUnseen x.0 x.1.unseen) }
     {
-        if let Some(fault) = self.fault {
-            return Err(ReadError::Fault(fault));
-        }
-        if let Err(fault) = scan_new_bytes(&self.phase, self.waiting.as_slice(), &mut self.unseen) {
-            return self.refuse(fault);
-        }
-        match read_front(alloc, &mut self.phase, self.waiting.as_slice()) {
-            Ok((found, used)) => {
-                self.waiting.drop_front(used);
-                self.unseen = None;
-                match found {
-                    None => Ok(Step::Hidden),
-                    Some(item) => Ok(Step::Shown(item)),
-                }
-            }
-            Err(ReadError::NoMemory) => Err(ReadError::NoMemory),
-            Err(ReadError::Fault(fault)) => {
-                self.unseen = Some(Unseen::Whole);
-                self.refuse(fault)
-            }
-        }
+        let source = Source::joined(self.waiting, piece)?;
+        let progress = Progress {
+            unseen: self.unseen,
+            phase: self.phase,
+            fault: self.fault,
+        };
+        Ok((source, progress))
     }
 
-    // Too few bytes wait for more. Any other refusal ends the stream, and the bytes are dropped.
-    fn refuse(&mut self, fault: Fault) -> Result<Step, ReadError>
-        requires { RefusesNext self.old fault }
-        ensures steps { IsStepResult result self.old self.new }
-        ensures none { IfSome (item_of_step result) CanBeWritten }
+    /// The feed that goes on after the first `used` bytes of the source, which were read so far.
+    pub fn resume(
+        source: Source<'_>,
+        used: usize,
+        progress: Progress,
+    ) -> Result<PacketFeed, NoMemory>
+        requires within { used ≤ length source }
+        requires unseen { MayBeUnseen (drop used source) progress.unseen }
+        ensures { IfOk result (λ feed. feed ≡ place_with progress (drop used source.entry)) }
     {
-        match fault {
-            Fault::Short => Ok(Step::Nothing),
-            refusal => {
-                self.waiting.drop_front(self.waiting.len());
-                self.unseen = None;
-                self.fault = Some(refusal);
-                Err(ReadError::Fault(refusal))
-            }
-        }
+        let waiting = source.into_rest(used)?;
+        Ok(PacketFeed {
+            waiting,
+            unseen: progress.unseen,
+            phase: progress.phase,
+            fault: progress.fault,
+        })
     }
 
     /// Whether the stream may end here. After a fault it returns that fault; `Short` if an image is awaited or

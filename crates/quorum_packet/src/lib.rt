@@ -11,19 +11,32 @@
 //! feed.held()                                      // the number of bytes that wait for more
 //! feed.end()                                       // whether the stream may end here
 //! ```
+//!
+//! Where no packet has to be owned, the feed is opened for a piece, and each packet is lent from the bytes in which it
+//! lies: those of the piece, unless an incomplete value waits in front of them.
+//!
+//! ```text
+//! let (source, progress) = feed.open(piece)?;
+//! let mut items = LentItems::new(source.as_slice(), progress);
+//! while let Some(item) = items.next(alloc)? { .. }  // LentItem::Packet or LentItem::Part
+//! let (used, progress) = items.close();
+//! let feed = PacketFeed::resume(source, used, progress)?;
+//! ```
 #![tactic(auto)]
 
 mod feed;
 mod item;
 mod kind;
 mod law;
+mod lending;
 mod packet;
 mod phase;
 mod unseen;
 
 pub use feed::PacketFeed;
-pub use item::Item;
+pub use item::{Item, LentItem};
 pub use kind::PacketKind;
 pub use law::{grouped_items, leader_stream, whole_items};
-pub use packet::{QuorumPacket, write_packet};
+pub use lending::{LentItems, Progress, Source};
+pub use packet::{Packet, QuorumPacket, write_packet};
 pub use phase::Phase;

@@ -6,7 +6,7 @@ use Rattle.std.specs.Prelude.{IfSome, IsOk, OnOk}
 use Rattle.observer_core.specs.declared.engine.Stop.{Stop}
 use Rattle.observer_core.specs.declared.engine.Stop.TheVariants as stops
 use Rattle.observer_core.specs.declared.event.Event.{Event}
-use Rattle.client_service.specs.declared.output.Output.{Output}
+use Rattle.world.specs.declared.output.Output.{Output}
 use Rattle.observer_core.specs.Machine.{Machine}
 use Rattle.observer_core.specs.Plays.{PlaysEvents}
 use Rattle.observer_core.specs.Play.{play}

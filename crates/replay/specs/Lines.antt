@@ -3,8 +3,8 @@ use Rattle.std.specs.Prelude.{ℕ, ℤ, List, [], ◌∷◌, ◌++◌, false, co
 use Rattle.std.specs.Int.{w64, cast_unsigned}
 use Rattle.std.specs.Fmt.{radix_digits, signed_decimal}
 use Rattle.values.specs.Faults.{fault_number, fault_word}
-use Rattle.client_service.specs.declared.output.Output.{Output}
-use Rattle.client_service.specs.declared.output.Output.TheVariants.{ToLeader, ToClient, CloseLeader, CloseClient}
+use Rattle.world.specs.declared.output.Output.{Output}
+use Rattle.world.specs.declared.output.Output.TheVariants.{ToLeader, ToClient, CloseLeader, CloseClient}
 use Rattle.values.specs.Hex.{hex_digits}
 
 abbrev pub line_end : List ℕ

@@ -3,12 +3,12 @@ use Rattle.std.specs.Prelude.{◌≡◌, ℕ, List, [], ◌++◌, map, Option, O
 use Rattle.std.specs.List.{flat_map}
 use Rattle.std.specs.FinMap as finmap
 use Rattle.std.specs.Io.KnownBytes.{Appends, Keeps}
-use Rattle.client_service.specs.declared.world.Settings.{Settings}
+use Rattle.world.specs.declared.world.Settings.{Settings}
 use Rattle.observer_core.specs.declared.event.Event.{Event}
 use Rattle.observer_core.specs.declared.event.Event.TheVariants as events
-use Rattle.client_service.specs.declared.output.Output.{Output}
+use Rattle.world.specs.declared.output.Output.{Output}
 use Rattle.observer_core.specs.Machine.{Machine}
-use Rattle.client_service.specs.Steps.{StepResult}
+use Rattle.world.specs.Steps.{StepResult}
 use Rattle.observer_core.specs.Play.{play, new_machine, primed_machine}
 use Rattle.values.specs.Gains.{Gains}
 use Rattle.replay_script.specs.Script.{script_of}

@@ -1,5 +1,5 @@
 -- Taking an item: its acts in order, and what a refused item leaves.
-use Rattle.std.proofs.Common.{◌≡◌, ℤ, List, [], ◌∷◌, ◌++◌, Option, Some, None, Result, Ok, Err, false, refl, sym, ap, subst, ◌∙◌, slice_get, length, ◌-◌, suc, arith, ◌⊎◌, inl, inr}
+use Rattle.std.proofs.Common.{◌≡◌, ℤ, List, [], ◌∷◌, ◌++◌, Option, Some, None, Result, Ok, Err, false, refl, sym, ap, subst, ◌∙◌, length, ◌-◌, ◌⊎◌, inl, inr}
 use Rattle.std.specs.Prelude.{IfOk}
 use Rattle.std.specs.List.{AllByRecursion, flat_map}
 use Rattle.values.specs.declared.fault.Fault.{Fault}
@@ -114,26 +114,20 @@ applied-told t None triggers told r e =
 applied-told t (Some txn) triggers told r e =
     ap (λ (u : ItemEffect). record t { triggers = u.triggers; news = u.news; replica = u.replica }) e
 
-last-is : (log : List Txn) (t : Txn) → Some t ≡ slice_get log (length log - 1) → last_txn log ≡ Some t
-last-is [] t e = cc
-last-is (u ∷ []) t e = sym e
-last-is (u ∷ v ∷ log) t e =
-    let at : length (u ∷ v ∷ log) - 1 ≡ suc (length (v ∷ log) - 1) = omega arith in
-    last-is (v ∷ log) t (e ∙ ap (slice_get (u ∷ v ∷ log)) at)
-
 -- It was applied to the tree.
 pub applied-last : (r : Replica) (triggers : List Trigger) (told : Option LeaderNews) (log : List Txn) (t : Txn)
     (tree : State) (outcome : Outcome) (err : ℤ) → err ≡ outcome.err
-    → log ≡ r.learner.log → Some t ≡ slice_get log (length log - 1) → tree ≡ (effect_of_txn r.tree t).state
+    → log ≡ r.learner.log → Some t ≡ last_txn log → tree ≡ (effect_of_txn r.tree t).state
     → outcome ≡ answer_of (effect_of_txn r.tree t)
     → apply_to_tree (with_told triggers told r) (last_txn r.learner.log)
-    ≡ with_outcome (with_told triggers told r) (record outcome { err = err }) tree
+    ≡ with_told outcome.triggers (Some (news.Applied (length log - 1) err)) (record r { tree = tree })
 applied-last r triggers told log t tree outcome err same is last state answer =
     ap (λ (log : List Txn). apply_to_tree (with_told triggers told r) (last_txn log)) (sym is)
-    ∙ ap (apply_to_tree (with_told triggers told r)) (last-is log t last)
+    ∙ ap (apply_to_tree (with_told triggers told r)) (sym last)
     ∙ ap (with_outcome (with_told triggers told r) (answer_of (effect_of_txn r.tree t))) (sym state)
     ∙ ap (λ (o : Outcome). with_outcome (with_told triggers told r) o tree) (sym answer)
-    ∙ ap (λ (n : ℤ). with_outcome (with_told triggers told r) (record outcome { err = n }) tree) (sym same)
+    ∙ (λ i. with_told outcome.triggers (Some (news.Applied (length (sym is i) - 1) (sym same i)))
+    (record r { tree = tree }))
 
 -- ---- a part that is learnt is the only act of its item
 

@@ -1,6 +1,9 @@
 -- The tree is the base with the log applied.
-use Rattle.std.proofs.Common.{◌≡◌, ℤ, List, [], ◌∷◌, ◌++◌, Option, Some, Result, Ok, Err, false, refl, sym, ap, subst, ◌∙◌}
+use Rattle.std.proofs.Common.{◌≡◌, ◌+◌, ◌-◌, arith, ℤ, List, [], ◌∷◌, ◌++◌, length, slice_get, Option, Some, Result, Ok, Err, false, refl, sym, ap, subst, ◌∙◌}
 use Rattle.std.specs.List.{AllByRecursion}
+use Rattle.std.proofs.Math.Seq.{get_or-append_seam}
+use Rattle.std.proofs.lemmas.List.{length-append}
+use Rattle.std.proofs.lemmas.Option.{slice_get_read}
 use Rattle.values.specs.declared.fault.Fault.{Fault}
 use Rattle.jute.specs.Format.{◌>>=◌}
 use Rattle.txn_codec.specs.declared.txn.Txn.{Txn}
@@ -29,10 +32,13 @@ after-push : (s : State) (log : List Txn) (t : Txn)
 after-push s [] t = refl
 after-push s (u ∷ log) t = after-push (effect_of_txn s u).state log t
 
-pub last-push : (log : List Txn) (t : Txn) → last_txn (log ++ t ∷ []) ≡ Some t
-last-push [] t = refl
-last-push (u ∷ []) t = refl
-last-push (u ∷ v ∷ log) t = last-push (v ∷ log) t
+pub last-push : {A : Type 0} (xs : List A) (x : A) → slice_get (xs ++ x ∷ []) (length (xs ++ x ∷ []) - 1) ≡ Some x
+last-push xs x =
+    let len : length (xs ++ x ∷ []) ≡ length xs + 1 = length-append xs (x ∷ []) in
+    let at : length (xs ++ x ∷ []) - 1 ≡ length xs = omega (arith, len) in
+    ap (slice_get (xs ++ x ∷ [])) at
+    ∙ slice_get_read (xs ++ x ∷ []) (length xs + 1) (length xs) x (sym len) (omega arith)
+    (sym (get_or-append_seam xs x [] x))
 
 -- ---- what is carried out
 

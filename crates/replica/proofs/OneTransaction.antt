@@ -18,7 +18,8 @@ use Rattle.quorum_packet.specs.declared.kind.PacketKind.TheVariants as kinds
 use Rattle.quorum_packet.specs.declared.packet.QuorumPacket.{QuorumPacket}
 use Rattle.learner_sync.specs.Learner.{Learner}
 use Rattle.learner_sync.specs.Learn.{LearnerStep, no_acts, single_act, zxid_floor, with_applied, apply_txn, learn_inform, learn_proposal, commit_of, message_in_hello, message_in_sync, message_in_replay, message_in_serving, message_in_phase, learn_item}
-use Rattle.learner_sync.specs.Messages.{carried_bytes, message_of_kind, message_of_packet}
+use Rattle.quorum_packet.specs.Packet.{carried_bytes}
+use Rattle.learner_sync.specs.Messages.{message_of_kind, message_of_packet}
 use Rattle.learner_sync.specs.declared.act.Act.{Act}
 use Rattle.learner_sync.specs.declared.act.Act.TheVariants as act
 use Rattle.learner_sync.specs.declared.phase.Phase.{Phase}

@@ -1,7 +1,7 @@
 -- What a replica does for its leader: it takes packets and the parts of images, and gives packets for the leader and
 -- the triggers of what changed in the tree.
-use Rattle.std.specs.Prelude.{◌≡◌, ℕ, ◌<◌, ◌^◌, length, ℤ, Bool, true, false, List, [], ◌∷◌, ◌++◌, Option, Some, None, Result, Ok, Err}
-use Rattle.std.specs.List.{flat_map}
+use Rattle.std.specs.Prelude.{◌≡◌, ℕ, ◌<◌, ◌^◌, length, ◌-◌, ℤ, Bool, true, false, List, [], ◌∷◌, ◌++◌, Option, Some, None, Result, Ok, Err}
+use Rattle.std.specs.List.{flat_map, slice_get}
 use Rattle.std.specs.FinMap as finmap
 use Rattle.values.specs.declared.fault.Fault.{Fault}
 use Rattle.values.specs.declared.fault.ReadError.{ReadError}
@@ -52,15 +52,13 @@ no_effect loading r = record { replies = []; triggers = []; news = None; loading
 -- ---- acts
 
 abbrev pub last_txn : List Txn → Option Txn
-last_txn [] = None
-last_txn (t ∷ []) = Some t
-last_txn (t ∷ u ∷ log) = last_txn (u ∷ log)
+last_txn log = slice_get log (length log - 1)
 
--- A transaction has this outcome, which is told, and leaves this tree.
+-- The log's last transaction has this outcome, which is told, and leaves this tree.
 abbrev pub with_outcome : ItemEffect → Outcome → State → ItemEffect
 with_outcome t outcome tree = record t {
   triggers = outcome.triggers;
-  news = Some (news.Applied outcome.err);
+  news = Some (news.Applied (length t.replica.learner.log - 1) outcome.err);
   replica = record t.replica { tree = tree };
 }
 

@@ -4,24 +4,25 @@
 
 ghost use Rattle.std.specs.Prelude.{◌≡◌, ◌≤◌, true, length, drop, OnOk, IfOk};
 ghost use Rattle.data_tree.specs.Meaning.{state_after, outcomes_of_txns};
+ghost use Rattle.quorum_packet.specs.Lending.{owned_item};
 ghost use Rattle.replica.specs.Gathering.{brings_txns, Gathers, AppliesTxns};
 
 use crate::replica::Replica;
 use data_tree::{Outcome, Tree};
-use quorum_packet::{Item, PacketKind};
+use quorum_packet::{LentItem, PacketKind};
 use std::alloc::Global;
 use txn_codec::Txn;
 use values::{NoMemory, ReadError};
 
 /// Whether the item is a packet that may append a transaction to the log and does nothing else: an INFORM, a PROPOSAL
 /// or a COMMIT.
-pub fn brings_txns(item: &Item) -> bool
-    ensures { result ≡ brings_txns item.now }
+pub fn brings_txns(item: &LentItem<'_>) -> bool
+    ensures { result ≡ brings_txns (owned_item item.now) }
 {
-    let Item::Packet(packet) = item else {
+    let LentItem::Packet(packet) = item else {
         return false;
     };
-    match PacketKind::from_code(packet.kind) {
+    match PacketKind::from_code(packet.kind()) {
         Some(PacketKind::Inform | PacketKind::Proposal | PacketKind::Commit) => return true,
         _ => return false,
     }
@@ -32,9 +33,9 @@ impl Replica {
     /// looks at the tree, and before another item is taken, see [`Replica::apply_gathered`].
     ///
     /// The faults are those of `Learner::step`. A refused item or a refused allocation leaves the replica as it was.
-    pub fn gather(&mut self, alloc: Global, item: Item) -> Result<(), ReadError>
-        requires { brings_txns item ≡ true }
-        ensures { Gathers result item self.old self.new }
+    pub fn gather(&mut self, alloc: Global, item: LentItem<'_>) -> Result<(), ReadError>
+        requires { brings_txns (owned_item item) ≡ true }
+        ensures { Gathers result (owned_item item.entry) self.old self.new }
     {
         self.learn(alloc, item)?;
         Ok(())

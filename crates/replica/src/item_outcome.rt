@@ -11,8 +11,13 @@ pub enum LeaderNews {
     Ping(QuorumPacket),
     /// The leader has done the oldest sync that it was asked for.
     SyncSettled,
-    /// A transaction was applied, the last one of the log. This is ZooKeeper's error code of it, 0 for success.
-    Applied(i32),
+    /// A transaction was applied.
+    Applied {
+        /// Its place in the log since the base.
+        place: usize,
+        /// ZooKeeper's error code of it, 0 for success.
+        error: i32,
+    },
 }
 
 /// What an item of the leader's stream causes.

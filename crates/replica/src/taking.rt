@@ -5,6 +5,7 @@
 ghost use Rattle.std.specs.Prelude.{◌≡◌, OnOk, IfOk};
 ghost use Rattle.std.specs.List.{AllByRecursion};
 ghost use Rattle.quorum_packet.specs.Feed.{CanBeWritten};
+ghost use Rattle.quorum_packet.specs.Lending.{owned_item};
 ghost use Rattle.quorum_packet.specs.Packet.{packet_format};
 ghost use Rattle.data_tree.specs.Meaning.{state_after};
 ghost use Rattle.learner_sync.specs.Learn.{learn_item};
@@ -15,20 +16,24 @@ use crate::item_outcome::{ItemOutcome, LeaderNews};
 use crate::replica::Replica;
 use data_tree::{Tree, Trigger};
 use learner_sync::Act;
-use quorum_packet::{Item, QuorumPacket};
+use quorum_packet::{LentItem, QuorumPacket};
 use snapshot_codec::Loader;
 use std::alloc::Global;
 use std::mem;
 use values::{Listed, NoMemory, ReadError};
 
 impl Replica {
-    pub(crate) fn learn(&mut self, alloc: Global, item: Item) -> Result<Listed<Act>, ReadError>
-        ensures { UpdatesLearner result (learn_item self.old.learner item) self.old self.new }
+    pub(crate) fn learn(
+        &mut self,
+        alloc: Global,
+        item: LentItem<'_>,
+    ) -> Result<Listed<Act>, ReadError>
+        ensures { UpdatesLearner result (learn_item self.old.learner (owned_item item.entry)) self.old self.new }
     {
         self.learner.step(alloc, item)
     }
 
-    // Applies the log's last transaction to the tree, and tells its error.
+    // Applies the log's last transaction to the tree, and tells its place and its error.
     fn apply_last(
         &mut self,
         alloc: Global,
@@ -39,11 +44,14 @@ impl Replica {
             (apply_to_tree (with_told triggers.old news.old self.old) (last_txn self.old.learner.log)
             ≡ with_told triggers.new news.new self.new) }
     {
-        let Some(txn) = self.learner.since_base().last() else {
+        let log = self.learner.since_base();
+        let Some(txn) = log.last() else {
             return Ok(());
         };
+        let place = log.len() - 1;
         let outcome = self.tree.apply(alloc, txn)?;
-        *news = Some(LeaderNews::Applied(outcome.err));
+        let error = outcome.err;
+        *news = Some(LeaderNews::Applied { place, error });
         *triggers = outcome.triggers;
         Ok(())
     }
@@ -157,12 +165,13 @@ impl Replica {
         &mut self,
         alloc: Global,
         loader: &mut Loader,
-        item: Item,
+        item: LentItem<'_>,
     ) -> Result<ItemOutcome, ReadError>
-        ensures takes { TakesItem result (take_item loader.old self.old item) loader.old self.old loader.new self.new }
-        ensures writable { CanBeWritten item
+        ensures takes { TakesItem result (take_item loader.old self.old (owned_item item.entry))
+            loader.old self.old loader.new self.new }
+        ensures writable { CanBeWritten (owned_item item.entry)
             → IfOk result (λ brought. AllByRecursion packet_format.Writable brought.replies) }
-        ensures answerable { CanBeWritten item → IfOk result (λ brought. IsAnswerable brought.news) }
+        ensures answerable { CanBeWritten (owned_item item.entry) → IfOk result (λ brought. IsAnswerable brought.news) }
     {
         learner_sync::law::acts();
         let acts = self.learn(alloc, item)?;

@@ -1,12 +1,12 @@
 //! The events of a replica, and the view of it afterwards.
 
 use jute::{put_int, put_long};
-use quorum_packet::{Item, PacketKind, QuorumPacket};
-use replica::{LeaderNews, Replica};
+use quorum_packet::{Item, LentItem, Packet, PacketKind, QuorumPacket};
+use replica::{ItemOutcome, LeaderNews, Replica};
 use settings::{Epochs, ServerId};
 use snapshot_codec::{ImagePart, ImageSession, Loader};
 use std::alloc::Global;
-use values::{Blob, Fault, NoMemory, ReadError};
+use values::{Blob, Bytes, Fault, NoMemory, ReadError};
 
 /// An event of a replica. A zxid is given by its counter, and is of epoch 1.
 #[derive(Clone, Copy)]
@@ -62,8 +62,30 @@ pub fn at(counter: u32) -> i64 {
     0x1_0000_0000 + i64::from(counter)
 }
 
-/// A packet without authinfo.
-pub fn packet(kind: PacketKind, zxid: i64, bytes: Option<Blob>) -> Item {
+// The packet, without its ids, lent.
+fn lend(packet: &QuorumPacket) -> LentItem<'_> {
+    let bytes = match &packet.bytes {
+        None => None,
+        Some(bytes) => Some(Bytes::new(bytes.as_slice())),
+    };
+    LentItem::Packet(Packet::new(packet.kind, packet.zxid, bytes, None))
+}
+
+// Takes the item, lent.
+fn take(
+    alloc: Global,
+    replica: &mut Replica,
+    loader: &mut Loader,
+    item: Item,
+) -> Result<ItemOutcome, ReadError> {
+    match item {
+        Item::Packet(packet) => replica.take(alloc, loader, lend(&packet)),
+        Item::Part(part) => replica.take(alloc, loader, LentItem::Part(part)),
+    }
+}
+
+// A packet without authinfo.
+fn packet(kind: PacketKind, zxid: i64, bytes: Option<Blob>) -> Item {
     Item::Packet(QuorumPacket {
         kind: kind.code(),
         zxid,
@@ -128,9 +150,9 @@ fn happen(
         Event::Part(id) => Item::Part(ImagePart::Session(ImageSession { id, timeout: 5_000 })),
         Event::End => Item::Part(ImagePart::End),
     };
-    let brought = replica.take(alloc, loader, item)?;
-    if let Some(LeaderNews::Applied(err)) = &brought.news {
-        errors.push(*err)?;
+    let brought = take(alloc, replica, loader, item)?;
+    if let Some(LeaderNews::Applied { error, .. }) = &brought.news {
+        errors.push(*error)?;
     }
     Ok(brought.replies.len() + usize::from(brought.news.is_some()))
 }

@@ -3,15 +3,15 @@
 ghost use Rattle.std.specs.Prelude.{◌≡◌, OnOk, IfOk};
 ghost use Rattle.data_tree.specs.Meaning.{state_after, outcomes_of_txns};
 
-use crate::events::{at, packet};
+use crate::events::at;
 use data_tree::{Outcome, Tree};
 use jute::Stat;
-use quorum_packet::PacketKind;
+use quorum_packet::{LentItem, Packet, PacketKind};
 use replica::{Replica, brings_txns};
 use std::alloc::Global;
 use std::test::Fail;
 use txn_codec::Txn;
-use values::{Blob, Fault, NoMemory, ReadError};
+use values::{Bytes, Fault, NoMemory, ReadError};
 
 // Session 7 creates /a with the data "hi", at 1,000 milliseconds.
 const CREATE: &[u8] =
@@ -41,11 +41,12 @@ fn gather(
     counter: u32,
     txn: &[u8],
 ) -> Result<Option<Fault>, NoMemory> {
-    let inform = packet(
-        PacketKind::Inform,
+    let inform = LentItem::Packet(Packet::new(
+        PacketKind::Inform.code(),
         at(counter),
-        Some(Blob::new(alloc, txn)?),
-    );
+        Some(Bytes::new(txn)),
+        None,
+    ));
     if !brings_txns(&inform) {
         return Ok(Some(Fault::UnexpectedPacket));
     }

@@ -1,35 +1,38 @@
-use Rattle.std.proofs.Common.{rules, ◌≡◌, ℤ, w64, to_z, of_z, ap, sym, subst, ◌∙◌}
+use Rattle.std.proofs.Common.{rules, ◌≡◌, ℤ, Some, w64, to_z, of_z, ap, sym, subst, ◌∙◌}
 use Rattle.sessions.specs.declared.request.Connected.{Connected}
 use Rattle.sessions.specs.Sessions.{close_connection, give_session}
-use Rattle.client_service.specs.World.{World}
-use Rattle.client_service.specs.Steps.{StepResult, and_then}
-use Rattle.client_service.specs.Serve.{with_sessions, answer_connect}
-use Rattle.client_service.specs.Results.{MeetsStep}
-use Rattle.client_service.proofs.Steps.{then_meets}
+use Rattle.world.specs.World.{World}
+use Rattle.world.specs.Steps.{StepResult, and_then}
+use Rattle.world.specs.Sending.{with_sessions}
+use Rattle.world.specs.Results.{MeetsStep, MakesStep}
+use Rattle.world.proofs.Steps.{then_meets}
+use Rattle.client_service.specs.Serve.{answer_connect}
+use Rattle.leader_answers.specs.Answering.{admit_as}
 use Rattle.leader_answers.proofs.Admission.{served}
 use Rattle.leader_answers.proofs.admitting.admit.Goals as goal
 
 pub returns : goal.returns
 returns c =
     let n = c.args.number in
-    let w = c.args.world.now in
+    let w = c.stage.inside.world in
+    let now = c.stage.inside.outputs.items in
     let connect = c.args.connect.now in
     let frames = c.args.frames.now in
     let session = to_z w64 (of_z w64 connect.session) in
     let same : session ≡ connect.session = search rules in
     let given = give_session (close_connection w.clients.sessions n) n connect.session connect.time_out in
-    let old = c.args.outputs.now.items in
-    let mid = c.answer_connect.new.outputs.items in
-    let new = c.serve_frames.new.outputs.items in
-    subst (λ (h : StepResult World). MeetsStep c.serve_frames.result old
-    (and_then h (λ (v : World). served n connect.session v frames)) new c.serve_frames.new.world)
+    let result = c.serve_frames.result in
+    let mid = c.answer_connect.new.stage in
+    let new = c.serve_frames.new.stage in
+    subst (λ (s : StepResult World). MakesStep result s (λ (v : World). admit_as n v frames (Some connect)) new)
+    c.stage.view_is
+    (subst (λ (h : StepResult World). MeetsStep result now
+    (and_then h (λ (v : World). served n connect.session v frames)) new.outputs new.after)
     (ap (λ (v : World). answer_connect n connect.has_read_only v c.in_ok-connected.connected)
     c.in_ok-connected.ensures.after
     ∙ ap (λ (a : Connected). answer_connect n connect.has_read_only (with_sessions w given.after) a)
     (sym c.in_ok-connected.ensures.answer))
-    (then_meets c.serve_frames.result old mid new
+    (then_meets result now mid.outputs new.outputs
     (answer_connect n connect.has_read_only c.give_session.new.world c.in_ok-connected.connected)
-    (λ (v : World). served n connect.session v frames) c.answer_connect.new.world c.serve_frames.new.world
-    c.in_ok-answer_connect.ensures
-    (subst (λ (s : ℤ). MeetsStep c.serve_frames.result mid (served n s c.answer_connect.new.world frames) new
-    c.serve_frames.new.world) same c.serve_frames.ensures))
+    (λ (v : World). served n connect.session v frames) mid.after new.after c.in_ok-answer_connect.ensures
+    (subst (λ (s : ℤ). MakesStep result mid (λ (v : World). served n s v frames) new) same c.serve_frames.ensures)))

@@ -1,5 +1,5 @@
 use Rattle.std.proofs.Common.{drop}
-use Rattle.client_service.proofs.Steps.{SoFar}
+use Rattle.world.proofs.Steps.{SoFar}
 use Rattle.observer_core.specs.Gathering.{tell_outcomes}
 use Rattle.observer_core.proofs.gathering.tell_each.Given as goal
 

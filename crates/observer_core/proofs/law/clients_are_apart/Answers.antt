@@ -1,5 +1,5 @@
 use Rattle.std.proofs.Common.{refl}
-use Rattle.client_service.specs.Clients.{heard_connection}
+use Rattle.world.specs.Clients.{heard_connection}
 use Rattle.client_service.specs.Serve.{open_client, end_client}
 use Rattle.observer_core.specs.Apart.{IsSessionOf, IsTakenUp}
 use Rattle.observer_core.specs.Play.{is_serving_clients}

@@ -1,7 +1,7 @@
 use Rattle.std.proofs.Common.{length}
 use Rattle.std.specs.FinMap as finmap
-use Rattle.client_service.specs.Clients.{close_all_clients}
-use Rattle.client_service.proofs.Steps.{SoFar}
+use Rattle.world.specs.Clients.{close_all_clients}
+use Rattle.world.proofs.Steps.{SoFar}
 use Rattle.observer_core.proofs.leader.close_all.Given as goal
 
 abbrev pub invariant-loop-number : goal.invariant-loop-number

@@ -1,6 +1,6 @@
 use Rattle.std.proofs.Common.{drop, map}
-use Rattle.client_service.specs.Serve.{to_leader}
-use Rattle.client_service.proofs.Steps.{SoFar, putting}
+use Rattle.world.specs.Sending.{to_leader}
+use Rattle.world.proofs.Steps.{SoFar, putting}
 use Rattle.observer_core.proofs.leader.send_each.Given as goal
 
 -- Sending what is left completes what was to be sent.

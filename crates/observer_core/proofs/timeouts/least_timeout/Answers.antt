@@ -2,7 +2,7 @@ use Rattle.std.proofs.Common.{◌≡◌, ℤ, List, Option, None, sym, ap, subst
 use Rattle.std.specs.List.{list_any}
 use Rattle.std.specs.Ordering.{eq_by_cmp, int_cmp}
 use Rattle.data_tree.specs.Sessions.{SessionTimeouts}
-use Rattle.client_service.specs.World.{World}
+use Rattle.world.specs.World.{World}
 use Rattle.observer_core.specs.Timeouts.{IsLeastTimeout}
 use Rattle.observer_core.proofs.Least.{least_of, least_timeout_is}
 use Rattle.observer_core.proofs.timeouts.least_timeout.Goals as goal

@@ -1,12 +1,8 @@
 use mir.Val.{SFits}
 use Rattle.std.proofs.Common.{rules, ◌≡◌, ℤ, List, [], ◌∷◌, ◌++◌, Some, None, sym, ap, ◌∙◌, append-nil, w32, w64}
 use Rattle.std.proofs.lemmas.Int.{to_z-of_z}
-use Rattle.std.specs.Ordering.{int_cmp}
-use Rattle.std.specs.Cmp.{int_cmp_total}
-use Rattle.std.proofs.lemmas.Map.Lookups.{exact_signed}
 use Rattle.std.specs.FinMap as finmap
 use Rattle.forwarding.specs.Pending.{live_rows, sorted_touched}
-use Rattle.values.proofs.Keyed.{get-map_of}
 use Rattle.forwarding.proofs.SessionSets.{items-sorted}
 use Rattle.forwarding.proofs.Touching.{lives, ended}
 use Rattle.forwarding.proofs.touched.Touched.live_rows.Goals as goal

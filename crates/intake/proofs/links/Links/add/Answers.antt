@@ -1,6 +1,6 @@
 use Rattle.std.proofs.Common.{ap, ◌∙◌}
 use Rattle.std.specs.FinMap as finmap
-use Rattle.client_service.proofs.NatMaps.{seen-insert}
+use Rattle.world.proofs.NatMaps.{seen-insert}
 use Rattle.intake.proofs.links.Links.add.Goals as goal
 
 pub returns-clause-ok : goal.returns-clause-ok

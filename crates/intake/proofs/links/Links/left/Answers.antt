@@ -1,7 +1,7 @@
 use Rattle.std.proofs.Common.{◌++◌, length, ap, sym, ◌∙◌, subst, refl}
 use Rattle.std.specs.Prelude.{IsSome}
 use Rattle.std.specs.FinMap as finmap
-use Rattle.client_service.proofs.NatMaps.{seen, get-seen}
+use Rattle.world.proofs.NatMaps.{seen, get-seen}
 use Rattle.intake.specs.Links.{Links, taken_from, waiting_from, put_to}
 use Rattle.intake.proofs.Keeping.{written_over, rests_at, none_there, no_end, end_there, is_there}
 use Rattle.intake.proofs.links.Links.left.Goals as goal

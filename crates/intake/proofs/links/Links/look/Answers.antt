@@ -1,6 +1,6 @@
 use Rattle.std.proofs.Common.{subst, refl}
 use Rattle.std.specs.Prelude.{IsSome}
-use Rattle.client_service.proofs.NatMaps.{seen}
+use Rattle.world.proofs.NatMaps.{seen}
 use Rattle.intake.proofs.Keeping.{written_over, looks_there, stays_took, same_owed_ends}
 use Rattle.intake.proofs.links.Links.look.Goals as goal
 

@@ -1,7 +1,7 @@
 use Rattle.std.proofs.Common.{◌≡◌, None, ℕ, ap, ◌∙◌, subst, refl}
 use Rattle.std.specs.Prelude.{IsSome}
 use Rattle.std.specs.FinMap as finmap
-use Rattle.client_service.proofs.NatMaps.{seen}
+use Rattle.world.proofs.NatMaps.{seen}
 use Rattle.intake.proofs.Keeping.{written_over, puts_ok, drops_is, stays_put, none_there}
 use Rattle.intake.proofs.links.Links.put.Goals as goal
 

@@ -1,7 +1,7 @@
 use Rattle.std.proofs.Common.{ap, subst, refl}
 use Rattle.std.specs.Prelude.{IsSome}
 use Rattle.rtrb.specs.Ring.{received}
-use Rattle.client_service.proofs.NatMaps.{seen}
+use Rattle.world.proofs.NatMaps.{seen}
 use Rattle.intake.proofs.Keeping.{written_over, rests_at, same_wait, stays_put}
 use Rattle.intake.proofs.links.Links.put_kept.Goals as goal
 

@@ -1,6 +1,6 @@
 use Rattle.std.proofs.Common.{ap, ◌∙◌}
 use Rattle.std.specs.FinMap as finmap
-use Rattle.client_service.proofs.NatMaps.{seen-remove}
+use Rattle.world.proofs.NatMaps.{seen-remove}
 use Rattle.intake.proofs.links.Links.remove.Goals as goal
 
 pub returns : goal.returns

@@ -1,6 +1,6 @@
 use Rattle.std.proofs.Common.{length, ap, sym, ◌∙◌}
 use Rattle.std.specs.FinMap as finmap
-use Rattle.client_service.proofs.NatMaps.{get-seen}
+use Rattle.world.proofs.NatMaps.{get-seen}
 use Rattle.intake.specs.Links.{Links, waiting_from}
 use Rattle.intake.proofs.Keeping.{seen_none}
 use Rattle.intake.proofs.links.Links.seen.Goals as goal

@@ -1,6 +1,6 @@
 use Rattle.std.proofs.Common.{ap, ◌∙◌, subst, refl}
 use Rattle.std.specs.Prelude.{IsSome}
-use Rattle.client_service.proofs.NatMaps.{seen}
+use Rattle.world.proofs.NatMaps.{seen}
 use Rattle.intake.proofs.Keeping.{written_over, none_there, takes_is, takes_ok, stays_took, same_owed_ends}
 use Rattle.intake.proofs.links.Links.take.Goals as goal
 

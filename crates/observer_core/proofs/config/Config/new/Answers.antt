@@ -3,7 +3,7 @@ use Rattle.std.proofs.Math.Facts.{to_z-of_z}
 use Rattle.std.specs.Prelude.{ℤ, Option, FitsSigned}
 use Rattle.settings.specs.Settings.{epoch_pair, timeout_pair, is_server_id, are_epochs, are_timeouts, is_secret, server_id_of, epochs_of, timeouts_of}
 use Rattle.settings.proofs.Making.{made}
-use Rattle.client_service.specs.declared.world.Settings.{Settings}
+use Rattle.world.specs.declared.world.Settings.{Settings}
 use Rattle.observer_core.proofs.config.Config.new.Goals as goal
 
 -- Signed numbers are passed as their bits.

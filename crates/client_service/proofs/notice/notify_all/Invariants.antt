@@ -1,9 +1,0 @@
-use Rattle.std.proofs.Common.{drop}
-use Rattle.client_service.specs.Clients.{notices_to}
-use Rattle.client_service.proofs.Steps.{SoFar, putting}
-use Rattle.client_service.proofs.notice.notify_all.Given as goal
-
--- Sending what is left completes what was to be sent.
-abbrev pub invariant-loop-event : goal.invariant-loop-event
-invariant-loop-event l = SoFar l.fn.outputs.items (putting (notices_to l.number l.events)) l.outputs.items
-    (putting (notices_to l.number (drop l.event-index l.events)))

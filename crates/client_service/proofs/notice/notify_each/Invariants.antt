@@ -1,9 +1,0 @@
-use Rattle.std.proofs.Common.{drop}
-use Rattle.client_service.specs.Clients.{notices_of}
-use Rattle.client_service.proofs.Steps.{SoFar, putting}
-use Rattle.client_service.proofs.notice.notify_each.Given as goal
-
--- Sending what is left completes what was to be sent.
-abbrev pub invariant-loop-number : goal.invariant-loop-number
-invariant-loop-number l = SoFar l.fn.outputs.items (putting (notices_of l.events)) l.outputs.items
-    (putting (notices_of (drop l.number-index l.events)))

@@ -1,0 +1,3 @@
+pub mod NatMaps
+pub mod Heard
+pub mod Steps

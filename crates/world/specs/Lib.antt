@@ -1,0 +1,5 @@
+pub mod World
+pub mod Steps
+pub mod Clients
+pub mod Sending
+pub mod Results
