@@ -1,6 +1,4 @@
 //! Cells that are taken out of a tree, so that groups of transactions can be applied separately.
-//!
-//! Laws that go over this: `Batches`, `CellMeanings`, `MovedCells`.
 
 ghost use Rattle.std.specs.Prelude.{◌≡◌, [], pos, OnOk, OnErr, IfOk};
 ghost use Rattle.data_tree.specs.Cells.{cells_at, without_cells, with_cells, effect_in_cells};

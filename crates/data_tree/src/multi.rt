@@ -1,6 +1,4 @@
 //! The errors of a multi's parts.
-//!
-//! Laws that go over this: `CellMeanings`, `Commute`, `KeepingNames`.
 
 ghost use Rattle.std.specs.Prelude.{◌≡◌, IfOk};
 ghost use Rattle.data_tree.specs.Meaning.{first_error, errors_of_failed, failed_outcome};

@@ -1,6 +1,4 @@
 //! The data tree.
-//!
-//! Laws that go over this: `Batches`, `CellMeanings`, `Commute`, `KeepingNames`, `MovedCells`, `Multis`.
 
 ghost use Rattle.std.specs.Prelude.{◌≡◌, ◌++◌, [], ◌↔◌, OnOk, OnErr, IfOk, IsTrue, not, map, String, string_bytes, codes};
 ghost use Rattle.std.specs.Option.{option_copied, option_map};

@@ -1,6 +1,4 @@
 //! The requests of one connection.
-//!
-//! Laws that go over this: `Queued`.
 
 ghost use Rattle.std.specs.Prelude.{◌≡◌, ◌++◌, ◌∷◌, ◌==◌, [], OnOk, OnErr, IfOk, IfSome, IfNone, None, not, nat_lt, length};
 ghost use Rattle.std.specs.List.{position, list_any};

@@ -1,6 +1,4 @@
 //! The requests of all connections.
-//!
-//! Laws that go over this: `Changing`.
 
 ghost use Rattle.std.specs.Prelude.{◌≡◌, ◌++◌, ◌∷◌, ◌==◌, [], OnOk, OnErr, not, nat_lt, length};
 ghost use Rattle.std.specs.FinMap as finmap;

@@ -1,6 +1,4 @@
 //! All requests that aren't answered yet.
-//!
-//! Laws that go over this: `Agreeing`, `Emptiness`, `Others`, `Answered`, `Ordered`.
 
 ghost use Rattle.std.specs.Prelude.{◌≡◌, ℕ, [], OnOk, OnErr, IfOk, IfSome, IsTrue, None, true, false, drop};
 ghost use Rattle.std.specs.FinMap as finmap;

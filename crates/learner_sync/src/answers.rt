@@ -1,6 +1,4 @@
 //! The packets that a learner sends to its leader, and lists of acts.
-//!
-//! Laws that go over this: `Acts`, `Each`, `Epochs`, `Logs`, `Sending`.
 
 ghost use Rattle.std.specs.Prelude.{◌≡◌, ◌∷◌, [], ◌*◌, length, IfOk};
 ghost use Rattle.learner_sync.specs.Answers.{observer_info, ack_epoch, epoch_ack, ping_reply, session_rows};

@@ -1,6 +1,4 @@
 //! The handshake: what a leader sends before it brings a learner up to date.
-//!
-//! Laws that go over this: `Acts`, `Each`, `Epochs`, `Logs`.
 
 ghost use Rattle.std.specs.Prelude.{◌≡◌};
 ghost use Rattle.learner_sync.specs.Learn.{LearnsItem, leader_info, message_in_hello, truncate_log, await_image, message_in_sync};

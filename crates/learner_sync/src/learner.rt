@@ -1,6 +1,4 @@
 //! How far a leader was followed.
-//!
-//! Laws that go over this: `Logs`.
 
 ghost use Rattle.std.specs.Prelude.{◌≡◌, IfOk, OnErr, length};
 ghost use Rattle.std.specs.Option.{option_map};

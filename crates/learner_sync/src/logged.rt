@@ -1,6 +1,4 @@
 //! The log: transactions that were applied, in order.
-//!
-//! Laws that go over this: `Acts`, `Each`, `Epochs`, `Logs`, `Zxids`.
 
 ghost use Rattle.std.specs.Prelude.{◌≡◌};
 ghost use Rattle.learner_sync.specs.Learn.{txns_up_to, zxid_after};

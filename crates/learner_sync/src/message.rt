@@ -1,6 +1,4 @@
 //! What a leader's packet means to an observer.
-//!
-//! Laws that go over this: `Acts`, `Each`, `Epochs`, `Logs`, `Serving`.
 
 ghost use Rattle.std.specs.Prelude.{◌≡◌};
 ghost use Rattle.learner_sync.specs.Messages.{message_of_packet};

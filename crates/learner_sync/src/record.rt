@@ -1,6 +1,4 @@
 //! The record by which a learner introduces itself.
-//!
-//! Laws that go over this: `Records`, `Sending`.
 
 ghost use Rattle.learner_sync.specs.Records.{learner_info};
 

@@ -1,6 +1,4 @@
 //! The messages that bring a learner up to date, and those that come while clients are served.
-//!
-//! Laws that go over this: `Acts`, `Each`, `Epochs`, `Logs`, `Serving`.
 
 ghost use Rattle.std.specs.Prelude.{◌≡◌, int_lt, Ok};
 ghost use Rattle.learner_sync.specs.Learn.{LearnsItem, zxid_floor, with_applied_zxid, learn_inform, learn_proposal, learn_commit, new_leader, up_to_date, message_in_replay, message_in_serving};

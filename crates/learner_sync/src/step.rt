@@ -1,6 +1,4 @@
 //! What is learnt of an item of the leader's stream.
-//!
-//! Laws that go over this: `Acts`, `Each`, `Epochs`, `Images`, `Logs`, `Serving`.
 
 ghost use Rattle.std.specs.Prelude.{◌≡◌, IfOk, Ok};
 ghost use Rattle.quorum_packet.specs.Lending.{owned_item};

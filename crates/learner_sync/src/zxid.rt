@@ -1,6 +1,4 @@
 //! Zxids and the epochs in them.
-//!
-//! Laws that go over this: `Acts`, `Each`, `Epochs`, `Logs`.
 
 ghost use Rattle.std.specs.Prelude.{◌≡◌};
 ghost use Rattle.learner_sync.specs.Zxids.{epoch_of, first_zxid};

@@ -1,6 +1,4 @@
 //! Moving nodes from one map to another, with their data, lists and names as they are.
-//!
-//! Laws of `data_tree` that go over this: `MovedCells`.
 
 ghost use Rattle.std.specs.Prelude.{◌≡◌, OnOk, OnErr, IfOk, not};
 ghost use Rattle.std.specs.FinMap as finmap;

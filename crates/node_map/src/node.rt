@@ -1,6 +1,4 @@
 //! A node of the tree.
-//!
-//! Laws of `data_tree` that go over this: `Commute`, `KeepingNames`.
 
 ghost use Rattle.std.specs.Prelude.{◌≡◌, OnOk, OnErr, IfOk, not, int_lt, if◌then◌else◌, string_bytes};
 ghost use Rattle.std.specs.FinSet as set;

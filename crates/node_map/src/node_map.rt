@@ -1,6 +1,4 @@
 //! The nodes by path, modelled as a finite map.
-//!
-//! Laws that go over this: `Naming`. Laws of `data_tree` that go over this: `KeepingNames`, `MovedCells`.
 
 ghost use Rattle.std.specs.Prelude.{◌≡◌, ◌↔◌, ℤ, OnOk, OnErr, IfOk, IsTrue, Option, None, Some, is_some, not, true, map, String, string_bytes};
 ghost use Rattle.std.specs.Option.{option_copied, option_copied_mut};

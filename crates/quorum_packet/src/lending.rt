@@ -60,6 +60,7 @@ impl<'a> Source<'a> {
         })
     }
 
+    /// Returns the unread bytes, where they lie.
     #[tactic(auto, using(crate::proofs::Owning::bytes_alone, crate::proofs::Owning::bytes_queued))]
     pub fn as_slice(&self) -> &[u8]
         ensures { result.now ≡ self.now }

@@ -1,6 +1,4 @@
 //! The replica: a tree that follows a leader.
-//!
-//! Laws that go over this: `Carrying`, `Following`, `Images`, `Serving`.
 
 ghost use Rattle.std.specs.Prelude.{◌≡◌, IfOk, OnOk};
 ghost use Rattle.std.specs.List.{AllByRecursion};

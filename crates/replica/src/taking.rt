@@ -1,6 +1,4 @@
 //! The items of a leader's stream.
-//!
-//! Laws that go over this: `Carrying`, `Following`, `Images`, `Serving`.
 
 ghost use Rattle.std.specs.Prelude.{◌≡◌, OnOk, IfOk};
 ghost use Rattle.std.specs.List.{AllByRecursion};

@@ -1,6 +1,4 @@
 //! The connections that have a session.
-//!
-//! Laws that go over this: `Agreeing`, `Kept`, `Others`.
 
 ghost use Rattle.std.specs.Prelude.{◌≡◌, OnOk, OnErr};
 ghost use Rattle.std.specs.Option.{option_copied};

@@ -1,6 +1,4 @@
 //! Session ids, their passwords, and digest ids.
-//!
-//! Laws that go over this: `Agreeing`, `Ended`, `Kept`, `Numbers`, `Others`.
 
 ghost use Rattle.std.specs.Prelude.{◌≡◌, ◌<◌, ◌^◌, IfOk};
 ghost use Rattle.sessions.specs.Credentials.{session_id_of, password_of, user_of, digest_id};

@@ -1,6 +1,4 @@
 //! The connections that have sessions.
-//!
-//! Laws that go over this: `Agreeing`, `Kept`, `NewIds`, `Others`.
 
 ghost use Rattle.std.specs.Prelude.{◌≡◌, ◌≤◌, ℤ, OnErr, IfOk, IfNone, None, [], ◌∷◌, ◌++◌, length};
 ghost use Rattle.std.specs.Option.{option_copied};

@@ -1,6 +1,4 @@
 //! One table of watches.
-//!
-//! Laws that go over this: `Others`, `Silent`, `Told`.
 
 ghost use Rattle.std.specs.Prelude.{◌≡◌, ◌↔◌, OnOk, OnErr, IfSome, IfNone, IsTrue, String};
 ghost use Rattle.std.specs.FinSet as set;

@@ -1,6 +1,4 @@
 //! The events of a trigger, and the connections that get them.
-//!
-//! Laws that go over this: `Silent`, `Told`.
 
 ghost use Rattle.std.specs.Prelude.{◌≡◌, ◌++◌, OnOk};
 ghost use Rattle.watch_manager.specs.Watches.{events_for, connections_not_told, events_of_trigger, watches_after};

@@ -1,6 +1,4 @@
 //! The watches of all connections.
-//!
-//! Laws that go over this: `Silent`, `Told`.
 
 ghost use Rattle.std.specs.Prelude.{◌≡◌, ◌↔◌, OnOk, OnErr, IfOk, IsTrue};
 ghost use Rattle.std.specs.FinSet as set;
