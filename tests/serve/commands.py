@@ -68,6 +68,8 @@ BAD = [
     (GOOD + ["--record"], "--record has no value"),
     (GOOD + ["--log", "loud"], "--log loud: off, error, warn, info or debug"),
     (GOOD + ["--log-format", "xml"], "--log-format xml: text or json"),
+    (["--config"], "--config has no value"),
+    (["--check-config"], "--check-config has no value"),
     (GOOD + ["--verbose"], "--verbose: no such option"),
     (GOOD + ["--cliemt", "1"], "--cliemt: no such option (did you mean --client?)"),
     (GOOD + ["more"], "more: no such option"),

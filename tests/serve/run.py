@@ -26,6 +26,7 @@ import attacks_on_memory  # noqa: E402
 import bounds  # noqa: E402
 import checkpoints  # noqa: E402
 import commands  # noqa: E402
+import configured  # noqa: E402
 import forwarded  # noqa: E402
 import load  # noqa: E402
 import logs  # noqa: E402
@@ -39,7 +40,7 @@ from server import (  # noqa: E402
 )
 
 MODULES = (
-    commands, sys.modules[__name__], logs, next_leaders, silence, checkpoints, bounds, attacks, attacks_on_memory,
+    commands, configured, sys.modules[__name__], logs, next_leaders, silence, checkpoints, bounds, attacks, attacks_on_memory,
 )
 
 

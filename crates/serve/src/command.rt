@@ -4,7 +4,9 @@ use crate::logging::tell;
 use crate::serving::{Origin, try_serve_on};
 use following::Finding;
 use mio::net::TcpListener;
+use serve_config::{FileLines, read_file};
 use serve_failures::{Failure, Step};
+use serve_journal::print_check;
 use serve_options::{Address, Command, Options, Servers, VERSION_LINES, command_of, help};
 use std::alloc::Global;
 use std::net::{Net, SocketAddr, TcpStream, ToSocketAddrs};
@@ -87,12 +89,12 @@ fn run<
         + Send
         + Sync
         + 'static,
->(rt: &R, alloc: Global, options: &Options<'_>) -> Result<(), Failure> {
+>(rt: &R, alloc: Global, options: &Options<'_>, lines: FileLines<'_>) -> Result<(), Failure> {
     let origin = origin_of(rt, alloc, options)?;
     let listener = listen(rt, alloc, &options.client)?;
     let port = listener.local_addr()?.port();
     println!(rt; "serving {port}")?;
-    try_serve_on(rt, alloc, options, origin, listener)
+    try_serve_on(rt, alloc, options, lines, origin, listener)
 }
 
 // Prints what a command asks for, or serves.
@@ -109,9 +111,18 @@ fn obey<
         + Send
         + Sync
         + 'static,
->(rt: &R, alloc: Global, command: &Command<'_>) -> Result<(), Failure> {
+>(rt: &R, alloc: Global, words: &[String], command: &Command<'_>) -> Result<(), Failure> {
     match command {
-        Command::Serve(options) => run(rt, alloc, options),
+        Command::Serve(options) => run(rt, alloc, options, FileLines::none()),
+        Command::Configured(file) => {
+            let read = read_file(rt, alloc, words, file.name)?;
+            let given = read.given(alloc, words)?;
+            let options = read.options(alloc, words, given.as_slice())?;
+            if file.is_check {
+                return print_check(rt, alloc, &options, read.lines());
+            }
+            run(rt, alloc, &options, read.lines())
+        }
         Command::Help => {
             let text = help(alloc)?;
             print!(rt; "{text}")?;
@@ -140,7 +151,7 @@ pub fn serve<
         + 'static,
 >(rt: &R, alloc: Global, words: &[String]) -> u8 {
     let obeyed = match command_of(alloc, words) {
-        Ok(command) => obey(rt, alloc, &command),
+        Ok(command) => obey(rt, alloc, words, &command),
         Err(error) => Err(Failure::of_options(alloc, &error)),
     };
     match obeyed {

@@ -16,6 +16,7 @@ use log::Log;
 use mio::net::TcpListener;
 use observer_core::{Config, Settings};
 use serve_bounds::{Accepting, Acceptor, Stopwatch, accept_all, open_door};
+use serve_config::FileLines;
 use serve_failures::{Failure, Step, servers_of};
 use serve_journal::Journal;
 use serve_options::{Address, Options, Servers};
@@ -277,6 +278,7 @@ pub(crate) fn try_serve_on<
     rt: &R,
     alloc: Global,
     options: &Options<'_>,
+    lines: FileLines<'_>,
     origin: Origin,
     listener: TcpListener,
 ) -> Result<(), Failure> {
@@ -293,6 +295,7 @@ pub(crate) fn try_serve_on<
         end,
     } = start_logging(rt, alloc, options)?;
     journal.started(options, port);
+    journal.started_by(lines);
     let served = serve_with(rt, alloc, config, prepared, journal, record);
     end.finish(rt, thread);
     served
@@ -315,7 +318,8 @@ pub fn serve_on<
         + Sync
         + 'static,
 >(rt: &R, alloc: Global, options: &Options<'_>, leader: TcpStream, listener: TcpListener) -> u8 {
-    match try_serve_on(rt, alloc, options, Origin::Stream(leader), listener) {
+    let origin = Origin::Stream(leader);
+    match try_serve_on(rt, alloc, options, FileLines::none(), origin, listener) {
         Ok(()) => 0,
         Err(failure) => failure.status(),
     }

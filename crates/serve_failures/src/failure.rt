@@ -29,7 +29,7 @@ pub enum Step {
 /// The reason why a server couldn't be started, or ended before its leader did. Its text is one line.
 #[derive(Debug, Drop, Error)]
 pub enum Failure {
-    /// The command line is invalid; the text says why.
+    /// The command line or the configuration file is invalid; the text says why.
     #[error("{0}")]
     Usage(String),
     /// A name, a socket or a file couldn't be had.
@@ -76,6 +76,21 @@ impl Failure {
             return Failure::NoMemory;
         }
         match text_of(alloc, error) {
+            Ok(text) => Failure::Usage(text),
+            Err(_) => Failure::NoMemory,
+        }
+    }
+
+    /// What is wrong at this line of a configuration file, or the want of memory. Line 0 is none of its lines.
+    pub fn in_file<D: Display>(alloc: Global, file: &str, line: u64, what: &D) -> Failure
+        ensures { (failure_status result ≡ 2) ⊎ (failure_status result ≡ 4) }
+    {
+        let text = if line == 0 {
+            format!(in alloc; "{file}: {what}")
+        } else {
+            format!(in alloc; "{file}:{line}: {what}")
+        };
+        match text {
             Ok(text) => Failure::Usage(text),
             Err(_) => Failure::NoMemory,
         }

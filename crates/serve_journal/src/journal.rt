@@ -5,12 +5,14 @@ use crate::settings_line::SettingsLine;
 use intake::{Desk, Message};
 use learner_sync::{Learner, Phase};
 use log::{Log, debug, info, warn};
+use serve_config::FileLines;
 use serve_failures::{Failure, Reason, Server, Tried, fault_hint};
 use serve_log::{Pace, Refusals};
 use serve_options::{Options, VERSION};
 use std::alloc::Global;
 use std::net::SocketAddr;
 use values::Fault;
+use zoo_config::{Meaning, meaning_of};
 
 /// Writes what happens to the logger.
 #[derive(Drop)]
@@ -47,6 +49,19 @@ impl<L: Log> Journal<L> {
         if options.default_id {
             warn!(self.log; target: "start",
                 "no --id: this server has the id 1, and is counted as the server of the ensemble that has it");
+        }
+    }
+
+    /// The server has started by this file. What isn't heeded of it is told, but for what means nothing here.
+    pub fn started_by(&self, lines: FileLines<'_>) {
+        let FileLines { name, entries } = lines;
+        for entry in entries {
+            let line = entry.line;
+            let key = entry.key.as_str();
+            let meaning = meaning_of(key, entry.value.as_str());
+            if meaning == Meaning::Unheeded || meaning == Meaning::Unknown {
+                warn!(self.log; target: "start", "{name}:{line}: {key} {meaning}");
+            }
         }
     }
 

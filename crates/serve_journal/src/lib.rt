@@ -4,8 +4,10 @@
 //! and which levels are written, is the logger's: `serve_log` has one for standard error.
 #![tactic(auto)]
 
+mod check;
 mod greeting;
 mod journal;
 mod settings_line;
 
+pub use check::print_check;
 pub use journal::Journal;

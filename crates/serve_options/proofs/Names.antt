@@ -2,11 +2,13 @@
 use Rattle.std.proofs.Common.{◌≡◌, ◌<◌, refl, lit<}
 use Rattle.std.specs.Prelude.{slice_index_or}
 use Rattle.serve_options.specs.declared.row.Name.{Name}
-use Rattle.serve_options.specs.declared.row.Name.TheVariants.{Leader, Servers, Client, Id, Counter, Workers, Batch, MaxClients, MaxPerAddress, MaxUnderWay, MaxWatches, Unconnected, Words, Tick, InitLimit, SyncLimit, Checkpoint, GiveUp, Record, Log, LogFormat, Help, Version}
+use Rattle.serve_options.specs.declared.row.Name.TheVariants.{Config, CheckConfig, Leader, Servers, Client, Id, Counter, Workers, Batch, MaxClients, MaxPerAddress, MaxUnderWay, MaxWatches, Unconnected, Words, Tick, InitLimit, SyncLimit, Checkpoint, GiveUp, Record, Log, LogFormat, Help, Version}
 use Rattle.serve_options.specs.declared.row.TheConstants.{NAMES}
 use Rattle.serve_options.specs.Given.{name_place}
 
 pub name_at : (name : Name) → slice_index_or NAMES (name_place name) name ≡ name
+name_at Config = refl
+name_at CheckConfig = refl
 name_at Leader = refl
 name_at Servers = refl
 name_at Client = refl
@@ -31,7 +33,9 @@ name_at LogFormat = refl
 name_at Help = refl
 name_at Version = refl
 
-pub place_below : (name : Name) → name_place name < 23
+pub place_below : (name : Name) → name_place name < 25
+place_below Config = lit< tt
+place_below CheckConfig = lit< tt
 place_below Leader = lit< tt
 place_below Servers = lit< tt
 place_below Client = lit< tt

@@ -1,5 +1,5 @@
 -- What a command line asks for.
-use Rattle.std.specs.Prelude.{◌≡◌, ◌↔◌, ◌≤◌, ℕ, pos, List, Option, Some, None, IfSome, IsTrue, vec_len}
+use Rattle.std.specs.Prelude.{◌≡◌, ◌↔◌, ◌≤◌, ℕ, pos, List, Option, Some, None, IfSome, IsTrue, vec_len, ◌++◌, if◌then◌else◌}
 use Rattle.std.specs.Option.{unwrap_or, option_map}
 use Rattle.values.specs.Maybe.{◌>>=◌}
 use Rattle.log.specs.declared.level.LevelFilter.{LevelFilter}
@@ -7,6 +7,7 @@ use Rattle.log.specs.declared.level.LevelFilter.TheVariants.{Info}
 use Rattle.serve_options.specs.declared.row.Name.TheVariants as names
 use Rattle.serve_options.specs.declared.given.Given.{Given}
 use Rattle.serve_options.specs.declared.command.Options.{Options}
+use Rattle.serve_options.specs.declared.command.ConfigFile.{ConfigFile}
 use Rattle.serve_options.specs.declared.command.Servers.{Servers}
 use Rattle.serve_options.specs.declared.command.Servers.TheVariants as followed
 use Rattle.serve_options.specs.declared.value.LogFormat.{LogFormat}
@@ -82,9 +83,20 @@ pub record IsSetBy (given : List Given) (options : Options) : Type 0 where
   pub give_up : options.give_up ≡ number_given names.GiveUp given
   pub file : option_map (λ name. name.now) options.«record» ≡ value_of names.Record given
 
+-- The file that is given, to be followed or to be told of.
+abbrev pub IsFileOf : List Given → ConfigFile → Type 0
+IsFileOf given file =
+    value_of (if file.is_check then names.CheckConfig else names.Config) given ≡ Some file.name.now
+
+-- What a file sets counts where no option of that name is given.
+abbrev pub AreOptionsOver : List (List ℕ) → List Given → Options → Type 0
+AreOptionsOver words filed options =
+    (given : List Given) × IsGivenBy given words × IsSetBy (given ++ filed) options × IsWithinBounds options
+
 -- The words of a command line that serves spell the options that it sets, each within its bounds.
 abbrev pub AreWordsOf : Command → List (List ℕ) → Type 0
 AreWordsOf (commands.Serve options) words =
     (given : List Given) × IsGivenBy given words × IsSetBy given options × IsWithinBounds options
+AreWordsOf (commands.Configured file) words = (given : List Given) × IsGivenBy given words × IsFileOf given file
 AreWordsOf commands.Help words = Unit {0}
 AreWordsOf commands.Version words = Unit {0}

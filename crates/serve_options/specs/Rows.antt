@@ -1,12 +1,14 @@
 -- The options: the word of each, and what its value may be.
 use Rattle.std.specs.Prelude.{ℕ, ◌-◌, ◌^◌, ◌≤◌, List, codes}
 use Rattle.serve_options.specs.declared.row.Name.{Name}
-use Rattle.serve_options.specs.declared.row.Name.TheVariants.{Leader, Servers, Client, Id, Counter, Workers, Batch, MaxClients, MaxPerAddress, MaxUnderWay, MaxWatches, Unconnected, Words, Tick, InitLimit, SyncLimit, Checkpoint, GiveUp, Record, Log, LogFormat, Help, Version}
+use Rattle.serve_options.specs.declared.row.Name.TheVariants.{Config, CheckConfig, Leader, Servers, Client, Id, Counter, Workers, Batch, MaxClients, MaxPerAddress, MaxUnderWay, MaxWatches, Unconnected, Words, Tick, InitLimit, SyncLimit, Checkpoint, GiveUp, Record, Log, LogFormat, Help, Version}
 use Rattle.serve_options.specs.declared.row.Bounds.{Bounds}
 use Rattle.serve_options.specs.declared.row.Kind.{Kind}
 use Rattle.serve_options.specs.declared.row.Kind.TheVariants as kinds
 
 abbrev pub option_word : Name → List ℕ
+option_word Config = codes "--config"
+option_word CheckConfig = codes "--check-config"
 option_word Leader = codes "--leader"
 option_word Servers = codes "--servers"
 option_word Client = codes "--client"
@@ -36,6 +38,8 @@ from_to least most = kinds.Number (record { least = least; most = most })
 
 -- The largest counter leaves one id after it, of the 56 bits below the server's.
 abbrev pub option_kind : Name → Kind
+option_kind Config = kinds.File
+option_kind CheckConfig = kinds.File
 option_kind Leader = kinds.Address
 option_kind Servers = kinds.Addresses
 option_kind Client = kinds.Address

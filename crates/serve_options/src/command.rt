@@ -4,7 +4,7 @@ ghost use Rattle.std.specs.Prelude.{◌≡◌, ℕ, pos, List, map, string_bytes
 ghost use Rattle.serve_options.specs.Rows.{option_bounds, IsWithin};
 ghost use Rattle.serve_options.specs.Values.{number_within, SpellsAddress};
 ghost use Rattle.serve_options.specs.Given.{value_of, number_given, number_answer};
-ghost use Rattle.serve_options.specs.Commands.{IsWithinBounds, IsSetBy, AreWordsOf, AreServersOf, id_given, words_given, level_given, format_given};
+ghost use Rattle.serve_options.specs.Commands.{IsWithinBounds, IsSetBy, IsFileOf, AreOptionsOver, AreWordsOf, AreServersOf, id_given, words_given, level_given, format_given};
 
 use crate::error::OptionError;
 use crate::given::{Given, find_given, given_in, spelled};
@@ -66,10 +66,20 @@ pub struct Options<'a> {
     pub give_up: Option<u64>,
 }
 
+/// A configuration file.
+#[derive(Clone, Copy, Debug)]
+pub struct ConfigFile<'a> {
+    pub name: &'a str,
+    /// Whether it is only to be told what it does.
+    pub is_check: bool,
+}
+
 /// What a command line asks for.
 #[derive(Drop)]
 pub enum Command<'a> {
     Serve(Options<'a>),
+    /// This file is to be read first, and then the options with it, by `options_over`.
+    Configured(ConfigFile<'a>),
     Help,
     Version,
 }
@@ -276,6 +286,27 @@ fn options_in<'a>(alloc: Global, given: &[Given<'a>]) -> Result<Options<'a>, Opt
     })
 }
 
+// The configuration file, if one is given.
+fn file_in<'a>(given: &[Given<'a>]) -> Result<Option<ConfigFile<'a>>, OptionError<'a>>
+    ensures { IfOk result (λ found. IfSome found (IsFileOf given.now)) }
+{
+    match (
+        spelled(given, Name::Config),
+        spelled(given, Name::CheckConfig),
+    ) {
+        (Some(_), Some(_)) => Err(OptionError::TwoFiles),
+        (Some(name), None) => Ok(Some(ConfigFile {
+            name,
+            is_check: false,
+        })),
+        (None, Some(name)) => Ok(Some(ConfigFile {
+            name,
+            is_check: true,
+        })),
+        (None, None) => Ok(None),
+    }
+}
+
 fn has(words: &[String], option: &str) -> bool {
     words.iter().any(|word| word.as_str() == option)
 }
@@ -292,5 +323,22 @@ pub fn command_of<'a>(alloc: Global, words: &'a [String]) -> Result<Command<'a>,
         return Ok(Command::Version);
     }
     let given = given_in(alloc, words)?;
-    Ok(Command::Serve(options_in(alloc, given.as_slice())?))
+    match file_in(given.as_slice())? {
+        Some(file) => Ok(Command::Configured(file)),
+        None => Ok(Command::Serve(options_in(alloc, given.as_slice())?)),
+    }
+}
+
+/// Reads the words after `serve` beside what a configuration file sets: an option that is given wins. Fails with the
+/// first thing that is wrong, or if an allocation is refused.
+pub fn options_over<'a>(
+    alloc: Global,
+    words: &'a [String],
+    filed: &[Given<'a>],
+) -> Result<Options<'a>, OptionError<'a>>
+    ensures { IfOk result (AreOptionsOver (map string_bytes words.now) filed.now) }
+{
+    let mut given = given_in(alloc, words)?;
+    given.extend_from_slice(filed)?;
+    options_in(alloc, given.as_slice())
 }

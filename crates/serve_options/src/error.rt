@@ -36,6 +36,8 @@ pub enum OptionError<'a> {
     NoServers,
     #[error("--leader and --servers are given: one of the two")]
     LeaderAndServers,
+    #[error("--config and --check-config are given: one of the two")]
+    TwoFiles,
     /// An allocation was refused.
     #[error("no memory")]
     NoMemory,

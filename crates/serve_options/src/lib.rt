@@ -16,6 +16,7 @@
 
 mod command;
 mod error;
+mod filed;
 mod given;
 mod listing;
 mod near;
@@ -23,8 +24,10 @@ mod row;
 mod value;
 mod words;
 
-pub use command::{Command, Options, Servers, command_of};
+pub use command::{Command, ConfigFile, Options, Servers, command_of, options_over};
 pub use error::OptionError;
+pub use filed::{Filed, filed_by, given_by, value_given};
+pub use given::Given;
 pub use listing::help;
 pub use row::{Bounds, Kind, Name, Row, Without};
 pub use value::{Address, LogFormat};

@@ -9,6 +9,8 @@ use std::fmt;
 /// An option.
 #[derive(Clone, Copy, Debug, PartialEq, Eq)]
 pub enum Name {
+    Config,
+    CheckConfig,
     Leader,
     Servers,
     Client,
@@ -35,7 +37,9 @@ pub enum Name {
 }
 
 /// The options, in the order in which help lists them.
-pub const NAMES: [Name; 23] = [
+pub const NAMES: [Name; 25] = [
+    Name::Config,
+    Name::CheckConfig,
     Name::Leader,
     Name::Servers,
     Name::Client,
@@ -132,6 +136,22 @@ pub struct Row {
     /// What the option is for.
     pub help: &'static str,
 }
+
+const CONFIG: Row = Row {
+    word: "--config",
+    value: "FILE",
+    kind: Kind::File,
+    without: Without::Meaning("no file is read"),
+    help: "takes what the `zoo.cfg` of the ensemble sets, where no option does",
+};
+
+const CHECK_CONFIG: Row = Row {
+    word: "--check-config",
+    value: "FILE",
+    kind: Kind::File,
+    without: Without::Meaning("the server serves"),
+    help: "prints what would be taken from such a file, and ends",
+};
 
 const LEADER: Row = Row {
     word: "--leader",
@@ -364,6 +384,8 @@ impl Name {
         ensures default { default_value result.without ≡ option_default self }
     {
         match self {
+            Name::Config => CONFIG,
+            Name::CheckConfig => CHECK_CONFIG,
             Name::Leader => LEADER,
             Name::Servers => SERVERS,
             Name::Client => CLIENT,

@@ -17,7 +17,7 @@ pub struct Words {
     pub wchp: bool,
 }
 
-fn is_word(text: &str) -> bool
+pub(crate) fn is_word(text: &str) -> bool
     ensures { result ≡ is_four_letter_word text.now }
 {
     text == "ruok"

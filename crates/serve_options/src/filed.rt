@@ -1,0 +1,215 @@
+//! What a configuration file sets, as options that say the same.
+
+ghost use Rattle.std.specs.Prelude.{◌≡◌, length, IfOk};
+
+use crate::given::Given;
+use crate::row::Name;
+use crate::words::is_word;
+use replay_script::number_up_to;
+use std::alloc::{AllocError, Global};
+use zoo_config::{BadLine, ConfigError, Entry, Reason, Server, server_in, value_in, voters_beside};
+
+/// An option that a file sets, and its value as it would be spelled.
+#[derive(Debug, Drop)]
+pub struct Filed {
+    pub name: Name,
+    pub value: String,
+}
+
+// The options that are set by one key each, with the value that ZooKeeper takes where the key is missing.
+const KEYS: [(&str, Name, Option<&str>); 5] = [
+    ("tickTime", Name::Tick, Some("3000")),
+    ("initLimit", Name::InitLimit, None),
+    ("syncLimit", Name::SyncLimit, None),
+    ("maxClientCnxns", Name::MaxPerAddress, Some("60")),
+    ("maxCnxns", Name::MaxClients, Some("0")),
+];
+
+// What ZooKeeper answers where no whitelist says more.
+const WHITELIST: &str = "srvr";
+
+const MOST_ID: u64 = 255;
+
+fn put(filed: &mut Vec<Filed>, name: Name, value: String) -> Result<(), AllocError> {
+    filed.push(Filed { name, value })?;
+    Ok(())
+}
+
+// Sets the options of one key each. No bound is 0 in a file, and not given as an option.
+fn put_keys(alloc: Global, filed: &mut Vec<Filed>, entries: &[Entry]) -> Result<(), AllocError> {
+    for (key, name, default) in KEYS {
+        let is_bound = name == Name::MaxPerAddress || name == Name::MaxClients;
+        if let Some(value) = value_in(entries, key).or(default) {
+            if !is_bound || value != "0" {
+                put(filed, name, String::from_str(alloc, value)?)?;
+            }
+        }
+    }
+    Ok(())
+}
+
+// The words of a whitelist that are answered here.
+fn whitelisted(alloc: Global, list: &str) -> Result<String, AllocError> {
+    let mut words = String::new(alloc);
+    for part in list.split(",") {
+        let word = part.trim();
+        if word == "*" {
+            return String::from_str(alloc, "all");
+        }
+        if is_word(word) {
+            if !words.is_empty() {
+                words.push_str(",")?;
+            }
+            words.push_str(word)?;
+        }
+    }
+    if words.is_empty() {
+        words.push_str("none")?;
+    }
+    Ok(words)
+}
+
+// The servers of a file, each by the last line that names it.
+fn servers_of<'a>(alloc: Global, entries: &'a [Entry]) -> Result<Vec<Server<'a>>, ConfigError> {
+    let mut servers = Vec::new(alloc);
+    for entry in entries {
+        if let Some(server) = server_in(entry).map_err(ConfigError::Bad)? {
+            let key = entry.key.as_str();
+            if value_in(entries, key) == Some(entry.value.as_str()) {
+                servers.push(server)?;
+            }
+        }
+    }
+    Ok(servers)
+}
+
+fn wrong(server: &Server<'_>, reason: Reason) -> ConfigError {
+    ConfigError::Bad(BadLine {
+        line: server.line,
+        reason,
+    })
+}
+
+// Appends the quorum ports of a server, which come before the ports of elections.
+fn put_quorum(out: &mut String, server: &Server<'_>) -> Result<(), ConfigError> {
+    for address in server.addresses.split("|") {
+        let Some((quorum, _)) = address.rsplit_once(":") else {
+            return Err(wrong(server, Reason::Server));
+        };
+        if !quorum.contains(":") {
+            return Err(wrong(server, Reason::Server));
+        }
+        if !out.is_empty() {
+            out.push_str(",")?;
+        }
+        out.push_str(quorum)?;
+    }
+    Ok(())
+}
+
+// The list of the servers that may lead.
+fn voters_text(alloc: Global, servers: &[Server<'_>], id: u64) -> Result<String, ConfigError> {
+    let mut out = String::new(alloc);
+    let voters = voters_beside(alloc, servers, id)?;
+    for server in voters.as_slice() {
+        put_quorum(&mut out, server)?;
+    }
+    Ok(out)
+}
+
+// This server among those of the file, where it has a line. It has to be an observer.
+fn own_server<'a>(servers: &[Server<'a>], id: u64) -> Result<Option<Server<'a>>, ConfigError> {
+    for server in servers {
+        if server.id == id {
+            if !server.is_observer {
+                return Err(wrong(server, Reason::Votes));
+            }
+            return Ok(Some(*server));
+        }
+    }
+    Ok(None)
+}
+
+// An address and a port; all addresses where none is named, as ZooKeeper does.
+fn client_text(alloc: Global, address: Option<&str>, port: &str) -> Result<String, AllocError> {
+    match address {
+        None => format!(in alloc; "0.0.0.0:{port}"),
+        Some(address) if address.contains(":") => format!(in alloc; "[{address}]:{port}"),
+        Some(address) => format!(in alloc; "{address}:{port}"),
+    }
+}
+
+// Where clients are served: by the keys for it, or by this server's own line.
+fn client_of(
+    alloc: Global,
+    entries: &[Entry],
+    own: Option<Server<'_>>,
+) -> Result<Option<String>, AllocError> {
+    if let Some(port) = value_in(entries, "clientPort") {
+        let address = value_in(entries, "clientPortAddress");
+        return Ok(Some(client_text(alloc, address, port)?));
+    }
+    match own.and_then(|server| server.client) {
+        None => Ok(None),
+        Some(client) if client.contains(":") => Ok(Some(String::from_str(alloc, client)?)),
+        Some(port) => Ok(Some(client_text(alloc, None, port)?)),
+    }
+}
+
+/// The options that a file sets: its entries, and beside them those of its `dynamicConfigFile`. The id is the one that
+/// is given, or that `myid` has. Fails if the line of a server is wrong, or says that this server votes, or if an
+/// allocation is refused.
+pub fn filed_by(
+    alloc: Global,
+    entries: &[Entry],
+    listed: &[Entry],
+    id: Option<&str>,
+) -> Result<Vec<Filed>, ConfigError> {
+    let mut filed = Vec::new(alloc);
+    let number = match id {
+        Some(id) => number_up_to(MOST_ID, id.as_bytes()).unwrap_or(0),
+        None => 0,
+    };
+    let servers = servers_of(alloc, listed)?;
+    let own = own_server(servers.as_slice(), number)?;
+    let voters = voters_text(alloc, servers.as_slice(), number)?;
+    if !voters.is_empty() {
+        put(&mut filed, Name::Servers, voters)?;
+    }
+    if let Some(client) = client_of(alloc, entries, own)? {
+        put(&mut filed, Name::Client, client)?;
+    }
+    if let Some(id) = id {
+        put(&mut filed, Name::Id, String::from_str(alloc, id)?)?;
+    }
+    put_keys(alloc, &mut filed, entries)?;
+    let list = value_in(entries, "4lw.commands.whitelist").unwrap_or(WHITELIST);
+    put(&mut filed, Name::Words, whitelisted(alloc, list)?)?;
+    Ok(filed)
+}
+
+/// The word after an option, if the words have the option.
+pub fn value_given(words: &[String], name: Name) -> Option<&str> {
+    let option = name.row().word;
+    let place = words.iter().position(|word| word.as_str() == option)?;
+    let value = words.get(place + 1)?;
+    Some(value.as_str())
+}
+
+/// The same as options that are given, but for the servers beside a leader that is.
+pub fn given_by<'a>(
+    alloc: Global,
+    filed: &'a [Filed],
+    has_leader: bool,
+) -> Result<Vec<Given<'a>>, AllocError> {
+    let mut given = Vec::with_capacity(alloc, filed.len())?;
+    for option in filed {
+        if option.name != Name::Servers || !has_leader {
+            given.push(Given {
+                name: option.name,
+                value: Some(option.value.as_str()),
+            })?;
+        }
+    }
+    Ok(given)
+}

@@ -1,0 +1,119 @@
+-- What a key means to an observer.
+use Rattle.std.specs.Prelude.{ℕ, ◌==◌, ◌||◌, ◌&&◌, not, List, [], ◌∷◌, Bool, Option, Some, None, is_some, position, nat_eq, if◌then◌else◌, codes}
+use Rattle.std.specs.List.{starts_with}
+use Rattle.std.specs.Str.{bytes_eq}
+use Rattle.zoo_config.specs.declared.form.Entry.{Entry}
+use Rattle.zoo_config.specs.declared.error.BadLine.{BadLine}
+use Rattle.zoo_config.specs.declared.error.Reason.{Reason}
+use Rattle.zoo_config.specs.declared.error.Reason.TheVariants.{Escape, Tls, Sasl, LocalSessions, Digests}
+use Rattle.zoo_config.specs.declared.key.Meaning.{Meaning}
+use Rattle.zoo_config.specs.declared.key.Meaning.TheVariants.{Taken, Idle, Unheeded, Unknown, Refused}
+
+-- ---- what is refused
+
+abbrev pub is_off : List ℕ → Bool
+is_off value = bytes_eq value (codes "false")
+
+abbrev pub has_escape : List ℕ → Bool
+has_escape text = is_some (position (λ byte. byte == 92) text)
+
+abbrev pub asks_for_tls : List ℕ → List ℕ → Bool
+asks_for_tls key value =
+    bytes_eq key (codes "secureClientPort") || bytes_eq key (codes "secureClientPortAddress")
+    || starts_with nat_eq key (codes "ssl.") || (bytes_eq key (codes "sslQuorum") && not (is_off value))
+
+abbrev pub is_sasl_switch : List ℕ → Bool
+is_sasl_switch key =
+    bytes_eq key (codes "quorum.auth.enableSasl") || bytes_eq key (codes "quorum.auth.learnerRequireSasl")
+    || bytes_eq key (codes "quorum.auth.serverRequireSasl") || bytes_eq key (codes "sessionRequireClientSASLAuth")
+
+abbrev pub asks_for_sasl : List ℕ → List ℕ → Bool
+asks_for_sasl key value =
+    starts_with nat_eq key (codes "authProvider") || starts_with nat_eq key (codes "enforce.auth.")
+    || starts_with nat_eq key (codes "kerberos.") || bytes_eq key (codes "requireClientAuthScheme")
+    || (is_sasl_switch key && not (is_off value))
+
+abbrev pub reason_of : List ℕ → List ℕ → Option Reason
+reason_of key value =
+    if has_escape key || has_escape value then Some Escape
+    else (if asks_for_tls key value then Some Tls
+    else (if asks_for_sasl key value then Some Sasl
+    else (if bytes_eq key (codes "localSessionsEnabled") && not (is_off value) then Some LocalSessions
+    else (if bytes_eq key (codes "digest.enabled") && not (is_off value) then Some Digests
+    else None))))
+
+-- ---- what is heeded
+
+abbrev pub is_taken : List ℕ → Bool
+is_taken key =
+    starts_with nat_eq key (codes "server.") || bytes_eq key (codes "dynamicConfigFile")
+    || bytes_eq key (codes "dataDir") || bytes_eq key (codes "clientPort") || bytes_eq key (codes "clientPortAddress")
+    || bytes_eq key (codes "tickTime") || bytes_eq key (codes "initLimit") || bytes_eq key (codes "syncLimit")
+    || bytes_eq key (codes "maxClientCnxns") || bytes_eq key (codes "maxCnxns")
+    || bytes_eq key (codes "4lw.commands.whitelist")
+
+-- It has a meaning for an observer, but none here.
+abbrev pub is_unheeded : List ℕ → List ℕ → Bool
+is_unheeded key value =
+    bytes_eq key (codes "minSessionTimeout") || bytes_eq key (codes "maxSessionTimeout")
+    || bytes_eq key (codes "observerMasterPort") || starts_with nat_eq key (codes "metricsProvider.")
+    || bytes_eq key (codes "skipACL") || bytes_eq key (codes "globalOutstandingLimit")
+    || (bytes_eq key (codes "reconfigEnabled") && not (is_off value))
+
+-- It speaks of voters, of elections, of files, or of what is off.
+abbrev pub is_of_servers : List ℕ → Bool
+is_of_servers key =
+    bytes_eq key (codes "peerType") || bytes_eq key (codes "standaloneEnabled")
+    || bytes_eq key (codes "electionAlg") || bytes_eq key (codes "quorumListenOnAllIPs")
+    || bytes_eq key (codes "reconfigEnabled") || bytes_eq key (codes "leaderServes")
+    || starts_with nat_eq key (codes "group.") || starts_with nat_eq key (codes "weight.")
+    || starts_with nat_eq key (codes "observer.") || bytes_eq key (codes "version")
+
+abbrev pub is_of_files : List ℕ → Bool
+is_of_files key =
+    bytes_eq key (codes "syncEnabled") || bytes_eq key (codes "dataLogDir") || bytes_eq key (codes "snapCount")
+    || bytes_eq key (codes "preAllocSize") || bytes_eq key (codes "commitLogCount")
+    || bytes_eq key (codes "snapSizeLimitInKb") || starts_with nat_eq key (codes "autopurge.")
+    || starts_with nat_eq key (codes "snapshot.") || starts_with nat_eq key (codes "admin.")
+
+abbrev pub is_switched_off : List ℕ → Bool
+is_switched_off key =
+    bytes_eq key (codes "sslQuorum") || starts_with nat_eq key (codes "quorum.auth.")
+    || bytes_eq key (codes "sessionRequireClientSASLAuth") || bytes_eq key (codes "localSessionsEnabled")
+    || bytes_eq key (codes "digest.enabled")
+
+abbrev pub meaning_of : List ℕ → List ℕ → Meaning
+meaning_of key value =
+    if is_taken key then Taken
+    else (if is_unheeded key value then Unheeded
+    else (if is_of_servers key || is_of_files key || is_switched_off key then Idle
+    else Unknown))
+
+abbrev pub meaning_with : Option Reason → Meaning → Meaning
+meaning_with None meaning = meaning
+meaning_with (Some reason) meaning = Refused reason
+
+-- ---- a file
+
+abbrev pub bad_line : Entry → Option Reason → Option BadLine
+bad_line entry None = None
+bad_line entry (Some reason) = Some (record { line = entry.line; reason = reason })
+
+abbrev pub or_later : Option BadLine → Option BadLine → Option BadLine
+or_later None later = later
+or_later (Some line) later = Some line
+
+-- The first entry that is refused, if there is one.
+abbrev pub first_refused : List Entry → Option BadLine
+first_refused [] = None
+first_refused (entry ∷ entries) =
+    or_later (bad_line entry (reason_of entry.key entry.value)) (first_refused entries)
+
+-- The value of a key among entries after which others follow: a later line wins.
+abbrev pub value_behind : List ℕ → Option (List ℕ) → List Entry → Option (List ℕ)
+value_behind key found [] = found
+value_behind key found (entry ∷ entries) =
+    value_behind key (if bytes_eq entry.key key then Some entry.value else found) entries
+
+abbrev pub value_in : List ℕ → List Entry → Option (List ℕ)
+value_in key entries = value_behind key None entries

@@ -1,0 +1,51 @@
+//! A configuration file as a whole.
+
+ghost use Rattle.std.specs.Prelude.{◌≡◌, IfOk, None, Some, Err, option_map};
+ghost use Rattle.zoo_config.specs.Form.{entries_of};
+ghost use Rattle.zoo_config.specs.Keys.{first_refused, value_in};
+
+use crate::error::{BadLine, ConfigError};
+use crate::form::{Entry, entries_of};
+use crate::key::reason_of;
+use std::alloc::Global;
+
+// The first entry that is refused.
+fn first_refused(entries: &[Entry]) -> Option<BadLine>
+    ensures { result ≡ first_refused entries.now }
+{
+    for entry in entries {
+        if let Some(reason) = reason_of(entry.key.as_str(), entry.value.as_str()) {
+            return Some(BadLine {
+                line: entry.line,
+                reason,
+            });
+        }
+    }
+    None
+}
+
+/// The entries of a file, none of which is refused. Fails with [`ConfigError`].
+pub fn parse(alloc: Global, text: &str) -> Result<Vec<Entry>, ConfigError>
+    ensures entries { IfOk result (λ entries. entries.items ≡ entries_of text.now) }
+    ensures allowed { IfOk result (λ entries. first_refused (entries_of text.now) ≡ None) }
+    ensures bad { (line : BadLine) → result ≡ Err (ConfigError.Bad line) → first_refused (entries_of text.now) ≡ Some line }
+{
+    let entries = entries_of(alloc, text)?;
+    match first_refused(entries.as_slice()) {
+        Some(line) => Err(ConfigError::Bad(line)),
+        None => Ok(entries),
+    }
+}
+
+/// The value of a key among entries: a later line wins.
+pub fn value_in<'a>(entries: &'a [Entry], key: &str) -> Option<&'a str>
+    ensures { option_map (λ value. value.now) result ≡ value_in key.now entries.now }
+{
+    let mut found = None;
+    for entry in entries {
+        if entry.key.as_str() == key {
+            found = Some(entry.value.as_str());
+        }
+    }
+    found
+}

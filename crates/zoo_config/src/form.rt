@@ -1,0 +1,156 @@
+//! The form of a configuration file, which is that of Java's properties.
+
+ghost use Rattle.std.specs.Prelude.{◌≡◌, length, map, option_map, IfOk};
+ghost use Rattle.std.specs.Str.Lines.{lines};
+ghost use Rattle.zoo_config.specs.Form.{ends_key, entry_key, entry_value, is_remark, line_front, joined_line, part_of, entry_of, entries_of};
+
+use crate::joined::Joined;
+use std::alloc::{AllocError, Global};
+use values::{NoMemory, Text};
+
+/// A key and its value, and the number of the line that they begin at.
+#[derive(Debug, Drop)]
+pub struct Entry {
+    /// Every line counts, from 1.
+    pub line: u64,
+    pub key: Text,
+    pub value: Text,
+}
+
+/// What a line is to the lines around it.
+#[derive(Drop)]
+pub enum Part {
+    /// A comment, or nothing.
+    Remark,
+    /// The next line is joined to it.
+    GoesOn(Joined),
+    /// An entry ends with it.
+    Ends(Joined),
+}
+
+fn ends_key(byte: u8) -> bool
+    ensures { result ≡ ends_key byte }
+{
+    byte == b'=' || byte == b':' || byte.is_ascii_whitespace()
+}
+
+// Where the key of a line ends.
+fn key_length(text: &str) -> usize
+    ensures { result ≡ length (entry_key text.now) }
+{
+    let bytes = text.as_bytes();
+    match bytes.iter().position(|byte| ends_key(*byte)) {
+        Some(place) => place,
+        None => bytes.len(),
+    }
+}
+
+// The value after a key: a sign between them, and the blanks around it and at the end are dropped.
+fn value_in(text: &str) -> &str
+    ensures { result.now ≡ entry_value text.now }
+{
+    let text = text.trim_start();
+    match text.as_bytes().first() {
+        Some(b'=' | b':') => text[1..].trim(),
+        _ => text.trim(),
+    }
+}
+
+fn entry_of(alloc: Global, line: &Joined) -> Result<Entry, NoMemory>
+    ensures { IfOk result (λ entry. entry ≡ entry_of line.now) }
+{
+    let text = line.text.as_str();
+    let length = key_length(text);
+    Ok(Entry {
+        line: line.number,
+        key: Text::new(alloc, &text[..length])?,
+        value: Text::new(alloc, value_in(&text[length..]))?,
+    })
+}
+
+// Whether a line is blank or a comment.
+fn is_remark(text: &str) -> bool
+    ensures { result ≡ is_remark text.now }
+{
+    match text.as_bytes().first() {
+        None | Some(b'#' | b'!') => true,
+        Some(_) => false,
+    }
+}
+
+// The line without the backslash at its end, if it has one.
+fn line_front(text: &str) -> Option<&str>
+    ensures { option_map (λ front. front.now) result ≡ line_front text.now }
+{
+    text.strip_suffix("\\")
+}
+
+// The line with what stands before it, if it is joined to that.
+fn joined_line(
+    alloc: Global,
+    before: Option<Joined>,
+    number: u64,
+    text: &str,
+) -> Result<Joined, NoMemory>
+    ensures { IfOk result (λ line. line ≡ joined_line before number text.now) }
+{
+    match before {
+        None => Ok(Joined {
+            number,
+            text: String::from_str(alloc, text)?,
+        }),
+        Some(mut line) => {
+            line.text.push_str(text)?;
+            Ok(line)
+        }
+    }
+}
+
+// What the line of this number is, after a line that goes on or none. It has no blanks in front.
+fn part_of(
+    alloc: Global,
+    before: Option<Joined>,
+    number: u64,
+    text: &str,
+) -> Result<Part, NoMemory>
+    ensures { IfOk result (λ part. part ≡ part_of before number text.now) }
+{
+    if before.is_none() && is_remark(text) {
+        return Ok(Part::Remark);
+    }
+    match line_front(text) {
+        Some(front) => Ok(Part::GoesOn(joined_line(alloc, before, number, front)?)),
+        None => Ok(Part::Ends(joined_line(alloc, before, number, text)?)),
+    }
+}
+
+fn lines_of(alloc: Global, text: &str) -> Result<Vec<&str>, AllocError>
+    ensures { IfOk result (λ found. map (λ line. line.now) found.items ≡ lines text.now) }
+{
+    text.lines().collect(alloc)
+}
+
+/// The entries of a file, in their order. Fails only if an allocation is refused.
+pub fn entries_of(alloc: Global, text: &str) -> Result<Vec<Entry>, NoMemory>
+    ensures { IfOk result (λ entries. entries.items ≡ entries_of text.now) }
+{
+    let lines = lines_of(alloc, text)?;
+    let mut entries = Vec::new(alloc);
+    let mut before = None;
+    let mut number = 0u64;
+    for line in lines.as_slice() {
+        number += 1;
+        before = match part_of(alloc, before, number, line.trim_start())? {
+            Part::Remark => None,
+            Part::GoesOn(line) => Some(line),
+            Part::Ends(line) => {
+                entries.push(entry_of(alloc, &line)?)?;
+                None
+            }
+        };
+    }
+    if let Some(line) = before {
+        entries.push(entry_of(alloc, &line)?)?;
+    }
+    Ok(entries)
+}

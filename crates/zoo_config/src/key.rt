@@ -1,0 +1,190 @@
+//! What a key means to an observer.
+
+ghost use Rattle.std.specs.Prelude.{◌≡◌, nat_eq};
+ghost use Rattle.std.specs.List.{starts_with};
+ghost use Rattle.zoo_config.specs.Keys.{is_off, has_escape, asks_for_tls, is_sasl_switch, asks_for_sasl, reason_of, is_taken, is_unheeded, is_of_servers, is_of_files, is_switched_off, meaning_of, meaning_with};
+
+use crate::error::Reason;
+use std::fmt;
+
+/// What a key means here.
+#[derive(Clone, Copy, Debug, PartialEq, Eq)]
+pub enum Meaning {
+    Taken,
+    /// It means nothing to an observer that keeps no files.
+    Idle,
+    /// It means something to an observer of ZooKeeper, and nothing here.
+    Unheeded,
+    Unknown,
+    Refused(Reason),
+}
+
+impl fmt::Display for Meaning {
+    fn fmt<W: fmt::Write>(&self, f: &mut fmt::Formatter<W>) -> fmt::Result {
+        match self {
+            Meaning::Taken => f.write_str("is taken"),
+            Meaning::Idle => f.write_str("means nothing here"),
+            Meaning::Unheeded => f.write_str("isn't heeded"),
+            Meaning::Unknown => f.write_str("is unknown"),
+            Meaning::Refused(reason) => write!(f, "is refused: {reason}"),
+        }
+    }
+}
+
+fn begins(text: &str, front: &str) -> bool
+    ensures { result ≡ starts_with nat_eq text.now front.now }
+{
+    text.as_bytes().starts_with(front.as_bytes())
+}
+
+fn is_off(value: &str) -> bool
+    ensures { result ≡ is_off value.now }
+{
+    value == "false"
+}
+
+fn has_escape(text: &str) -> bool
+    ensures { result ≡ has_escape text.now }
+{
+    text.as_bytes()
+        .iter()
+        .position(|byte| *byte == b'\\')
+        .is_some()
+}
+
+fn asks_for_tls(key: &str, value: &str) -> bool
+    ensures { result ≡ asks_for_tls key.now value.now }
+{
+    key == "secureClientPort"
+        || key == "secureClientPortAddress"
+        || begins(key, "ssl.")
+        || (key == "sslQuorum" && !is_off(value))
+}
+
+fn is_sasl_switch(key: &str) -> bool
+    ensures { result ≡ is_sasl_switch key.now }
+{
+    key == "quorum.auth.enableSasl"
+        || key == "quorum.auth.learnerRequireSasl"
+        || key == "quorum.auth.serverRequireSasl"
+        || key == "sessionRequireClientSASLAuth"
+}
+
+fn asks_for_sasl(key: &str, value: &str) -> bool
+    ensures { result ≡ asks_for_sasl key.now value.now }
+{
+    begins(key, "authProvider")
+        || begins(key, "enforce.auth.")
+        || begins(key, "kerberos.")
+        || key == "requireClientAuthScheme"
+        || (is_sasl_switch(key) && !is_off(value))
+}
+
+/// Why a key with this value is refused: it asks for security that isn't here, for sessions or a leader's packets that
+/// aren't, or can't be read. Returns None if it isn't refused.
+pub(crate) fn reason_of(key: &str, value: &str) -> Option<Reason>
+    ensures { result ≡ reason_of key.now value.now }
+{
+    if has_escape(key) || has_escape(value) {
+        return Some(Reason::Escape);
+    }
+    if asks_for_tls(key, value) {
+        return Some(Reason::Tls);
+    }
+    if asks_for_sasl(key, value) {
+        return Some(Reason::Sasl);
+    }
+    if key == "localSessionsEnabled" && !is_off(value) {
+        return Some(Reason::LocalSessions);
+    }
+    if key == "digest.enabled" && !is_off(value) {
+        return Some(Reason::Digests);
+    }
+    None
+}
+
+fn is_taken(key: &str) -> bool
+    ensures { result ≡ is_taken key.now }
+{
+    begins(key, "server.")
+        || key == "dynamicConfigFile"
+        || key == "dataDir"
+        || key == "clientPort"
+        || key == "clientPortAddress"
+        || key == "tickTime"
+        || key == "initLimit"
+        || key == "syncLimit"
+        || key == "maxClientCnxns"
+        || key == "maxCnxns"
+        || key == "4lw.commands.whitelist"
+}
+
+fn is_unheeded(key: &str, value: &str) -> bool
+    ensures { result ≡ is_unheeded key.now value.now }
+{
+    key == "minSessionTimeout"
+        || key == "maxSessionTimeout"
+        || key == "observerMasterPort"
+        || begins(key, "metricsProvider.")
+        || key == "skipACL"
+        || key == "globalOutstandingLimit"
+        || (key == "reconfigEnabled" && !is_off(value))
+}
+
+fn is_of_servers(key: &str) -> bool
+    ensures { result ≡ is_of_servers key.now }
+{
+    key == "peerType"
+        || key == "standaloneEnabled"
+        || key == "electionAlg"
+        || key == "quorumListenOnAllIPs"
+        || key == "reconfigEnabled"
+        || key == "leaderServes"
+        || begins(key, "group.")
+        || begins(key, "weight.")
+        || begins(key, "observer.")
+        || key == "version"
+}
+
+fn is_of_files(key: &str) -> bool
+    ensures { result ≡ is_of_files key.now }
+{
+    key == "syncEnabled"
+        || key == "dataLogDir"
+        || key == "snapCount"
+        || key == "preAllocSize"
+        || key == "commitLogCount"
+        || key == "snapSizeLimitInKb"
+        || begins(key, "autopurge.")
+        || begins(key, "snapshot.")
+        || begins(key, "admin.")
+}
+
+fn is_switched_off(key: &str) -> bool
+    ensures { result ≡ is_switched_off key.now }
+{
+    key == "sslQuorum"
+        || begins(key, "quorum.auth.")
+        || key == "sessionRequireClientSASLAuth"
+        || key == "localSessionsEnabled"
+        || key == "digest.enabled"
+}
+
+/// What a key means here if it has this value.
+pub fn meaning_of(key: &str, value: &str) -> Meaning
+    ensures { result ≡ meaning_with (reason_of key.now value.now) (meaning_of key.now value.now) }
+{
+    if let Some(reason) = reason_of(key, value) {
+        return Meaning::Refused(reason);
+    }
+    if is_taken(key) {
+        return Meaning::Taken;
+    }
+    if is_unheeded(key, value) {
+        return Meaning::Unheeded;
+    }
+    if is_of_servers(key) || is_of_files(key) || is_switched_off(key) {
+        return Meaning::Idle;
+    }
+    Meaning::Unknown
+}

@@ -1,0 +1,181 @@
+//! Whole files, as the options that say the same.
+
+use serve_options::{Name, filed_by, given_by};
+use std::alloc::Global;
+use std::test::Fail;
+use zoo_config::{BadLine, ConfigError, Reason, parse};
+
+// What is wrong with a file for the server of this id, or the options that it sets.
+fn options_of(alloc: Global, text: &str, id: &str) -> Result<Result<String, BadLine>, Fail> {
+    let filed = match parse(alloc, text) {
+        Ok(entries) => filed_by(alloc, entries.as_slice(), entries.as_slice(), Some(id)),
+        Err(error) => Err(error),
+    };
+    let filed = match filed {
+        Ok(filed) => filed,
+        Err(ConfigError::Bad(bad)) => return Ok(Err(bad)),
+        Err(ConfigError::NoMemory) => return Err(Fail::from("memory")),
+    };
+    let mut out = String::new(alloc);
+    for option in filed.as_slice() {
+        let name = option.name;
+        let value = option.value.as_str();
+        write!(out, "{name} {value};")?;
+    }
+    Ok(Ok(out))
+}
+
+// Whether the file sets these options.
+fn sets(alloc: Global, text: &str, wanted: &str) -> Result<bool, Fail> {
+    match options_of(alloc, text, "101")? {
+        Ok(found) => Ok(found.as_str() == wanted),
+        Err(_) => Ok(false),
+    }
+}
+
+// The sample of ZooKeeper 3.8.
+const SAMPLE: &str = "# The number of milliseconds of each tick
+tickTime=2000
+# The number of ticks that the initial
+# synchronization phase can take
+initLimit=10
+# The number of ticks that can pass between
+# sending a request and getting an acknowledgement
+syncLimit=5
+# the directory where the snapshot is stored.
+# do not use /tmp for storage, /tmp here is just
+# example sakes.
+dataDir=/tmp/zookeeper
+# the port at which the clients will connect
+clientPort=2181
+# the maximum number of client connections.
+# increase this if you need to handle more clients
+#maxClientCnxns=60
+#autopurge.snapRetainCount=3
+#metricsProvider.httpPort=7000
+";
+
+// Debian's, with servers, and with one of 3.4.
+const DEBIAN: &str = "tickTime=2000
+initLimit=10
+syncLimit=5
+dataDir=/var/lib/zookeeper
+# Place the dataLogDir to a separate physical disc for better performance
+# dataLogDir=/disk2/zookeeper
+clientPort=2181
+server.1=zookeeper1:2888:3888
+server.2=zookeeper2:2888:3888
+server.3=zookeeper3:2888:3888
+server.101=here:2888:3888:observer
+#preAllocSize=65536
+leaderServes=yes
+";
+
+// What an operator of Kubernetes writes, with the servers of its dynamic file.
+const OPERATED: &str = "4lw.commands.whitelist=cons, envi, conf, crst, srvr, stat, mntr, ruok
+dataDir=/data
+standaloneEnabled=false
+reconfigEnabled=true
+skipACL=yes
+metricsProvider.className=org.apache.zookeeper.metrics.prometheus.PrometheusMetricsProvider
+metricsProvider.httpPort=7000
+metricsProvider.exportJvmInfo=true
+initLimit=10
+syncLimit=2
+tickTime=2000
+globalOutstandingLimit=1000
+preAllocSize=65536
+snapCount=10000
+commitLogCount=500
+snapSizeLimitInKb=4194304
+maxCnxns=500
+maxClientCnxns=0
+minSessionTimeout=4000
+maxSessionTimeout=40000
+autopurge.snapRetainCount=3
+autopurge.purgeInterval=1
+quorumListenOnAllIPs=false
+admin.serverPort=8080
+server.1=zk-0.zk.svc:2888:3888:participant;0.0.0.0:2181
+server.2=zk-1.zk.svc:2888:3888:participant;0.0.0.0:2181
+server.100=zk-9.zk.svc:2888:3888:observer;0.0.0.0:2181
+server.101=zk-2.zk.svc:2888:3888:observer;2182
+version=100000000
+";
+
+#[test]
+fn whole_files_are_read(rt: HostRuntime) -> Result<(), Fail> {
+    let alloc = rt.alloc();
+    assert!(rt; sets(
+        alloc,
+        SAMPLE,
+        "--client 0.0.0.0:2181;--id 101;--tick 2000;--init-limit 10;--sync-limit 5;--max-per-address 60;--words srvr;",
+    )?);
+    assert!(rt; sets(
+        alloc,
+        DEBIAN,
+        "--servers zookeeper1:2888,zookeeper2:2888,zookeeper3:2888;--client 0.0.0.0:2181;--id 101;--tick 2000;--init-limit 10;--sync-limit 5;--max-per-address 60;--words srvr;",
+    )?);
+    assert!(rt; sets(
+        alloc,
+        OPERATED,
+        "--servers zk-0.zk.svc:2888,zk-1.zk.svc:2888;--client 0.0.0.0:2182;--id 101;--tick 2000;--init-limit 10;--sync-limit 2;--max-clients 500;--words srvr,mntr,ruok;",
+    )?);
+    Ok(())
+}
+
+#[test]
+fn defaults_are_those_of_zookeeper(rt: HostRuntime) -> Result<(), Fail> {
+    let alloc = rt.alloc();
+    assert!(rt; sets(
+        alloc,
+        "",
+        "--id 101;--tick 3000;--max-per-address 60;--words srvr;",
+    )?);
+    assert!(rt; sets(
+        alloc,
+        "4lw.commands.whitelist=*\nclientPort=1\nclientPortAddress=::1\nserver.1=[fe80::1]:2888:3888|b:2889:3889\nserver.1=a:2888:3888|b:2889:3889\n",
+        "--servers a:2888,b:2889;--client [::1]:1;--id 101;--tick 3000;--max-per-address 60;--words all;",
+    )?);
+    Ok(())
+}
+
+#[test]
+fn wrong_servers_are_refused(rt: HostRuntime) -> Result<(), Fail> {
+    let alloc = rt.alloc();
+    for (line, reason) in [
+        ("server.x=a:1:2", Reason::Server),
+        ("server.0=a:1:2", Reason::Server),
+        ("server.256=a:1:2", Reason::Server),
+        ("server.1=a", Reason::Server),
+        ("server.1=a:1", Reason::Server),
+        ("server.101=a:1:2", Reason::Votes),
+        ("server.101=a:1:2:participant;2181", Reason::Votes),
+    ] {
+        let text = format!(in alloc; "tickTime=2000\n{line}\n")?;
+        let refused = match options_of(alloc, text.as_str(), "101")? {
+            Err(bad) => bad == BadLine { line: 2, reason },
+            Ok(_) => false,
+        };
+        assert!(rt; refused, "{line}");
+    }
+    Ok(())
+}
+
+#[test]
+fn servers_are_left_out_beside_a_leader(rt: HostRuntime) -> Result<(), Fail> {
+    let alloc = rt.alloc();
+    let entries = match parse(alloc, DEBIAN) {
+        Ok(entries) => entries,
+        Err(_) => return Err(Fail::from("refused")),
+    };
+    let entries = entries.as_slice();
+    let Ok(filed) = filed_by(alloc, entries, entries, Some("101")) else {
+        return Err(Fail::from("refused"));
+    };
+    let beside = given_by(alloc, filed.as_slice(), true)?;
+    let alone = given_by(alloc, filed.as_slice(), false)?;
+    assert!(rt; beside.iter().all(|option| option.name != Name::Servers));
+    assert!(rt; alone.iter().any(|option| option.name == Name::Servers));
+    Ok(())
+}

@@ -1,0 +1,101 @@
+//! The form of a file, and lines that are refused.
+
+use std::alloc::Global;
+use std::test::Fail;
+use zoo_config::{BadLine, ConfigError, Meaning, Reason, entries_of, meaning_of, parse, value_in};
+
+// The entries of a text, each as LINE:KEY=VALUE and a semicolon.
+fn shown(alloc: Global, text: &str) -> Result<String, Fail> {
+    let mut out = String::new(alloc);
+    let entries = entries_of(alloc, text)?;
+    for entry in entries.as_slice() {
+        let line = entry.line;
+        let key = entry.key.as_str();
+        let value = entry.value.as_str();
+        write!(out, "{line}:{key}={value};")?;
+    }
+    Ok(out)
+}
+
+#[test]
+fn lines_are_read_as_properties(rt: HostRuntime) -> Result<(), Fail> {
+    let alloc = rt.alloc();
+    for (text, wanted) in [
+        ("", ""),
+        ("a=b", "1:a=b;"),
+        ("a:b\nc d\n", "1:a=b;2:c=d;"),
+        ("  a \t=  b c \t\n", "1:a=b c;"),
+        ("a = b = c", "1:a=b = c;"),
+        ("a==b", "1:a==b;"),
+        ("# a=b\n ! c=d\n\n \t\ne=f\r\n", "5:e=f;"),
+        ("a=b\\\n   c\nd=e", "1:a=bc;3:d=e;"),
+        ("a=b\\\n# c\n", "1:a=b# c;"),
+        ("# a\\\nb=c", "2:b=c;"),
+        ("a=b\\", "1:a=b;"),
+        ("a=\nb\n", "1:a=;2:b=;"),
+        ("a=1\na=2\n", "1:a=1;2:a=2;"),
+    ] {
+        let found = shown(alloc, text)?;
+        assert!(rt; found.as_str() == wanted, "{text}: {found}");
+    }
+    Ok(())
+}
+
+#[test]
+fn a_later_line_wins(rt: HostRuntime) -> Result<(), Fail> {
+    let alloc = rt.alloc();
+    let entries = entries_of(alloc, "tickTime=1\nsyncLimit=5\ntickTime=2\n")?;
+    let entries = entries.as_slice();
+    assert!(rt; value_in(entries, "tickTime") == Some("2"));
+    assert!(rt; value_in(entries, "syncLimit") == Some("5"));
+    assert!(rt; value_in(entries, "initLimit").is_none());
+    Ok(())
+}
+
+#[test]
+fn what_would_drop_security_is_refused(rt: HostRuntime) -> Result<(), Fail> {
+    let alloc = rt.alloc();
+    for (line, reason) in [
+        ("sslQuorum=true", Reason::Tls),
+        ("sslQuorum = TRUE", Reason::Tls),
+        ("secureClientPort=2281", Reason::Tls),
+        ("ssl.keyStore.location=/a", Reason::Tls),
+        ("quorum.auth.enableSasl=true", Reason::Sasl),
+        ("authProvider.1=org.example.Provider", Reason::Sasl),
+        ("localSessionsEnabled=true", Reason::LocalSessions),
+        ("digest.enabled=true", Reason::Digests),
+        ("dataDir=C\\:\\\\zookeeper", Reason::Escape),
+        ("ssl\\u0051uorum=true", Reason::Escape),
+    ] {
+        let text = format!(in alloc; "tickTime=2000\n\n{line}\nsslQuorum=true\n")?;
+        let refused = match parse(alloc, text.as_str()) {
+            Err(ConfigError::Bad(bad)) => bad == BadLine { line: 3, reason },
+            Err(ConfigError::NoMemory) | Ok(_) => false,
+        };
+        assert!(rt; refused, "{line}");
+    }
+    Ok(())
+}
+
+#[test]
+fn keys_mean_what_they_mean_to_an_observer(rt: HostRuntime) -> Result<(), Fail> {
+    for (key, value, meaning) in [
+        ("server.1", "zk1:2888:3888", Meaning::Taken),
+        ("maxCnxns", "0", Meaning::Taken),
+        ("4lw.commands.whitelist", "*", Meaning::Taken),
+        ("sslQuorum", "false", Meaning::Idle),
+        ("digest.enabled", "false", Meaning::Idle),
+        ("quorum.auth.enableSasl", "false", Meaning::Idle),
+        ("reconfigEnabled", "false", Meaning::Idle),
+        ("reconfigEnabled", "true", Meaning::Unheeded),
+        ("autopurge.purgeInterval", "1", Meaning::Idle),
+        ("observerMasterPort", "2191", Meaning::Unheeded),
+        ("metricsProvider.httpPort", "7000", Meaning::Unheeded),
+        ("minSessionTimeout", "4000", Meaning::Unheeded),
+        ("tickTimes", "2000", Meaning::Unknown),
+        ("zookeeper.sslQuorum", "true", Meaning::Unknown),
+    ] {
+        assert!(rt; meaning_of(key, value) == meaning, "{key}={value}");
+    }
+    Ok(())
+}

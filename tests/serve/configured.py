@@ -1,0 +1,131 @@
+"""Configuration files: a server that is started by one, what `--check-config` tells, and what is wrong with one."""
+import contextlib
+import os
+import tempfile
+
+import commands
+import several
+from several import Following, Seat
+
+FILE = """\
+# An ensemble of three voters, and this server.
+tickTime=2000
+initLimit=10
+syncLimit = 5
+dataDir={folder}
+clientPort=0
+clientPortAddress=127.0.0.1
+maxClientCnxns: 7
+4lw.commands.whitelist=srvr, isro, \\
+    stat
+{others}
+server.{id}=127.0.0.1:1:1:observer
+"""
+
+
+@contextlib.contextmanager
+def file_of(text, number=several.ID):
+    """Yields the name of a file with this text, and beside it the folder of the data."""
+    with tempfile.TemporaryDirectory() as folder:
+        if number is not None:
+            with open(os.path.join(folder, "myid"), "w", encoding="ascii") as it:
+                it.write(f"{number}\n")
+        name = os.path.join(folder, "zoo.cfg")
+        with open(name, "w", encoding="utf-8") as it:
+            it.write(text.replace("{folder}", folder))
+        yield name
+
+
+def text_of(*others):
+    return FILE.replace("{others}", "\n".join(others)).replace("{id}", str(several.ID))
+
+
+class ByFile(Following):
+    """The program, which is started by a file."""
+
+    def __init__(self, name, seats, *words):
+        self.seats, self.errors = seats, tempfile.TemporaryFile()
+        self.start(["--config", name, *words], self.errors, None)
+        self.takes_clients()
+
+
+def test_a_file_starts_it():
+    seats = [Seat(is_open=False), Seat()]
+    others = [f"server.{at + 7}=127.0.0.1:{it.port}:1:participant" for at, it in enumerate(seats)]
+    with file_of(text_of(*others, "observerMasterPort=2191", "noSuchKey=1")) as name:
+        with ByFile(name, seats) as server:
+            seats[1].accept().leads(1)
+            assert server.word(b"isro") == b"rw" and server.word(b"wchs") == b""
+            server.client().close()
+            told = server.said()
+    for part in ("zoo.cfg:13: observerMasterPort isn't heeded", "zoo.cfg:14: noSuchKey isn't heeded"):
+        assert part in told, (part, told)
+
+
+def test_an_option_wins():
+    with file_of(text_of("server.7=zk1:2888:3888")) as name:
+        status, out, told = commands.run("--check-config", name, "--tick", "500", "--words", "none")
+    assert (status, told) == (0, ""), (status, told)
+    assert " --tick 500 " in out and out.rstrip().endswith(" --words none"), out
+
+
+def test_what_a_file_would_do():
+    lines = ["server.7=zk1:2888:3888", "server.8=zk2:2888:3888|zk3:2889:3889", "snapCount=1", "skipACL=yes"]
+    with file_of(text_of(*lines)) as name:
+        status, out, told = commands.run("--check-config", name)
+        assert (status, told) == (0, ""), (status, told)
+        assert out.splitlines() == [
+            f"{name}:13: snapCount means nothing here",
+            f"{name}:14: skipACL isn't heeded",
+            "observer serve --servers zk1:2888,zk2:2888,zk3:2889 --client 127.0.0.1:0 --id 1 --workers 4 --batch 256"
+            " --max-per-address 7 --tick 2000 --init-limit 10 --sync-limit 5 --checkpoint 64 --max-under-way 64"
+            " --max-watches 500000 --unconnected 10 --words isro,srvr",
+        ], out
+    with file_of(text_of(*lines, "tickTimes=1")) as name:
+        status, out, told = commands.run("--check-config", name)
+        assert status == 2 and f"{name}:15: tickTimes is unknown" in out.splitlines(), (status, out)
+        assert told.splitlines() == [f"observer: {name}:15: unknown key", "usage"], told
+
+
+def test_a_dynamic_file():
+    with file_of("server.7=zk1:2888:3888:participant;2181\nserver.1=here:2888:3888:observer;2182\n") as other:
+        text = "dataDir={folder}\ntickTime=2000\ndynamicConfigFile=" + other + "\n"
+        with file_of(text) as name:
+            status, out, told = commands.run("--check-config", name)
+    assert (status, told) == (0, ""), (status, told)
+    assert "--servers zk1:2888 --client 0.0.0.0:2182 --id 1 " in out, out
+
+
+# What is told of a file with this line as its eleventh.
+BAD = [
+    ("sslQuorum=true", "11: there is no TLS here"),
+    ("secureClientPort=2281", "11: there is no TLS here"),
+    ("quorum.auth.enableSasl=true", "11: there are no SASL"),
+    ("localSessionsEnabled=true", "11: there are no local sessions"),
+    ("digest.enabled=true", "11: the digests of transactions"),
+    ("dataLogDir=C:\\\\zookeeper", "11: escapes aren't read"),
+    ("server.9=zk1", "11: server.N="),
+    ("tickTime=0", " --tick 0: 1 to 3600000"),
+    ("clientPort=x", " --client 127.0.0.1:x: PORT or HOST:PORT"),
+]
+
+
+def test_what_is_wrong_with_a_file():
+    for line, part in BAD:
+        with file_of(text_of("server.7=zk1:2888:3888").replace("server.7", line + "\nserver.7")) as name:
+            for option in ("--config", "--check-config"):
+                status, out, told = commands.run(option, name)
+                assert (status, out) == (2, ""), (line, status, out)
+                lines = told.splitlines()
+                assert lines[0].startswith(f"observer: {name}:{part}") and lines[1:] == ["usage"], (line, told)
+    with file_of(text_of("server.7=zk1:2888:3888").replace(":observer", "")) as name:
+        status, _, told = commands.run("--check-config", name)
+        assert status == 2 and "12: this server votes" in told, (status, told)
+    with file_of("clientPort=0\n") as name:
+        status, _, told = commands.run("--config", name, "--id", "9")
+        assert status == 2 and "--leader or --servers is missing" in told, (status, told)
+        status, _, told = commands.run("--config", name, "--check-config", name)
+        assert status == 2 and "--config and --check-config are given" in told, (status, told)
+    with file_of(text_of("server.7=zk1:2888:3888"), number=None) as name:
+        commands.cannot_open("myid", "--config", name)
+    commands.cannot_open("/no/such/zoo.cfg", "--config", "/no/such/zoo.cfg")
