@@ -543,7 +543,28 @@ def restored_below_a_checkpoint(bench):
     say(f"{same_trees(bench)} nodes are equal after a SNAP")
 
 
-# ---- ids, memory
+# ---- ids, files, memory
+
+
+def one_file(bench):
+    """Java's observer and ours start by the same file, one after the other: with one id, at one port, with one tree."""
+    bench.mended()
+    made(bench, "/one-file")
+    java, ours = bench.ensemble.java, Follower(bench.program, bench.folder, "by-file")
+    java.start()
+    until("Java's observer serves", java.serves, START_SECONDS)
+    java.stop()
+    ours.run("--config", java.folder / "zoo.cfg", "--log", "info")
+    try:
+        ours.waits_until_it_serves()
+        assert ours.client == java.client and f" --id {java.number} " in ours.logged(), ours.process.tail()
+        leader = bench.ensemble.leader()
+        ours.reaches(zxid_of(leader.client))
+        clients = client_of(leader.client), client_of(ours.client)
+        say(f"{compare(*clients)} nodes")
+        ended(*clients)
+    finally:
+        ours.stop()
 
 
 def one_id(bench):
@@ -599,4 +620,4 @@ def memory_is_flat(bench):
 
 CHECKS = [leader_killed, kills_under_writes, leader_resigns, leader_frozen, short_session, java_frozen]
 CHECKS += [started_while_frozen, observer_frozen, all_down, one_id, locks, memory_is_flat, restored]
-CHECKS += [restored_below_a_checkpoint]
+CHECKS += [restored_below_a_checkpoint, one_file]

@@ -1,13 +1,11 @@
 //! What a configuration file sets, as options that say the same.
 
-ghost use Rattle.std.specs.Prelude.{◌≡◌, length, IfOk};
-
 use crate::given::Given;
 use crate::row::Name;
 use crate::words::is_word;
 use replay_script::number_up_to;
 use std::alloc::{AllocError, Global};
-use zoo_config::{BadLine, ConfigError, Entry, Reason, Server, server_in, value_in, voters_beside};
+use zoo_config::{BadLine, ConfigError, Entry, Reason, Server, server_in, setting_in, value_in, voters_beside};
 
 /// An option that a file sets, and its value as it would be spelled.
 #[derive(Debug, Drop)]
@@ -16,17 +14,14 @@ pub struct Filed {
     pub value: String,
 }
 
-// The options that are set by one key each, with the value that ZooKeeper takes where the key is missing.
-const KEYS: [(&str, Name, Option<&str>); 5] = [
-    ("tickTime", Name::Tick, Some("3000")),
-    ("initLimit", Name::InitLimit, None),
-    ("syncLimit", Name::SyncLimit, None),
-    ("maxClientCnxns", Name::MaxPerAddress, Some("60")),
-    ("maxCnxns", Name::MaxClients, Some("0")),
+// The options that are set by one key each.
+const KEYS: [(&str, Name); 5] = [
+    ("tickTime", Name::Tick),
+    ("initLimit", Name::InitLimit),
+    ("syncLimit", Name::SyncLimit),
+    ("maxClientCnxns", Name::MaxPerAddress),
+    ("maxCnxns", Name::MaxClients),
 ];
-
-// What ZooKeeper answers where no whitelist says more.
-const WHITELIST: &str = "srvr";
 
 const MOST_ID: u64 = 255;
 
@@ -37,9 +32,9 @@ fn put(filed: &mut Vec<Filed>, name: Name, value: String) -> Result<(), AllocErr
 
 // Sets the options of one key each. No bound is 0 in a file, and not given as an option.
 fn put_keys(alloc: Global, filed: &mut Vec<Filed>, entries: &[Entry]) -> Result<(), AllocError> {
-    for (key, name, default) in KEYS {
+    for (key, name) in KEYS {
         let is_bound = name == Name::MaxPerAddress || name == Name::MaxClients;
-        if let Some(value) = value_in(entries, key).or(default) {
+        if let Some(value) = setting_in(entries, key) {
             if !is_bound || value != "0" {
                 put(filed, name, String::from_str(alloc, value)?)?;
             }
@@ -183,8 +178,9 @@ pub fn filed_by(
         put(&mut filed, Name::Id, String::from_str(alloc, id)?)?;
     }
     put_keys(alloc, &mut filed, entries)?;
-    let list = value_in(entries, "4lw.commands.whitelist").unwrap_or(WHITELIST);
-    put(&mut filed, Name::Words, whitelisted(alloc, list)?)?;
+    if let Some(list) = setting_in(entries, "4lw.commands.whitelist") {
+        put(&mut filed, Name::Words, whitelisted(alloc, list)?)?;
+    }
     Ok(filed)
 }
 

@@ -1,7 +1,8 @@
 -- The form of a configuration file, which is that of Java's properties. An escape is read as its letters.
-use Rattle.std.specs.Prelude.{ℕ, ◌+◌, ◌-◌, ◌==◌, ◌||◌, List, [], ◌∷◌, ◌++◌, length, take, drop, Bool, true, false, Option, Some, None, nat_eq, if◌then◌else◌, codes}
+use Rattle.std.specs.Prelude.{ℕ, ◌+◌, ◌==◌, ◌||◌, List, [], ◌∷◌, ◌++◌, drop, Bool, true, false, Option, Some, None, if◌then◌else◌}
 use Rattle.std.specs.Char.{is_ascii_whitespace}
-use Rattle.std.specs.List.{before_first, ends_with}
+use Rattle.std.specs.List.{before_first, position_or_len}
+use Rattle.std.specs.Option.{option_map}
 use Rattle.std.specs.Str.{trim_start, trim}
 use Rattle.std.specs.Str.Lines.{lines}
 use Rattle.zoo_config.specs.Lines.{NumberedLine}
@@ -18,9 +19,12 @@ abbrev pub entry_key : List ℕ → List ℕ
 entry_key text = before_first ends_key text
 
 -- Behind the key: an equals sign or a colon may stand between blanks.
+abbrev pub begins_with_sign : List ℕ → Bool
+begins_with_sign [] = false
+begins_with_sign (byte ∷ text) = byte == 61 || byte == 58
+
 abbrev pub without_sign : List ℕ → List ℕ
-without_sign [] = []
-without_sign (byte ∷ text) = if byte == 61 || byte == 58 then text else byte ∷ text
+without_sign text = if begins_with_sign text then drop 1 text else text
 
 abbrev pub entry_value : List ℕ → List ℕ
 entry_value text = trim (without_sign (trim_start text))
@@ -29,7 +33,7 @@ abbrev pub entry_of : NumberedLine → Entry
 entry_of line = record {
   line = line.number;
   key = entry_key line.text;
-  value = entry_value (drop (length (entry_key line.text)) line.text);
+  value = entry_value (drop (position_or_len ends_key line.text) line.text);
 }
 
 -- ---- lines that are joined
@@ -41,7 +45,9 @@ is_remark (byte ∷ text) = byte == 35 || byte == 33
 
 -- A backslash at its end joins the next line to it.
 abbrev pub line_front : List ℕ → Option (List ℕ)
-line_front text = if ends_with nat_eq text (codes "\\") then Some (take (length text - 1) text) else None
+line_front [] = None
+line_front (byte ∷ []) = if byte == 92 then Some [] else None
+line_front (byte ∷ next ∷ text) = option_map (λ front. byte ∷ front) (line_front (next ∷ text))
 
 abbrev pub joined_line : Option NumberedLine → ℕ → List ℕ → NumberedLine
 joined_line None number text = record { number = number; text = text }
@@ -61,10 +67,10 @@ line_behind Remark = None
 line_behind (GoesOn line) = Some line
 line_behind (Ends line) = None
 
-abbrev pub entries_before : Part → List Entry → List Entry
-entries_before Remark entries = entries
-entries_before (GoesOn line) entries = entries
-entries_before (Ends line) entries = entry_of line ∷ entries
+abbrev pub ended_entries : Part → List Entry
+ended_entries Remark = []
+ended_entries (GoesOn line) = []
+ended_entries (Ends line) = entry_of line ∷ []
 
 abbrev pub last_entry : Option NumberedLine → List Entry
 last_entry None = []
@@ -75,7 +81,7 @@ abbrev pub entries_after : ℕ → Option NumberedLine → List (List ℕ) → L
 entries_after count before [] = last_entry before
 entries_after count before (line ∷ lines) =
     let part = part_of before (count + 1) (trim_start line) in
-    entries_before part (entries_after (count + 1) (line_behind part) lines)
+    ended_entries part ++ entries_after (count + 1) (line_behind part) lines
 
 abbrev pub entries_of : List ℕ → List Entry
 entries_of text = entries_after 0 None (lines text)

@@ -53,28 +53,31 @@ is_taken key =
     || bytes_eq key (codes "4lw.commands.whitelist")
 
 -- It has a meaning for an observer, but none here.
-abbrev pub is_unheeded : List ℕ → List ℕ → Bool
-is_unheeded key value =
-    bytes_eq key (codes "minSessionTimeout") || bytes_eq key (codes "maxSessionTimeout")
-    || bytes_eq key (codes "observerMasterPort") || starts_with nat_eq key (codes "metricsProvider.")
+abbrev pub is_unheeded : List ℕ → Bool
+is_unheeded key =
+    starts_with nat_eq key (codes "metricsProvider.") || bytes_eq key (codes "minSessionTimeout")
+    || bytes_eq key (codes "maxSessionTimeout") || bytes_eq key (codes "observerMasterPort")
     || bytes_eq key (codes "skipACL") || bytes_eq key (codes "globalOutstandingLimit")
-    || (bytes_eq key (codes "reconfigEnabled") && not (is_off value))
+
+abbrev pub asks_for_reconfiguration : List ℕ → List ℕ → Bool
+asks_for_reconfiguration key value = bytes_eq key (codes "reconfigEnabled") && not (is_off value)
 
 -- It speaks of voters, of elections, of files, or of what is off.
 abbrev pub is_of_servers : List ℕ → Bool
 is_of_servers key =
-    bytes_eq key (codes "peerType") || bytes_eq key (codes "standaloneEnabled")
-    || bytes_eq key (codes "electionAlg") || bytes_eq key (codes "quorumListenOnAllIPs")
-    || bytes_eq key (codes "reconfigEnabled") || bytes_eq key (codes "leaderServes")
-    || starts_with nat_eq key (codes "group.") || starts_with nat_eq key (codes "weight.")
-    || starts_with nat_eq key (codes "observer.") || bytes_eq key (codes "version")
+    starts_with nat_eq key (codes "group.") || starts_with nat_eq key (codes "weight.")
+    || starts_with nat_eq key (codes "observer.") || bytes_eq key (codes "peerType")
+    || bytes_eq key (codes "standaloneEnabled") || bytes_eq key (codes "electionAlg")
+    || bytes_eq key (codes "quorumListenOnAllIPs") || bytes_eq key (codes "reconfigEnabled")
+    || bytes_eq key (codes "leaderServes") || bytes_eq key (codes "version")
 
 abbrev pub is_of_files : List ℕ → Bool
 is_of_files key =
-    bytes_eq key (codes "syncEnabled") || bytes_eq key (codes "dataLogDir") || bytes_eq key (codes "snapCount")
+    starts_with nat_eq key (codes "autopurge.") || starts_with nat_eq key (codes "snapshot.")
+    || starts_with nat_eq key (codes "admin.") || bytes_eq key (codes "syncEnabled")
+    || bytes_eq key (codes "dataLogDir") || bytes_eq key (codes "snapCount")
     || bytes_eq key (codes "preAllocSize") || bytes_eq key (codes "commitLogCount")
-    || bytes_eq key (codes "snapSizeLimitInKb") || starts_with nat_eq key (codes "autopurge.")
-    || starts_with nat_eq key (codes "snapshot.") || starts_with nat_eq key (codes "admin.")
+    || bytes_eq key (codes "snapSizeLimitInKb")
 
 abbrev pub is_switched_off : List ℕ → Bool
 is_switched_off key =
@@ -85,7 +88,7 @@ is_switched_off key =
 abbrev pub meaning_of : List ℕ → List ℕ → Meaning
 meaning_of key value =
     if is_taken key then Taken
-    else (if is_unheeded key value then Unheeded
+    else (if is_unheeded key || asks_for_reconfiguration key value then Unheeded
     else (if is_of_servers key || is_of_files key || is_switched_off key then Idle
     else Unknown))
 
@@ -117,3 +120,19 @@ value_behind key found (entry ∷ entries) =
 
 abbrev pub value_in : List ℕ → List Entry → Option (List ℕ)
 value_in key entries = value_behind key None entries
+
+-- What ZooKeeper takes for a key that no line has.
+abbrev pub key_default : List ℕ → Option (List ℕ)
+key_default key =
+    if bytes_eq key (codes "tickTime") then Some (codes "3000")
+    else (if bytes_eq key (codes "maxClientCnxns") then Some (codes "60")
+    else (if bytes_eq key (codes "maxCnxns") then Some (codes "0")
+    else (if bytes_eq key (codes "4lw.commands.whitelist") then Some (codes "srvr")
+    else None)))
+
+abbrev pub or_default : List ℕ → Option (List ℕ) → Option (List ℕ)
+or_default key None = key_default key
+or_default key (Some value) = Some value
+
+abbrev pub setting_in : List ℕ → List Entry → Option (List ℕ)
+setting_in key entries = or_default key (value_in key entries)

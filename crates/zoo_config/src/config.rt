@@ -2,7 +2,7 @@
 
 ghost use Rattle.std.specs.Prelude.{◌≡◌, IfOk, None, Some, Err, option_map};
 ghost use Rattle.zoo_config.specs.Form.{entries_of};
-ghost use Rattle.zoo_config.specs.Keys.{first_refused, value_in};
+ghost use Rattle.zoo_config.specs.Keys.{first_refused, value_in, key_default, setting_in};
 
 use crate::error::{BadLine, ConfigError};
 use crate::form::{Entry, entries_of};
@@ -37,7 +37,7 @@ pub fn parse(alloc: Global, text: &str) -> Result<Vec<Entry>, ConfigError>
     }
 }
 
-/// The value of a key among entries: a later line wins.
+/// The value of a key among entries, without its default: a later line wins.
 pub fn value_in<'a>(entries: &'a [Entry], key: &str) -> Option<&'a str>
     ensures { option_map (λ value. value.now) result ≡ value_in key.now entries.now }
 {
@@ -48,4 +48,33 @@ pub fn value_in<'a>(entries: &'a [Entry], key: &str) -> Option<&'a str>
         }
     }
     found
+}
+
+// What ZooKeeper takes for a key that no line has.
+fn key_default(key: &str) -> Option<&'static str>
+    ensures { option_map (λ value. value.now) result ≡ key_default key.now }
+{
+    if key == "tickTime" {
+        return Some("3000");
+    }
+    if key == "maxClientCnxns" {
+        return Some("60");
+    }
+    if key == "maxCnxns" {
+        return Some("0");
+    }
+    if key == "4lw.commands.whitelist" {
+        return Some("srvr");
+    }
+    None
+}
+
+/// The value of a key among entries, or what ZooKeeper takes without it.
+pub fn setting_in<'a>(entries: &'a [Entry], key: &str) -> Option<&'a str>
+    ensures { option_map (λ value. value.now) result ≡ setting_in key.now entries.now }
+{
+    match value_in(entries, key) {
+        Some(value) => Some(value),
+        None => key_default(key),
+    }
 }

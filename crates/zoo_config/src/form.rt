@@ -1,8 +1,10 @@
 //! The form of a configuration file, which is that of Java's properties.
 
-ghost use Rattle.std.specs.Prelude.{◌≡◌, length, map, option_map, IfOk};
+ghost use Rattle.std.specs.Prelude.{◌≡◌, ◌++◌, None, map, option_map, position, IfOk, OnOk};
+ghost use Rattle.std.specs.List.{position_or_len};
+ghost use Rattle.std.specs.Str.{trim_start};
 ghost use Rattle.std.specs.Str.Lines.{lines};
-ghost use Rattle.zoo_config.specs.Form.{ends_key, entry_key, entry_value, is_remark, line_front, joined_line, part_of, entry_of, entries_of};
+ghost use Rattle.zoo_config.specs.Form.{ends_key, begins_with_sign, without_sign, entry_value, is_remark, line_front, joined_line, part_of, entry_of, line_behind, ended_entries, entries_after, entries_of};
 
 use crate::joined::Joined;
 use std::alloc::{AllocError, Global};
@@ -34,26 +36,43 @@ fn ends_key(byte: u8) -> bool
     byte == b'=' || byte == b':' || byte.is_ascii_whitespace()
 }
 
+fn key_end(text: &[u8]) -> Option<usize>
+    ensures { result ≡ position ends_key text.now }
+{
+    text.iter().position(|byte| ends_key(*byte))
+}
+
 // Where the key of a line ends.
 fn key_length(text: &str) -> usize
-    ensures { result ≡ length (entry_key text.now) }
+    ensures { result ≡ position_or_len ends_key text.now }
 {
-    let bytes = text.as_bytes();
-    match bytes.iter().position(|byte| ends_key(*byte)) {
+    match key_end(text.as_bytes()) {
         Some(place) => place,
-        None => bytes.len(),
+        None => text.len(),
     }
+}
+
+fn begins_with_sign(text: &str) -> bool
+    ensures { result ≡ begins_with_sign text.now }
+{
+    matches!(text.as_bytes().first(), Some(b'=' | b':'))
+}
+
+// The text without a sign in front.
+fn without_sign(text: &str) -> &str
+    ensures { result.now ≡ without_sign text.now }
+{
+    if begins_with_sign(text) {
+        return &text[1..];
+    }
+    text
 }
 
 // The value after a key: a sign between them, and the blanks around it and at the end are dropped.
 fn value_in(text: &str) -> &str
     ensures { result.now ≡ entry_value text.now }
 {
-    let text = text.trim_start();
-    match text.as_bytes().first() {
-        Some(b'=' | b':') => text[1..].trim(),
-        _ => text.trim(),
-    }
+    without_sign(text.trim_start()).trim()
 }
 
 fn entry_of(alloc: Global, line: &Joined) -> Result<Entry, NoMemory>
@@ -82,7 +101,7 @@ fn is_remark(text: &str) -> bool
 fn line_front(text: &str) -> Option<&str>
     ensures { option_map (λ front. front.now) result ≡ line_front text.now }
 {
-    text.strip_suffix("\\")
+    text.strip_suffix('\\')
 }
 
 // The line with what stands before it, if it is joined to that.
@@ -130,27 +149,48 @@ fn lines_of(alloc: Global, text: &str) -> Result<Vec<&str>, AllocError>
     text.lines().collect(alloc)
 }
 
-/// The entries of a file, in their order. Fails only if an allocation is refused.
-pub fn entries_of(alloc: Global, text: &str) -> Result<Vec<Entry>, NoMemory>
-    ensures { IfOk result (λ entries. entries.items ≡ entries_of text.now) }
+// Takes the line of this number: an entry may end with it. Returns what goes on.
+fn take_line(
+    alloc: Global,
+    entries: &mut Vec<Entry>,
+    before: Option<Joined>,
+    number: u64,
+    line: &str,
+) -> Result<Option<Joined>, NoMemory>
+    ensures after { IfOk result (λ after. after ≡ line_behind (part_of before number (trim_start line.now))) }
+    ensures entries { OnOk result (entries.new.items ≡ entries.old.items ++ ended_entries (part_of before number (trim_start line.now))) }
 {
-    let lines = lines_of(alloc, text)?;
+    match part_of(alloc, before, number, line.trim_start())? {
+        Part::Remark => Ok(None),
+        Part::GoesOn(line) => Ok(Some(line)),
+        Part::Ends(line) => {
+            entries.push(entry_of(alloc, &line)?)?;
+            Ok(None)
+        }
+    }
+}
+
+// The entries of lines.
+fn entries_in(alloc: Global, lines: &[&str]) -> Result<Vec<Entry>, NoMemory>
+    ensures { IfOk result (λ entries. entries.items ≡ entries_after 0 None (map (λ line. line.now) lines.now)) }
+{
     let mut entries = Vec::new(alloc);
     let mut before = None;
     let mut number = 0u64;
-    for line in lines.as_slice() {
+    for line in lines {
         number += 1;
-        before = match part_of(alloc, before, number, line.trim_start())? {
-            Part::Remark => None,
-            Part::GoesOn(line) => Some(line),
-            Part::Ends(line) => {
-                entries.push(entry_of(alloc, &line)?)?;
-                None
-            }
-        };
+        before = take_line(alloc, &mut entries, before, number, line)?;
     }
     if let Some(line) = before {
         entries.push(entry_of(alloc, &line)?)?;
     }
     Ok(entries)
+}
+
+/// The entries of a file, in their order. Fails only if an allocation is refused.
+pub fn entries_of(alloc: Global, text: &str) -> Result<Vec<Entry>, NoMemory>
+    ensures { IfOk result (λ entries. entries.items ≡ entries_of text.now) }
+{
+    let lines = lines_of(alloc, text)?;
+    entries_in(alloc, lines.as_slice())
 }

@@ -1,8 +1,8 @@
 //! What a key means to an observer.
 
-ghost use Rattle.std.specs.Prelude.{◌≡◌, nat_eq};
+ghost use Rattle.std.specs.Prelude.{◌≡◌, ◌==◌, nat_eq, position};
 ghost use Rattle.std.specs.List.{starts_with};
-ghost use Rattle.zoo_config.specs.Keys.{is_off, has_escape, asks_for_tls, is_sasl_switch, asks_for_sasl, reason_of, is_taken, is_unheeded, is_of_servers, is_of_files, is_switched_off, meaning_of, meaning_with};
+ghost use Rattle.zoo_config.specs.Keys.{is_off, has_escape, asks_for_tls, is_sasl_switch, asks_for_sasl, reason_of, is_taken, is_unheeded, asks_for_reconfiguration, is_of_servers, is_of_files, is_switched_off, meaning_of, meaning_with};
 
 use crate::error::Reason;
 use std::fmt;
@@ -43,13 +43,16 @@ fn is_off(value: &str) -> bool
     value == "false"
 }
 
+fn escape_place(text: &[u8]) -> Option<usize>
+    ensures { result ≡ position (λ byte. byte == 92) text.now }
+{
+    text.iter().position(|byte| *byte == b'\\')
+}
+
 fn has_escape(text: &str) -> bool
     ensures { result ≡ has_escape text.now }
 {
-    text.as_bytes()
-        .iter()
-        .position(|byte| *byte == b'\\')
-        .is_some()
+    escape_place(text.as_bytes()).is_some()
 }
 
 fn asks_for_tls(key: &str, value: &str) -> bool
@@ -119,45 +122,50 @@ fn is_taken(key: &str) -> bool
         || key == "4lw.commands.whitelist"
 }
 
-fn is_unheeded(key: &str, value: &str) -> bool
-    ensures { result ≡ is_unheeded key.now value.now }
+fn is_unheeded(key: &str) -> bool
+    ensures { result ≡ is_unheeded key.now }
 {
-    key == "minSessionTimeout"
+    begins(key, "metricsProvider.")
+        || key == "minSessionTimeout"
         || key == "maxSessionTimeout"
         || key == "observerMasterPort"
-        || begins(key, "metricsProvider.")
         || key == "skipACL"
         || key == "globalOutstandingLimit"
-        || (key == "reconfigEnabled" && !is_off(value))
+}
+
+fn asks_for_reconfiguration(key: &str, value: &str) -> bool
+    ensures { result ≡ asks_for_reconfiguration key.now value.now }
+{
+    key == "reconfigEnabled" && !is_off(value)
 }
 
 fn is_of_servers(key: &str) -> bool
     ensures { result ≡ is_of_servers key.now }
 {
-    key == "peerType"
+    begins(key, "group.")
+        || begins(key, "weight.")
+        || begins(key, "observer.")
+        || key == "peerType"
         || key == "standaloneEnabled"
         || key == "electionAlg"
         || key == "quorumListenOnAllIPs"
         || key == "reconfigEnabled"
         || key == "leaderServes"
-        || begins(key, "group.")
-        || begins(key, "weight.")
-        || begins(key, "observer.")
         || key == "version"
 }
 
 fn is_of_files(key: &str) -> bool
     ensures { result ≡ is_of_files key.now }
 {
-    key == "syncEnabled"
+    begins(key, "autopurge.")
+        || begins(key, "snapshot.")
+        || begins(key, "admin.")
+        || key == "syncEnabled"
         || key == "dataLogDir"
         || key == "snapCount"
         || key == "preAllocSize"
         || key == "commitLogCount"
         || key == "snapSizeLimitInKb"
-        || begins(key, "autopurge.")
-        || begins(key, "snapshot.")
-        || begins(key, "admin.")
 }
 
 fn is_switched_off(key: &str) -> bool
@@ -180,7 +188,7 @@ pub fn meaning_of(key: &str, value: &str) -> Meaning
     if is_taken(key) {
         return Meaning::Taken;
     }
-    if is_unheeded(key, value) {
+    if is_unheeded(key) || asks_for_reconfiguration(key, value) {
         return Meaning::Unheeded;
     }
     if is_of_servers(key) || is_of_files(key) || is_switched_off(key) {

@@ -1,11 +1,11 @@
 //! The configuration file of a ZooKeeper server, as an observer reads it.
 //!
 //! `parse` reads a text in the form of Java's properties (`form`), and refuses a key that asks for security which isn't
-//! here (`key`). `value_in` finds the value of a key, and `server_in` reads the line of a server (`server`).
+//! here (`key`). `setting_in` finds the value of a key, and `server_in` reads the line of a server (`server`).
 //!
 //! ```text
 //! let entries = parse(alloc, "tickTime=2000\nserver.1=zk1:2888:3888\nserver.9=here:2888:3888:observer\n")?;
-//! value_in(entries.as_slice(), "tickTime")       // Some("2000")
+//! setting_in(entries.as_slice(), "tickTime")     // Some("2000"), and 3000 without the line
 //! server_in(&entries[2])?                        // Some: id 9, an observer, at here:2888:3888
 //! parse(alloc, "sslQuorum=true\n")               // Err: 1: there is no TLS here
 //! ```
@@ -20,7 +20,7 @@ mod joined;
 mod key;
 mod server;
 
-pub use config::{parse, value_in};
+pub use config::{parse, setting_in, value_in};
 pub use error::{BadLine, ConfigError, Reason};
 pub use form::{Entry, entries_of};
 pub use key::{Meaning, meaning_of};
