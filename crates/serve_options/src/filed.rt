@@ -5,7 +5,9 @@ use crate::row::Name;
 use crate::words::is_word;
 use replay_script::number_up_to;
 use std::alloc::{AllocError, Global};
-use zoo_config::{BadLine, ConfigError, Entry, Reason, Server, server_in, setting_in, value_in, voters_beside};
+use zoo_config::{
+    BadLine, ConfigError, Entry, Reason, Server, server_in, setting_in, value_in, voters_beside,
+};
 
 /// An option that a file sets, and its value as it would be spelled.
 #[derive(Debug, Drop)]
@@ -52,13 +54,13 @@ fn whitelisted(alloc: Global, list: &str) -> Result<String, AllocError> {
             return String::from_str(alloc, "all");
         }
         if is_word(word) {
-            if !words.is_empty() {
+            if !words.as_str().is_empty() {
                 words.push_str(",")?;
             }
             words.push_str(word)?;
         }
     }
-    if words.is_empty() {
+    if words.as_str().is_empty() {
         words.push_str("none")?;
     }
     Ok(words)
@@ -94,7 +96,7 @@ fn put_quorum(out: &mut String, server: &Server<'_>) -> Result<(), ConfigError> 
         if !quorum.contains(":") {
             return Err(wrong(server, Reason::Server));
         }
-        if !out.is_empty() {
+        if !out.as_str().is_empty() {
             out.push_str(",")?;
         }
         out.push_str(quorum)?;
@@ -144,7 +146,11 @@ fn client_of(
         let address = value_in(entries, "clientPortAddress");
         return Ok(Some(client_text(alloc, address, port)?));
     }
-    match own.and_then(|server| server.client) {
+    let client = match own {
+        Some(server) => server.client,
+        None => None,
+    };
+    match client {
         None => Ok(None),
         Some(client) if client.contains(":") => Ok(Some(String::from_str(alloc, client)?)),
         Some(port) => Ok(Some(client_text(alloc, None, port)?)),
@@ -168,7 +174,7 @@ pub fn filed_by(
     let servers = servers_of(alloc, listed)?;
     let own = own_server(servers.as_slice(), number)?;
     let voters = voters_text(alloc, servers.as_slice(), number)?;
-    if !voters.is_empty() {
+    if !voters.as_str().is_empty() {
         put(&mut filed, Name::Servers, voters)?;
     }
     if let Some(client) = client_of(alloc, entries, own)? {

@@ -106,37 +106,47 @@ version=100000000
 #[test]
 fn whole_files_are_read(rt: HostRuntime) -> Result<(), Fail> {
     let alloc = rt.alloc();
-    assert!(rt; sets(
-        alloc,
-        SAMPLE,
-        "--client 0.0.0.0:2181;--id 101;--tick 2000;--init-limit 10;--sync-limit 5;--max-per-address 60;--words srvr;",
-    )?);
-    assert!(rt; sets(
-        alloc,
-        DEBIAN,
-        "--servers zookeeper1:2888,zookeeper2:2888,zookeeper3:2888;--client 0.0.0.0:2181;--id 101;--tick 2000;--init-limit 10;--sync-limit 5;--max-per-address 60;--words srvr;",
-    )?);
-    assert!(rt; sets(
-        alloc,
-        OPERATED,
-        "--servers zk-0.zk.svc:2888,zk-1.zk.svc:2888;--client 0.0.0.0:2182;--id 101;--tick 2000;--init-limit 10;--sync-limit 2;--max-clients 500;--words srvr,mntr,ruok;",
-    )?);
+    assert!(rt;
+        sets(
+            alloc,
+            SAMPLE,
+            "--client 0.0.0.0:2181;--id 101;--tick 2000;--init-limit 10;--sync-limit 5;--max-per-address 60;--words srvr;",
+        )?
+    );
+    assert!(rt;
+        sets(
+            alloc,
+            DEBIAN,
+            "--servers zookeeper1:2888,zookeeper2:2888,zookeeper3:2888;--client 0.0.0.0:2181;--id 101;--tick 2000;--init-limit 10;--sync-limit 5;--max-per-address 60;--words srvr;",
+        )?
+    );
+    assert!(rt;
+        sets(
+            alloc,
+            OPERATED,
+            "--servers zk-0.zk.svc:2888,zk-1.zk.svc:2888;--client 0.0.0.0:2182;--id 101;--tick 2000;--init-limit 10;--sync-limit 2;--max-clients 500;--words srvr,mntr,ruok;",
+        )?
+    );
     Ok(())
 }
 
 #[test]
 fn defaults_are_those_of_zookeeper(rt: HostRuntime) -> Result<(), Fail> {
     let alloc = rt.alloc();
-    assert!(rt; sets(
-        alloc,
-        "",
-        "--id 101;--tick 3000;--max-per-address 60;--words srvr;",
-    )?);
-    assert!(rt; sets(
-        alloc,
-        "4lw.commands.whitelist=*\nclientPort=1\nclientPortAddress=::1\nserver.1=[fe80::1]:2888:3888|b:2889:3889\nserver.1=a:2888:3888|b:2889:3889\n",
-        "--servers a:2888,b:2889;--client [::1]:1;--id 101;--tick 3000;--max-per-address 60;--words all;",
-    )?);
+    assert!(rt;
+        sets(
+            alloc,
+            "",
+            "--id 101;--tick 3000;--max-per-address 60;--words srvr;",
+        )?
+    );
+    assert!(rt;
+        sets(
+            alloc,
+            "4lw.commands.whitelist=*\nclientPort=1\nclientPortAddress=::1\nserver.1=[fe80::1]:2888:3888|b:2889:3889\nserver.1=a:2888:3888|b:2889:3889\n",
+            "--servers a:2888,b:2889;--client [::1]:1;--id 101;--tick 3000;--max-per-address 60;--words all;",
+        )?
+    );
     Ok(())
 }
 
