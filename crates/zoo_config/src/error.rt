@@ -29,11 +29,15 @@ impl fmt::Display for Reason {
             Reason::Tls => f.write_str("there is no TLS here"),
             Reason::Sasl => f.write_str("there are no SASL and no such authentication here"),
             Reason::LocalSessions => f.write_str("there are no local sessions here"),
-            Reason::Digests =>
-                f.write_str("the digests of transactions aren't read here: false at each server"),
-            Reason::Server =>
-                f.write_str("server.N=HOST:PORT:PORT[:observer][;[ADDRESS:]PORT], N from 1 to 255"),
-            Reason::Votes => f.write_str("this server votes: the line of an observer has :observer"),
+            Reason::Digests => f.write_str(
+                "the digests of transactions aren't read here: false at each server",
+            ),
+            Reason::Server => f.write_str(
+                "server.N=HOST:PORT:PORT[:observer][;[ADDRESS:]PORT], N from 1 to 255",
+            ),
+            Reason::Votes => f.write_str(
+                "this server votes: the line of an observer has :observer",
+            ),
         }
     }
 }

@@ -126,12 +126,7 @@ fn joined_line(
 }
 
 // What the line of this number is, after a line that goes on or none. It has no blanks in front.
-fn part_of(
-    alloc: Global,
-    before: Option<Joined>,
-    number: u64,
-    text: &str,
-) -> Result<Part, NoMemory>
+fn part_of(alloc: Global, before: Option<Joined>, number: u64, text: &str) -> Result<Part, NoMemory>
     ensures { IfOk result (λ part. part ≡ part_of before number text.now) }
 {
     if before.is_none() && is_remark(text) {
