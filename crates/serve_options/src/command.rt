@@ -1,6 +1,6 @@
 //! The commands of `serve`.
 
-ghost use Rattle.std.specs.Prelude.{◌≡◌, ℕ, pos, List, map, string_bytes, None, Some, IfSome, IfNone, IfOk, option_map};
+ghost use Rattle.std.specs.Prelude.{◌≡◌, ◌++◌, ℕ, pos, List, map, string_bytes, None, Some, IfSome, IfNone, IfOk, option_map};
 ghost use Rattle.serve_options.specs.Rows.{option_bounds, IsWithin};
 ghost use Rattle.serve_options.specs.Values.{number_within, SpellsAddress};
 ghost use Rattle.serve_options.specs.Given.{value_of, number_given, number_answer};
@@ -329,6 +329,32 @@ pub fn command_of<'a>(alloc: Global, words: &'a [String]) -> Result<Command<'a>,
     }
 }
 
+// The options that are given, and behind them those of a file.
+fn with_filed<'a>(
+    given: Vec<Given<'a>>,
+    filed: &[Given<'a>],
+) -> Result<Vec<Given<'a>>, OptionError<'a>>
+    ensures { IfOk result (λ all. all.items ≡ given.items ++ filed.now) }
+{
+    let mut all = given;
+    for option in filed {
+        all.push(*option)?;
+    }
+    Ok(all)
+}
+
+fn options_with<'a>(
+    alloc: Global,
+    given: Vec<Given<'a>>,
+    filed: &[Given<'a>],
+) -> Result<Options<'a>, OptionError<'a>>
+    ensures set { IfOk result (IsSetBy (given.items ++ filed.now)) }
+    ensures bounds { IfOk result IsWithinBounds }
+{
+    let all = with_filed(given, filed)?;
+    options_in(alloc, all.as_slice())
+}
+
 /// Reads the words after `serve` beside what a configuration file sets: an option that is given wins. Fails with the
 /// first thing that is wrong, or if an allocation is refused.
 pub fn options_over<'a>(
@@ -338,7 +364,6 @@ pub fn options_over<'a>(
 ) -> Result<Options<'a>, OptionError<'a>>
     ensures { IfOk result (AreOptionsOver (map string_bytes words.now) filed.now) }
 {
-    let mut given = given_in(alloc, words)?;
-    given.extend_from_slice(filed)?;
-    options_in(alloc, given.as_slice())
+    let given = given_in(alloc, words)?;
+    options_with(alloc, given, filed)
 }
