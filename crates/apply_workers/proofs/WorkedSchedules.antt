@@ -7,6 +7,7 @@ use Rattle.ephemerals.specs.Orders.{Bytes}
 use Rattle.ephemerals.proofs.Totals.{path_total}
 use Rattle.txn_codec.specs.Paths.{parent_of, name_of}
 use Rattle.txn_codec.specs.declared.txn.Create.{Create}
+use Rattle.txn_codec.specs.declared.txn.Owner.TheVariants.{Nobody}
 use Rattle.txn_codec.specs.declared.txn.Txn.{Txn}
 use Rattle.txn_codec.specs.declared.txn.TxnHeader.{TxnHeader}
 use Rattle.node_map.specs.Updates.{next_cversion}
@@ -41,7 +42,14 @@ timeouts_are law set_in_order h s steps =
 -- ---- creates under two parents
 
 abbrev body_of : Bytes → Create
-body_of path = record { path = path; bytes = None; acl = None; ephemeral = false; parent_cversion = negsuc 0 }
+body_of path = record {
+  path = path;
+  bytes = None;
+  acl = None;
+  owner = Nobody;
+  asks_stat = false;
+  parent_cversion = negsuc 0;
+}
 
 -- The effect of a create whose parent doesn't have the child.
 abbrev made : TxnHeader → Bytes → Node → State → TxnEffect

@@ -115,7 +115,7 @@ create_holds h c s counts child clean holds = by (finmap.get s.nodes (parent_of 
         (both (counts_up c.parent_cversion (Some parent)) true e).0 in
         let made : AreCounted _ _ =
         create_counted s.nodes counts h c parent child at has (next_is parent c.parent_cversion up) holds.nodes in
-        gained_holds _ _ (owner_of h c.ephemeral) c.path (child_no_root c.path child)
+        gained_holds _ _ (owner_of h c.owner) c.path (child_no_root c.path child)
         (record { nodes = made; root = holds.root })
 
     by : (o : Option Node) → finmap.get s.nodes (parent_of c.path) ≡ o

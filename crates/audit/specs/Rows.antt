@@ -2,6 +2,7 @@
 use Rattle.std.specs.Prelude.{pos, negsuc, [], ◌∷◌, Some, None, false, codes}
 use Rattle.ephemerals.specs.Orders.{Bytes}
 use Rattle.txn_codec.specs.declared.txn.Create.{Create}
+use Rattle.txn_codec.specs.declared.txn.Owner.TheVariants.{Nobody}
 use Rattle.txn_codec.specs.declared.txn.Txn.{Txn}
 use Rattle.txn_codec.specs.declared.txn.TxnHeader.{TxnHeader}
 use Rattle.txn_codec.specs.declared.txn.Operation.TheVariants as op
@@ -12,7 +13,14 @@ abbrev pub path_a : Bytes
 path_a = codes "/a"
 
 abbrev pub create_of_a : Create
-create_of_a = record { path = path_a; bytes = None; acl = None; ephemeral = false; parent_cversion = negsuc 0 }
+create_of_a = record {
+  path = path_a;
+  bytes = None;
+  acl = None;
+  owner = Nobody;
+  asks_stat = false;
+  parent_cversion = negsuc 0;
+}
 
 abbrev pub txn_creating_a : TxnHeader → Txn
 txn_creating_a header = record { header = header; body = body.Single (op.Create create_of_a) }

@@ -3,7 +3,7 @@
 use audit::{AuditError, audit_stat};
 use std::alloc::Global;
 use std::test::Fail;
-use txn_codec::{Body, Create, Operation, Path, Txn, TxnHeader};
+use txn_codec::{Body, Create, Operation, Owner, Path, Txn, TxnHeader};
 use values::Listed;
 
 // Session 9's transaction number `zxid`.
@@ -24,7 +24,12 @@ fn create(alloc: Global, path: &str, ephemeral: bool, wanted: i32) -> Result<Ope
         path: Path::new(alloc, path)?,
         bytes: None,
         acl: None,
-        ephemeral,
+        owner: if ephemeral {
+            Owner::Client
+        } else {
+            Owner::Nobody
+        },
+        asks_stat: false,
         parent_cversion: wanted,
     }))
 }

@@ -4,7 +4,7 @@ use crate::asked::{Kind, Load};
 use anyhow::Result;
 use data_tree::Tree;
 use std::alloc::Global;
-use txn_codec::{Body, Create, Operation, Path, SetData, Txn, TxnHeader};
+use txn_codec::{Body, Create, Operation, Owner, Path, SetData, Txn, TxnHeader};
 use values::{Blob, Listed};
 
 // The number of nodes below the root.
@@ -41,7 +41,8 @@ fn create(alloc: Global, path: Path, content: &[u8]) -> Result<Operation> {
         path,
         bytes: Some(bytes),
         acl: None,
-        ephemeral: false,
+        owner: Owner::Nobody,
+        asks_stat: false,
         parent_cversion: -1,
     }))
 }

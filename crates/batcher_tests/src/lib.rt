@@ -6,7 +6,7 @@
 mod cuts;
 
 use std::alloc::Global;
-use txn_codec::{Body, Check, Create, Operation, Path, Txn, TxnHeader};
+use txn_codec::{Body, Check, Create, Operation, Owner, Path, Txn, TxnHeader};
 use values::{Listed, ReadError};
 
 // A transaction of session 9.
@@ -26,7 +26,12 @@ fn create_of(alloc: Global, path: &str, ephemeral: bool) -> Result<Operation, Re
         path: Path::new(alloc, path)?,
         bytes: None,
         acl: None,
-        ephemeral,
+        owner: if ephemeral {
+            Owner::Client
+        } else {
+            Owner::Nobody
+        },
+        asks_stat: false,
         parent_cversion: -1,
     }))
 }

@@ -55,7 +55,7 @@ within_create h c (Some parent) =
     elim (set.contains parent.children (name_of c.path)) as
     (λ b. AreWithin ps (if b then create_taken h c parent else create_new h c parent).changes) [
       | true ↦ within_taken ps (parent_of c.path) _ _ up
-      | false ↦ (up, (here, within_gained ps (owner_of h c.ephemeral) c.path _ here))
+      | false ↦ (up, (here, within_gained ps (owner_of h c.owner) c.path _ here))
     ]
 
 within_delete : (h : TxnHeader) (p : Bytes) (node parent : Option Node)

@@ -101,7 +101,7 @@ new_fine h c parent makes named = (
     right = named.right;
     names = names_with parent.children (name_of c.path) named.names (name_is c.path makes);
   },
-  (record { right = child_is_path c.path makes; names = no_names }, gained_fine (owner_of h c.ephemeral) c.path),
+  (record { right = child_is_path c.path makes; names = no_names }, gained_fine (owner_of h c.owner) c.path),
 )
 
 create_fine : (h : TxnHeader) (c : Create) (nodes : Nodes) → is_child_path c.path ≡ true → EachIsNamed nodes

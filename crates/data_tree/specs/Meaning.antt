@@ -88,7 +88,7 @@ create_new header create parent =
           Put (parent_of create.path)
           (with_children parent (set.insert parent.children (name_of create.path)) next header.zxid)
           ∷ Put create.path (new_node header create)
-          ∷ gained_pair (owner_of header create.ephemeral) create.path;
+          ∷ gained_pair (owner_of header create.owner) create.path;
       triggers = Created create.path ∷ ChildrenChanged (parent_of create.path) ∷ [];
     }
 

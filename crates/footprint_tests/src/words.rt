@@ -1,7 +1,7 @@
 //! Transactions given as signs and paths.
 
 use std::alloc::Global;
-use txn_codec::{Body, Check, Create, Operation, Path, SetData, Txn, TxnHeader};
+use txn_codec::{Body, Check, Create, Operation, Owner, Path, SetData, Txn, TxnHeader};
 use values::ReadError;
 
 /// The operation of a sign: "+" a create, "-" a delete, "=" new data, "?" a check, and any other an error.
@@ -12,7 +12,8 @@ pub fn operation_of(alloc: Global, sign: char, path: &str) -> Result<Operation, 
             path,
             bytes: None,
             acl: None,
-            ephemeral: false,
+            owner: Owner::Nobody,
+            asks_stat: false,
             parent_cversion: -1,
         }),
         '-' => Operation::Delete(path),

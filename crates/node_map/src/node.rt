@@ -3,13 +3,13 @@
 ghost use Rattle.std.specs.Prelude.{◌≡◌, OnOk, OnErr, IfOk, not, int_lt, if◌then◌else◌, string_bytes};
 ghost use Rattle.std.specs.FinSet as set;
 ghost use Rattle.node_map.specs.Children.{with_added_child, stat_after_create};
-ghost use Rattle.node_map.specs.Updates.{new_node, owner_of, next_cversion, with_data, with_acl, preset_node};
+ghost use Rattle.node_map.specs.Updates.{new_node, owner_of, ttl_mark, mark_of, next_cversion, with_data, with_acl, preset_node};
 ghost use Rattle.node_map.specs.Stats.{stat_of, shown_stat, java_int, length_or_zero, shown_cversion};
 
 use ephemerals::TextSet;
 use jute::{Stat, StatPersisted};
 use std::alloc::{AllocError, Global};
-use txn_codec::{AclList, Create, SetAcl, SetData, TxnHeader};
+use txn_codec::{AclList, Create, Owner, SetAcl, SetData, TxnHeader};
 use values::{Blob, NoMemory};
 
 /// A node: its data, which may be null, its access control list, its stat, and the names of its children.
@@ -18,6 +18,9 @@ pub struct Node {
     pub bytes: Option<Blob>,
     pub acl: AclList,
     pub stat: StatPersisted,
+    /// What images have as the owner of a container, or of a node with a time to live, which the leader deletes: no
+    /// session, and never shown; 0 for other nodes.
+    pub mark: i64,
     pub children: TextSet,
 }
 
@@ -29,6 +32,7 @@ impl Clone for Node {
             bytes: self.bytes.clone()?,
             acl: self.acl.clone()?,
             stat: self.stat,
+            mark: self.mark,
             children: self.children.clone()?,
         })
     }
@@ -74,10 +78,31 @@ pub(crate) fn stat_after_delete(before: StatPersisted, header: &TxnHeader) -> St
 }
 
 /// The session that owns a created node, or 0 if the node isn't ephemeral.
-pub(crate) fn owner(header: &TxnHeader, ephemeral: bool) -> i64
-    ensures { result ≡ owner_of header.now ephemeral }
+pub(crate) fn owner(header: &TxnHeader, owner: Owner) -> i64
+    ensures { result ≡ owner_of header.now owner }
 {
-    if ephemeral { header.client_id } else { 0 }
+    match owner {
+        Owner::Client => header.client_id,
+        Owner::Nobody | Owner::Container | Owner::Ttl(_) => 0,
+    }
+}
+
+// The number of a time to live.
+fn ttl_mark(milliseconds: i64) -> i64
+    ensures { result ≡ ttl_mark milliseconds }
+{
+    (milliseconds.cast_unsigned() % (1 << 40)).cast_signed() - (1 << 56)
+}
+
+// The number of a created node that the leader deletes, or 0.
+fn mark(owner: Owner) -> i64
+    ensures { result ≡ mark_of owner }
+{
+    match owner {
+        Owner::Container => i64::MIN,
+        Owner::Ttl(milliseconds) => ttl_mark(milliseconds),
+        Owner::Nobody | Owner::Client => 0,
+    }
 }
 
 // The stat of a new node.
@@ -92,7 +117,7 @@ fn first_stat(header: &TxnHeader, create: &Create) -> StatPersisted
         version: 0,
         cversion: 0,
         aversion: 0,
-        ephemeral_owner: owner(header, create.ephemeral),
+        ephemeral_owner: owner(header, create.owner),
         pzxid: header.zxid,
     }
 }
@@ -158,6 +183,7 @@ fn make_preset_node(alloc: Global, children: TextSet) -> Result<Node, NoMemory>
         bytes: Some(Blob::new(alloc, &[])?),
         acl: AclList::open(),
         stat: preset_stat(),
+        mark: 0,
         children,
     })
 }
@@ -176,6 +202,7 @@ impl Node {
             bytes: None,
             acl: AclList::open(),
             stat: preset_stat(),
+            mark: 0,
             children: TextSet::new(alloc),
         }
     }
@@ -195,6 +222,7 @@ impl Node {
             bytes: create.bytes.clone()?,
             acl: AclList::of(&create.acl)?,
             stat: first_stat(header, create),
+            mark: mark(create.owner),
             children: TextSet::new(alloc),
         })
     }

@@ -5,7 +5,7 @@ use data_tree::Tree;
 use read_processor::Watch;
 use std::alloc::Global;
 use std::test::Fail;
-use txn_codec::{Body, Create, Operation, Path, Txn, TxnHeader};
+use txn_codec::{Body, Create, Operation, Owner, Path, Txn, TxnHeader};
 use values::{Listed, NoMemory};
 use watch_manager::WatchMode;
 
@@ -26,7 +26,8 @@ pub fn tree_with_a(alloc: Global, zxid: i64) -> Result<Tree, Fail> {
         path: Path::new(alloc, "/a").ok().ok_or("a path")?,
         bytes: None,
         acl: None,
-        ephemeral: false,
+        owner: Owner::Nobody,
+        asks_stat: false,
         parent_cversion: -1,
     };
     let body = Body::Single(Operation::Create(create));

@@ -2,6 +2,8 @@
 pub mod Names
 -- The parts of a text before and after its last slash.
 pub mod Slashes
+-- The ends of transactions are sound.
+pub mod Endings
 -- Fields and records are sound.
 pub mod Spelled
 -- Operations, parts, bodies and transactions are sound.
@@ -10,3 +12,5 @@ pub mod Bodies
 pub mod Naming
 -- A decoded transaction is within the limits.
 pub mod Limits
+-- What is written of a create.
+pub mod Written

@@ -1,7 +1,7 @@
 //! Transactions (the records of zookeeper.jute).
 
 ghost use Rattle.std.specs.Prelude.{◌≡◌};
-ghost use Rattle.txn_codec.specs.Kinds.{operation_kind, body_kind};
+ghost use Rattle.txn_codec.specs.Kinds.{create_kind, operation_kind, body_kind};
 
 use crate::kind::TxnKind;
 use crate::path::Path;
@@ -22,14 +22,28 @@ pub struct TxnHeader {
     pub time: i64,
 }
 
-/// A node is created (CreateTxn; a CreateTxnV0 has no `parent_cversion`, which means -1).
+/// The owner of a created node.
+#[derive(Clone, Copy, Debug, PartialEq, Eq)]
+pub enum Owner {
+    Nobody,
+    /// The session of the transaction: the node is deleted with it.
+    Client,
+    /// The leader deletes the node once it has no children any more.
+    Container,
+    /// The leader deletes the node if it has no children and hasn't changed for so many milliseconds.
+    Ttl(i64),
+}
+
+/// A node is created (CreateTxn, CreateContainerTxn, CreateTTLTxn; a CreateTxnV0 has no `parent_cversion`, which means
+/// -1).
 #[derive(Clone, Debug, Drop)]
 pub struct Create {
     pub path: Path,
     pub bytes: Option<Blob>,
     pub acl: Option<Listed<Acl>>,
-    /// The node is deleted with the session that created it.
-    pub ephemeral: bool,
+    pub owner: Owner,
+    /// The reply shows the node's Stat. It does for a container and for a node with a time to live.
+    pub asks_stat: bool,
     /// The parent's cversion after the create; -1 counts it up by one.
     pub parent_cversion: i32,
 }
@@ -91,13 +105,32 @@ pub struct Txn {
     pub body: Body,
 }
 
+impl Create {
+    /// Its type.
+    pub fn kind(&self) -> TxnKind
+        ensures { result ≡ create_kind self.now.owner self.now.asks_stat }
+    {
+        match self.owner {
+            Owner::Container => TxnKind::CreateContainer,
+            Owner::Ttl(_) => TxnKind::CreateTtl,
+            Owner::Nobody | Owner::Client => {
+                if self.asks_stat {
+                    TxnKind::Create2
+                } else {
+                    TxnKind::Create
+                }
+            }
+        }
+    }
+}
+
 impl Operation {
     /// Its type.
     pub fn kind(&self) -> TxnKind
         ensures { result ≡ operation_kind self.now }
     {
         match self {
-            Operation::Create(_) => TxnKind::Create,
+            Operation::Create(create) => create.kind(),
             Operation::Delete(_) => TxnKind::Delete,
             Operation::SetData(_) => TxnKind::SetData,
             Operation::Check(_) => TxnKind::Check,

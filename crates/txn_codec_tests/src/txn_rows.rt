@@ -4,7 +4,7 @@ use crate::rows::{bytes_of, row_of};
 use jute::{ReadRecord, Reader, WriteRecord};
 use std::alloc::Global;
 use std::test::Fail;
-use txn_codec::{Body, Operation, Txn, TxnHeader, TxnKind, decode_txn, encode_txn};
+use txn_codec::{Body, Operation, Owner, Txn, TxnHeader, TxnKind, decode_txn, encode_txn};
 use values::{Fault, ReadError};
 
 // Session 7, its request 1, zxid 0x100000001, at 1000.
@@ -148,7 +148,7 @@ fn makes_a(txn: &Txn) -> bool {
     let Body::Single(Operation::Create(create)) = &txn.body else {
         return false;
     };
-    create.path.as_str() == "/a" && create.parent_cversion == 1 && !create.ephemeral
+    create.path.as_str() == "/a" && create.parent_cversion == 1 && create.owner == Owner::Nobody
 }
 
 // The data of a create.
