@@ -1,6 +1,7 @@
--- Counts that were worked out by hand, of a create with any header.
+-- Counts that were worked out by hand, of a create with any numbers in its header.
 use Rattle.std.specs.Prelude.{pos, negsuc, [], ◌∷◌, Some, None, false, codes}
 use Rattle.ephemerals.specs.Orders.{Bytes}
+use Rattle.settings.specs.declared.dialect.Dialect.TheVariants.{Zk34}
 use Rattle.txn_codec.specs.declared.txn.Create.{Create}
 use Rattle.txn_codec.specs.declared.txn.Owner.TheVariants.{Nobody}
 use Rattle.txn_codec.specs.declared.txn.Txn.{Txn}
@@ -23,7 +24,7 @@ create_of_a = record {
 }
 
 abbrev pub txn_creating_a : TxnHeader → Txn
-txn_creating_a header = record { header = header; body = body.Single (op.Create create_of_a) }
+txn_creating_a header = record { header = record header { rules = Zk34 }; body = body.Single (op.Create create_of_a) }
 
 pub record WorkedCounts (h : TxnHeader) : Type 0 where
   -- After a create of /a: the new node, its parent, another node, and a missing one.

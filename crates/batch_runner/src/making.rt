@@ -3,6 +3,7 @@
 use crate::asked::{Kind, Load};
 use anyhow::Result;
 use data_tree::Tree;
+use settings::Dialect;
 use std::alloc::Global;
 use txn_codec::{Body, Create, Operation, Owner, Path, SetData, Txn, TxnHeader};
 use values::{Blob, Listed};
@@ -87,6 +88,7 @@ fn txn(number: u32, body: Body) -> Txn {
         cxid: 1,
         zxid: EPOCH.saturating_add(i64::from(number)),
         time: 1000,
+        rules: Dialect::Zk34,
     };
     Txn { header, body }
 }

@@ -72,7 +72,7 @@ abbrev pub two_creates_txn : TxnHeader → Txn
 two_creates_txn h = txn_with h (body.Multi (create_operation path_a_p ∷ create_operation path_b_q ∷ []))
 
 abbrev pub close_session_txn : TxnHeader → Txn
-close_session_txn h = txn_with h body.CloseSession
+close_session_txn h = txn_with h (body.CloseSession [])
 
 abbrev pub new_session_txn : TxnHeader → Txn
 new_session_txn h = txn_with h (body.CreateSession (pos 5000))

@@ -5,6 +5,7 @@
 #[cfg(test)]
 mod cuts;
 
+use settings::Dialect;
 use std::alloc::Global;
 use txn_codec::{Body, Check, Create, Operation, Owner, Path, Txn, TxnHeader};
 use values::{Listed, ReadError};
@@ -16,6 +17,7 @@ fn txn_of(body: Body) -> Txn {
         cxid: 1,
         zxid: 1,
         time: 1000,
+        rules: Dialect::Zk34,
     };
     Txn { header, body }
 }
@@ -43,7 +45,7 @@ pub fn read_txn(alloc: Global, word: &str) -> Result<Txn, ReadError> {
         return Ok(txn_of(Body::CreateSession(5000)));
     }
     if word == "close" {
-        return Ok(txn_of(Body::CloseSession));
+        return Ok(txn_of(Body::CloseSession(Listed::from_vec(Vec::new(alloc)))));
     }
     if let Some(path) = word.strip_prefix('?') {
         let path = Path::new(alloc, path)?;

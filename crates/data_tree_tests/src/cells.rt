@@ -4,6 +4,7 @@ use crate::path_of;
 use crate::transactions::fresh;
 use data_tree::{Cells, Tree};
 use ephemerals::TextSet;
+use settings::Dialect;
 use std::alloc::Global;
 use std::test::Fail;
 use txn_codec::{Body, Create, Operation, Owner, SetData, Txn, TxnHeader};
@@ -16,6 +17,7 @@ fn txn_of(session: i64, body: Body) -> Txn {
         cxid: 1,
         zxid: 1,
         time: 1000,
+        rules: Dialect::Zk34,
     };
     Txn { header, body }
 }

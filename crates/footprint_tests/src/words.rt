@@ -1,5 +1,6 @@
 //! Transactions given as signs and paths.
 
+use settings::Dialect;
 use std::alloc::Global;
 use txn_codec::{Body, Check, Create, Operation, Owner, Path, SetData, Txn, TxnHeader};
 use values::ReadError;
@@ -34,6 +35,7 @@ pub fn txn_of(body: Body) -> Txn {
         cxid: 1,
         zxid: 1,
         time: 1000,
+        rules: Dialect::Zk34,
     };
     Txn { header, body }
 }

@@ -1,9 +1,12 @@
 -- What a transaction makes of a node, and the nodes after the one at a path has changed.
-use Rattle.std.specs.Prelude.{ℤ, pos, negsuc, ◌-◌, ◌%◌, ◌^◌, ◌+ℤ◌, ◌-ℤ◌, [], if◌then◌else◌, Some, Option, None, List, ◌∷◌}
+use Rattle.std.specs.Prelude.{ℤ, pos, negsuc, Bool, true, int_lt, length, ◌==◌, ◌-◌, ◌%◌, ◌^◌, ◌+ℤ◌, ◌-ℤ◌, [], if◌then◌else◌, Some, Option, None, List, ◌∷◌}
 use Rattle.std.specs.Int.{int_wrap, cast_unsigned, w32, w64}
 use Rattle.std.specs.Ordering.{int_eq}
 use Rattle.std.specs.FinSet as set
 use Rattle.ephemerals.specs.Orders.{Names, Bytes}
+use Rattle.settings.specs.declared.dialect.Dialect.{Dialect}
+use Rattle.settings.specs.declared.dialect.Dialect.TheVariants.{Zk34, Zk38}
+use Rattle.jute.specs.declared.owned.Acl.{Acl}
 use Rattle.jute.specs.Codes.{open_acl}
 use Rattle.txn_codec.specs.Acls.{acl_or_open}
 use Rattle.txn_codec.specs.declared.txn.TxnHeader.{TxnHeader}
@@ -19,6 +22,17 @@ use Rattle.node_map.specs.Nodes.{Nodes}
 -- The stored cversion of the parent after a create: -1 counts it up by one, and Java's 32-bit numbers wrap.
 abbrev pub next_cversion : ℤ → ℤ → ℤ
 next_cversion stored wanted = if int_eq wanted (negsuc 0) then int_wrap w32 (stored +ℤ pos 1) else wanted
+
+-- Whether a create of a new child sets its parent's numbers. An image that was written while the leader went on may be
+-- ahead of what the leader sends next, so by the rules of later dialects the numbers don't fall.
+abbrev pub counts_by : Dialect → ℤ → ℤ → Bool
+counts_by Zk34 stored next = true
+counts_by Zk38 stored next = int_lt stored next
+
+-- The pzxid of a parent after a delete of a child.
+abbrev pub pzxid_by : Dialect → ℤ → ℤ → ℤ
+pzxid_by Zk34 stored zxid = zxid
+pzxid_by Zk38 stored zxid = if int_lt stored zxid then zxid else stored
 
 -- The session that owns an ephemeral node; 0 for any other node.
 abbrev pub owner_of : TxnHeader → Owner → ℤ
@@ -67,6 +81,10 @@ with_data header body node =
 
 abbrev pub with_acl : SetAcl → Node → Node
 with_acl body node = record node { acl = acl_or_open body.acl; stat = record node.stat { aversion = body.version } }
+
+-- A node that came with an image, but without its access control list, has the empty one. It gets this list.
+abbrev pub with_missing_acl : List Acl → Node → Node
+with_missing_acl acl node = if length node.acl == 0 then record node { acl = acl } else node
 
 -- A node that no transaction creates: empty data, the open access control list, all numbers 0.
 abbrev pub preset_node : Names → Node

@@ -2,12 +2,13 @@
 
 ghost use Rattle.std.specs.Prelude.{◌≡◌, OnOk, OnErr, IfOk, not, int_lt, if◌then◌else◌, string_bytes};
 ghost use Rattle.std.specs.FinSet as set;
-ghost use Rattle.node_map.specs.Children.{with_added_child, stat_after_create};
-ghost use Rattle.node_map.specs.Updates.{new_node, owner_of, ttl_mark, mark_of, next_cversion, with_data, with_acl, preset_node};
+ghost use Rattle.node_map.specs.Children.{with_added_child, stat_after_create, stat_after_delete};
+ghost use Rattle.node_map.specs.Updates.{new_node, owner_of, ttl_mark, mark_of, next_cversion, counts_by, pzxid_by, with_data, with_acl, with_missing_acl, preset_node};
 ghost use Rattle.node_map.specs.Stats.{stat_of, shown_stat, java_int, length_or_zero, shown_cversion};
 
 use ephemerals::TextSet;
 use jute::{Stat, StatPersisted};
+use settings::Dialect;
 use std::alloc::{AllocError, Global};
 use txn_codec::{AclList, Create, Owner, SetAcl, SetData, TxnHeader};
 use values::{Blob, NoMemory};
@@ -68,12 +69,37 @@ fn higher_stat(before: StatPersisted, after: StatPersisted) -> StatPersisted
     before
 }
 
+// The stat of a parent before or after a create of a new child, whichever counts.
+fn stat_that_counts(rules: Dialect, before: StatPersisted, after: StatPersisted) -> StatPersisted
+    ensures { result ≡ (if counts_by rules before.cversion after.cversion then after else before) }
+{
+    match rules {
+        Dialect::Zk34 => after,
+        Dialect::Zk38 => higher_stat(before, after),
+    }
+}
+
+// The pzxid of a parent after a delete of a child.
+fn pzxid_after_delete(rules: Dialect, stored: i64, zxid: i64) -> i64
+    ensures { result ≡ pzxid_by rules stored zxid }
+{
+    match rules {
+        Dialect::Zk34 => zxid,
+        Dialect::Zk38 => {
+            if stored < zxid {
+                return zxid;
+            }
+            stored
+        }
+    }
+}
+
 /// A parent's stat after a delete of a child.
 pub(crate) fn stat_after_delete(before: StatPersisted, header: &TxnHeader) -> StatPersisted
-    ensures { result ≡ record before { pzxid = header.now.zxid } }
+    ensures { result ≡ stat_after_delete header.now before }
 {
     let mut numbers = before;
-    numbers.pzxid = header.zxid;
+    numbers.pzxid = pzxid_after_delete(header.rules, before.pzxid, header.zxid);
     numbers
 }
 
@@ -243,7 +269,7 @@ impl Node {
         let after = stat_after_create(self.stat, header, create);
         let added = self.children.insert(name)?;
         if added {
-            self.stat = after;
+            self.stat = stat_that_counts(header.rules, self.stat, after);
             return Ok(true);
         }
         self.stat = higher_stat(self.stat, after);
@@ -269,6 +295,15 @@ impl Node {
         self.acl = acl;
         self.stat.aversion = body.version;
         Ok(())
+    }
+
+    /// Gives this access control list to a node that came without one.
+    pub(crate) fn mend_acl(&mut self, acl: AclList)
+        ensures { self.new ≡ with_missing_acl acl self.old }
+    {
+        if self.acl.is_empty() {
+            self.acl = acl;
+        }
     }
 
     /// The node's Stat, as clients see it.

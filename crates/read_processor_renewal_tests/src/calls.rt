@@ -3,6 +3,7 @@
 use client_records::{Name, SetWatches};
 use data_tree::Tree;
 use read_processor::Watch;
+use settings::Dialect;
 use std::alloc::Global;
 use std::test::Fail;
 use txn_codec::{Body, Create, Operation, Owner, Path, Txn, TxnHeader};
@@ -21,6 +22,7 @@ pub fn tree_with_a(alloc: Global, zxid: i64) -> Result<Tree, Fail> {
         cxid: 1,
         zxid,
         time: 1000,
+        rules: Dialect::Zk34,
     };
     let create = Create {
         path: Path::new(alloc, "/a").ok().ok_or("a path")?,

@@ -2,6 +2,8 @@
 use Rattle.std.proofs.Common.{◌≡◌, ℕ, Bool, true, false, ◌&&◌, List, Ok, refl, sym, ap, subst, ◌∙◌}
 use Rattle.std.specs.Prelude.{ℤ, not}
 use Rattle.values.specs.declared.fault.Fault.TheVariants.{BadTxnType}
+use Rattle.settings.specs.Dialects.{reads_of}
+use Rattle.settings.specs.declared.dialect.Dialect.{Dialect}
 use Rattle.settings.specs.declared.dialect.Reads.{Reads}
 use Rattle.jute.specs.Format.{Format, int}
 use Rattle.jute.specs.Laws.{IsSound, IsSoundAtEnd}
@@ -18,8 +20,10 @@ use Rattle.txn_codec.specs.declared.txn.Body.TheVariants as bodies
 use Rattle.txn_codec.specs.Kinds.{create_kind, operation_kind, body_kind}
 use Rattle.txn_codec.specs.Paths.{is_child_path}
 use Rattle.txn_codec.specs.Endings.{with_trailer_if, closing_if, in_buffer}
-use Rattle.txn_codec.specs.Spelling.{child_path, last_field, kind_in, part_kind_in, owner_if, owner_format, shows_stat, create_with, set_data, set_acl, check_format, txn_header, as_create, as_delete, as_set_data, as_check, as_error, created, operation_format, is_lenient, part_content, part_in, parts_in, as_single, as_set_acl, as_multi, as_session, as_close, has_own_end, body_fields, body_content, body_in, txn_in}
-use Rattle.txn_codec.proofs.Endings.{trailer_if_sound, closing_if_sound, in_buffer_sound, before_trailer, buffered}
+use Rattle.txn_codec.specs.Fields.{child_path}
+use Rattle.txn_codec.specs.Spelling.{last_field, kind_in, part_kind_in, owner_if, owner_format, shows_stat, create_with, set_data, set_acl, check_format, header_in, as_create, as_delete, as_set_data, as_check, as_error, created, operation_format, is_lenient, part_content, part_in, parts_in, as_single, as_set_acl, as_multi, as_session, as_close, has_own_end, body_fields, body_content, body_in, txn_in}
+use Rattle.txn_codec.proofs.Closing.{closing_if_sound}
+use Rattle.txn_codec.proofs.Endings.{trailer_if_sound, in_buffer_sound, before_trailer, buffered}
 use Rattle.txn_codec.proofs.Spelled.{path_sound, last_sound, kind_sound, part_kind_sound, create_sound, create_at_end, set_data_sound, set_acl_sound, check_sound, header_sound}
 
 -- ---- operations
@@ -165,7 +169,7 @@ module _ (reads : Reads) where
       (case_sound bodies.CreateSession as_session int (λ z. refl) int_sound)
   content_at_end kinds.CloseSession =
       untrailed reads.trailer (body_fields reads kinds.CloseSession)
-      (case_at_end (λ none. bodies.CloseSession) as_close (closing_if reads.lists_paths) (λ none. refl)
+      (case_at_end bodies.CloseSession as_close (closing_if reads.lists_paths) (λ listed. refl)
       (closing_if_sound reads.lists_paths))
 
   single_tells : (k : TxnKind) (o : Operation) (b : Body) (text : List ℕ) → bodies.Single o ≡ b
@@ -185,7 +189,7 @@ module _ (reads : Reads) where
   fields_tell kinds.SetAcl b text s = ap body_kind (sym (ok_is (bodies.SetAcl s.0) b s.1))
   fields_tell kinds.Multi b text s = ap body_kind (sym (ok_is (bodies.Multi s.0) b s.1))
   fields_tell kinds.CreateSession b text s = ap body_kind (sym (ok_is (bodies.CreateSession s.0) b s.1))
-  fields_tell kinds.CloseSession b text s = ap body_kind (sym (ok_is bodies.CloseSession b s.1))
+  fields_tell kinds.CloseSession b text s = ap body_kind (sym (ok_is (bodies.CloseSession s.0) b s.1))
 
   -- A body that is spelled after a type is of that type.
   content_tells : (k : TxnKind) (b : Body) (text : List ℕ) → (body_content reads k).Spells b text → body_kind b ≡ k
@@ -198,6 +202,7 @@ module _ (reads : Reads) where
       tagged_at_end (kind_in reads Alone) body_kind (body_content reads) content_tells (kind_sound reads Alone)
       content_at_end
 
-  pub txn_at_end : IsSoundAtEnd (txn_in reads)
-  txn_at_end = mapped_at_end _ _ _ (λ v. refl) (λ t. refl)
-      (both_at_end txn_header (body_in reads) header_sound body_at_end)
+pub txn_at_end : (dialect : Dialect) → IsSoundAtEnd (txn_in dialect)
+txn_at_end dialect = mapped_at_end _ _ _ (λ v. refl) (λ t. refl)
+    (both_at_end (header_in dialect) (body_in (reads_of dialect)) (header_sound dialect)
+    (body_at_end (reads_of dialect)))

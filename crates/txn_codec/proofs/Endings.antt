@@ -5,12 +5,12 @@ use Rattle.std.proofs.lemmas.List.{append-nil, length-append}
 use Rattle.std.specs.Int.{w32}
 use Rattle.values.specs.declared.fault.Fault.{Fault}
 use Rattle.values.specs.declared.fault.Fault.TheVariants.{Short, TrailingBytes}
-use Rattle.jute.specs.Format.{◌>>=◌, Format, int, buffer, buffer_limit, number_bytes, text_format, vector_of, pair_of, mapped_format, judged_at, SpellsFront}
+use Rattle.jute.specs.Format.{◌>>=◌, Format, int, buffer, buffer_limit, number_bytes, pair_of, mapped_format, judged_at, SpellsFront}
 use Rattle.jute.specs.Sums.{empty_format}
 use Rattle.jute.specs.Laws.{IsBytes, TakesSpelling, TakesSpellings, NamesFaults, IsSound, IsSoundAtEnd}
-use Rattle.jute.proofs.Public.{IsBytes-front, IsBytes-back, bind_ok, bind_err, guard_ended, guard_refused, ok_is, not_refused, sound_at_end, int_sound, buffer_sound, text_sound, both_at_end, mapped_at_end, judged_takes, judged_reads, judged_pieced, judged_eats, vector_sound, held_sound, empty_at_end}
+use Rattle.jute.proofs.Public.{IsBytes-front, IsBytes-back, bind_ok, bind_err, guard_ended, guard_refused, ok_is, not_refused, sound_at_end, int_sound, buffer_sound, both_at_end, mapped_at_end, judged_takes, judged_reads, judged_pieced, judged_eats, held_sound}
 use Rattle.jute.proofs.Judged.{judged_named}
-use Rattle.txn_codec.specs.Endings.{is_trailer, trailer_format, trailer_if, with_trailer, with_trailer_if, last_at, or_end, lists_nothing, listed_paths, closing_format, closing_if, front_value, AgainstFront, front_of_buffer, in_buffer}
+use Rattle.txn_codec.specs.Endings.{is_trailer, trailer_format, trailer_if, with_trailer, with_trailer_if, last_at, or_end, front_value, AgainstFront, front_of_buffer, in_buffer}
 
 -- ---- the digest of the leader's tree
 
@@ -137,76 +137,15 @@ module _ (f : Format ℤ) (s : IsSoundAtEnd f) (minus : f.Fits (negsuc 0)) where
     writable = s.writable;
   }
 
--- ---- the end of a session
-
-listed_at_end : IsSoundAtEnd listed_paths
-listed_at_end = trailer_sound (vector_of text_format) (vector_sound text_format text_sound)
-
-abbrev pass : {A : Type 0} → A × List ℕ → Result (Unit {0} × List ℕ) Fault
-pass a = Ok (tt, a.1)
-
-passed : {A : Type 0} (r : Result (A × List ℕ) Fault) (v : Unit {0}) (rest : List ℕ) → (r >>= pass) ≡ Ok (v, rest)
-    → (a : A) × (r ≡ Ok (a, rest))
-passed {A} (Ok a) v rest e = (
-  a.0,
-  ap (λ (y : Unit {0} × List ℕ). let r : Result (A × List ℕ) Fault = Ok (a.0, y.1) in r) (ok_is (tt, a.1) (v, rest) e),
-)
-passed (Err e) v rest h = absurd cc
-
-unpassed : {A : Type 0} (r : Result (A × List ℕ) Fault) (e : Fault) → (r >>= pass) ≡ Err e → r ≡ Err e
-unpassed (Ok a) e h = absurd cc
-unpassed (Err d) e h = cc
-
-abbrev closing_by : Bool → List ℕ → Result (Unit {0} × List ℕ) Fault
-closing_by true bytes = Ok (tt, [])
-closing_by false bytes = listed_paths.read bytes >>= pass
-
-closing_takes : (nothing : Bool) (bytes : List ℕ) (v : Unit {0}) (rest : List ℕ) → lists_nothing bytes ≡ nothing
-    → IsBytes bytes → closing_by nothing bytes ≡ Ok (v, rest) → TakesSpelling closing_format bytes v rest
-closing_takes true bytes v rest is fits e =
-    let made : TakesSpelling closing_format bytes tt [] =
-    record { text = bytes; parts = sym (append-nil bytes); spells = inl is; rest_fits = λ i. omega arith } in
-    subst (λ (y : Unit {0} × List ℕ). TakesSpelling closing_format bytes y.0 y.1) (ok_is (tt, []) (v, rest) e) made
-closing_takes false bytes v rest is fits e =
-    let p = passed (listed_paths.read bytes) v rest e in
-    let t = listed_at_end.takes bytes p.0 rest fits p.1 in
-    record { text = t.text; parts = t.parts; spells = inr (p.0, t.spells); rest_fits = t.rest_fits }
-
-closing_again : (nothing : Bool) (bytes : List ℕ) → lists_nothing bytes ≡ nothing → closing_format.Spells tt bytes
-    → closing_by nothing bytes ≡ Ok (tt, [])
-closing_again true bytes is s = refl
-closing_again false bytes is (inl s) = absurd cc
-closing_again false bytes is (inr s) = rw (listed_at_end.again s.0 bytes s.1) refl
-
-closing_names : (nothing : Bool) (bytes : List ℕ) (e : Fault) → lists_nothing bytes ≡ nothing → IsBytes bytes
-    → closing_by nothing bytes ≡ Err e → closing_format.against e bytes
-closing_names true bytes e is fits h = absurd (not_refused (tt, []) e h)
-closing_names false bytes e is fits h =
-    (is, listed_at_end.named.names bytes e fits (unpassed (listed_paths.read bytes) e h))
-
-closing_is : (nothing : Bool) (bytes : List ℕ) → lists_nothing bytes ≡ nothing
-    → closing_format.read bytes ≡ closing_by nothing bytes
-closing_is true bytes is = rw is refl
-closing_is false bytes is = rw is refl
-
-pub closing_at_end : IsSoundAtEnd closing_format
-closing_at_end = record {
-  takes = λ bytes v rest fits e. closing_takes (lists_nothing bytes) bytes v rest refl fits
-      (sym (closing_is (lists_nothing bytes) bytes refl) ∙ e);
-  again = λ v text s. closing_is (lists_nothing text) text refl ∙ closing_again (lists_nothing text) text refl s;
-  writes = λ v h. inl refl;
-  named = record {
-    names = λ bytes e fits h. closing_names (lists_nothing bytes) bytes e refl fits
-        (sym (closing_is (lists_nothing bytes) bytes refl) ∙ h);
-    answers = λ bytes e s. rw (s.0, listed_at_end.named.answers bytes e s.1) refl;
-  };
-  limited = λ v text s. tt;
-  writable = λ v h. tt;
-}
-
-pub closing_if_sound : (are_listed : Bool) → IsSoundAtEnd (closing_if are_listed)
-closing_if_sound false = empty_at_end
-closing_if_sound true = closing_at_end
+-- A digest or nothing is read to the end.
+pub ended : {A : Type 0} (f : Format A) (bytes : List ℕ) (v : A) (rest : List ℕ)
+    → (with_trailer f).read bytes ≡ Ok (v, rest) → rest ≡ []
+ended {A} f bytes v rest e =
+    let a = bind_ok (f.read bytes) (then_trailer true) (v, rest) (sym (trailed true f bytes) ∙ e) in
+    let b = bind_ok (trailer_format.read a.0.1) (keep a.0.0) (v, rest) a.2 in
+    let g = guard_ended (is_trailer a.0.1) TrailingBytes (tt, []) b.0 b.1 in
+    sym (ap (λ (y : A × List ℕ). y.1) (ok_is (a.0.0, b.0.1) (v, rest) b.2))
+    ∙ sym (ap (λ (y : Unit {0} × List ℕ). y.1) g.1)
 
 -- ---- buffers of which the front counts
 

@@ -6,6 +6,8 @@ pub mod Slashes
 pub mod Endings
 -- Fields and records are sound.
 pub mod Spelled
+-- The end of a session is sound.
+pub mod Closing
 -- Operations, parts, bodies and transactions are sound.
 pub mod Bodies
 -- The results of `decode_txn`, and the field that a refusal names.

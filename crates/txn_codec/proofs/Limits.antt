@@ -4,6 +4,8 @@ use Rattle.std.specs.Prelude.{ℤ, IfOk, IsTrue, not}
 use Rattle.std.specs.List.{AllByRecursion}
 use Rattle.std.proofs.lemmas.List.Elements.{All-from_recursion}
 use Rattle.values.specs.declared.fault.ReadError.{ReadError}
+use Rattle.settings.specs.Dialects.{reads_of}
+use Rattle.settings.specs.declared.dialect.Dialect.{Dialect}
 use Rattle.settings.specs.declared.dialect.Reads.{Reads}
 use Rattle.jute.specs.Format.{Format, int, SpellsEach, or_empty, vector_of}
 use Rattle.jute.proofs.Public.{ok_is}
@@ -19,8 +21,10 @@ use Rattle.txn_codec.specs.declared.txn.Txn.{Txn}
 use Rattle.txn_codec.specs.Kinds.{operation_kind, body_kind}
 use Rattle.txn_codec.specs.Parents.{HasParent, HaveParents}
 use Rattle.txn_codec.specs.Paths.{is_child_path}
-use Rattle.txn_codec.specs.Spelling.{child_path, last_field, created, operation_format, is_lenient, part_in, parts_in, has_own_end, body_fields, body_in, txn_in}
+use Rattle.txn_codec.specs.Fields.{child_path}
+use Rattle.txn_codec.specs.Spelling.{last_field, created, operation_format, is_lenient, part_in, parts_in, has_own_end, body_fields, body_in, txn_in}
 use Rattle.txn_codec.proofs.Bodies.{txn_at_end}
+use Rattle.txn_codec.proofs.Closing.{closing_children}
 use Rattle.txn_codec.proofs.Endings.{before_trailer, buffered}
 use Rattle.txn_codec.proofs.Spelled.{tested_is}
 
@@ -87,7 +91,9 @@ module _ (reads : Reads) where
       subst HaveParents (ok_is (bodies.Multi s.0) b s.1) (All-from_recursion HasParent s.0
       (subst (AllByRecursion HasParent) (ok_is (or_empty s.2.0) s.0 s.2.1) (parts_parents s.2.0 text s.2.2)))
   fields_parents kinds.CreateSession b text s = subst HaveParents (ok_is (bodies.CreateSession s.0) b s.1) tt
-  fields_parents kinds.CloseSession b text s = subst HaveParents (ok_is bodies.CloseSession b s.1) tt
+  fields_parents kinds.CloseSession b text s =
+      subst HaveParents (ok_is (bodies.CloseSession s.0) b s.1) (All-from_recursion (λ path. IsTrue (is_child_path path))
+      s.0 (closing_children reads.lists_paths s.0 text s.2))
 
   body_parents : (b : Body) (text : List ℕ) → (body_in reads).Spells b text → HaveParents b
   body_parents b text s =
@@ -95,19 +101,20 @@ module _ (reads : Reads) where
       s.1 s.4 in
       fields_parents (body_kind b) b fields.0 fields.1
 
-  -- ---- the tests of the code
+-- ---- the tests of the code
 
-  pub decoded_fits : (bytes : List ℕ) (r : Result Txn ReadError) → IfOk r (λ t. (txn_in reads).Spells t bytes)
-      → IfOk r (λ t. (txn_in reads).Fits t)
-  decoded_fits bytes (Ok t) s = (txn_at_end reads).limited t bytes s
+module _ (dialect : Dialect) where
+  pub decoded_fits : (bytes : List ℕ) (r : Result Txn ReadError) → IfOk r (λ t. (txn_in dialect).Spells t bytes)
+      → IfOk r (λ t. (txn_in dialect).Fits t)
+  decoded_fits bytes (Ok t) s = (txn_at_end dialect).limited t bytes s
   decoded_fits bytes (Err e) s = tt
 
-  pub decoded_writable : (r : Result Txn ReadError) → IfOk r (λ t. (txn_in reads).Fits t)
-      → IfOk r (λ t. (txn_in reads).Writable t)
-  decoded_writable (Ok t) h = (txn_at_end reads).writable t h
+  pub decoded_writable : (r : Result Txn ReadError) → IfOk r (λ t. (txn_in dialect).Fits t)
+      → IfOk r (λ t. (txn_in dialect).Writable t)
+  decoded_writable (Ok t) h = (txn_at_end dialect).writable t h
   decoded_writable (Err e) h = tt
 
-  pub decoded_parents : (bytes : List ℕ) (r : Result Txn ReadError) → IfOk r (λ t. (txn_in reads).Spells t bytes)
+  pub decoded_parents : (bytes : List ℕ) (r : Result Txn ReadError) → IfOk r (λ t. (txn_in dialect).Spells t bytes)
       → IfOk r (λ t. HaveParents t.body)
-  decoded_parents bytes (Ok t) s = body_parents t.body s.1 s.4
+  decoded_parents bytes (Ok t) s = body_parents (reads_of dialect) t.body s.1 s.4
   decoded_parents bytes (Err e) s = tt

@@ -5,7 +5,7 @@ use Rattle.values.specs.declared.fault.Fault.{Fault}
 use Rattle.values.specs.declared.fault.Fault.TheVariants.{TrailingBytes}
 use Rattle.values.specs.declared.fault.ReadError.{ReadError}
 use Rattle.values.specs.declared.fault.ReadError.TheVariants as errors
-use Rattle.settings.specs.declared.dialect.Reads.{Reads}
+use Rattle.settings.specs.declared.dialect.Dialect.{Dialect}
 use Rattle.jute.specs.Laws.{IsBytes}
 use Rattle.jute.specs.Reads.{ReadsOwnedWhole}
 use Rattle.jute.specs.Sums.{whole_value as whole_by}
@@ -18,39 +18,39 @@ use Rattle.txn_codec.proofs.Bodies.{txn_at_end}
 left_over : (rest : List ℕ) → eqb (length rest) 0 ≡ false → rest ≢ []
 left_over rest h none = let empty : eqb (length rest) 0 ≡ true = ap (λ (l : List ℕ). eqb (length l) 0) none in absurd cc
 
-module _ (reads : Reads) where
+module _ (dialect : Dialect) where
   -- ---- read and spelled transactions
 
-  pub spelled_again : (bytes : List ℕ) (t : Txn) → (txn_in reads).Spells t bytes
-      → value_of_whole (txn_in reads) bytes ≡ Ok t
-  spelled_again bytes t s = whole_again (txn_in reads) bytes t ((txn_at_end reads).again t bytes s)
+  pub spelled_again : (bytes : List ℕ) (t : Txn) → (txn_in dialect).Spells t bytes
+      → value_of_whole (txn_in dialect) bytes ≡ Ok t
+  spelled_again bytes t s = whole_again (txn_in dialect) bytes t ((txn_at_end dialect).again t bytes s)
 
-  pub written_again : (t : Txn) → (txn_in reads).Fits t
-      → value_of_whole (txn_in reads) ((txn_in reads).written t) ≡ Ok t
-  written_again t h = spelled_again ((txn_in reads).written t) t ((txn_at_end reads).writes t h)
+  pub written_again : (t : Txn) → (txn_in dialect).Fits t
+      → value_of_whole (txn_in dialect) ((txn_in dialect).written t) ≡ Ok t
+  written_again t h = spelled_again ((txn_in dialect).written t) t ((txn_at_end dialect).writes t h)
 
-  refused_spells : (bytes : List ℕ) (e : Fault) → value_of_whole (txn_in reads) bytes ≡ Err e → (t : Txn)
-      → (txn_in reads).Spells t bytes → ⊥
+  refused_spells : (bytes : List ℕ) (e : Fault) → value_of_whole (txn_in dialect) bytes ≡ Err e → (t : Txn)
+      → (txn_in dialect).Spells t bytes → ⊥
   refused_spells bytes e h t s = not_refused t e (sym (spelled_again bytes t s) ∙ h)
 
   -- ---- refusals
 
   -- Where a transaction was read, every field is spelled.
-  fine_read : (bytes rest : List ℕ) (t : Txn) → (txn_in reads).read bytes ≡ Ok (t, rest) → (e : Fault)
-      → (txn_in reads).against e bytes → ⊥
+  fine_read : (bytes rest : List ℕ) (t : Txn) → (txn_in dialect).read bytes ≡ Ok (t, rest) → (e : Fault)
+      → (txn_in dialect).against e bytes → ⊥
   fine_read bytes rest t h e against =
-      not_refused (t, rest) e (sym h ∙ (txn_at_end reads).named.answers bytes e against)
+      not_refused (t, rest) e (sym h ∙ (txn_at_end dialect).named.answers bytes e against)
 
-  pub refusal_names : (bytes : List ℕ) (e : Fault) → IsBytes bytes → value_of_whole (txn_in reads) bytes ≡ Err e
-      → AgainstIn reads e bytes
+  pub refusal_names : (bytes : List ℕ) (e : Fault) → IsBytes bytes → value_of_whole (txn_in dialect) bytes ≡ Err e
+      → AgainstIn dialect e bytes
   unfolding whole_by
   refusal_names bytes e fits h =
-      elim (bind_err ((txn_in reads).read bytes)
+      elim (bind_err ((txn_in dialect).read bytes)
       (λ (v : Txn × List ℕ). cond (eqb (length v.1) 0) (Ok v.0) (Err TrailingBytes)) e
       h) [
-        | inl first ↦ inl ((txn_at_end reads).named.names bytes e fits first)
+        | inl first ↦ inl ((txn_at_end dialect).named.names bytes e fits first)
         | inr later ↦
-            let t = (txn_at_end reads).takes bytes later.0.0 later.0.1 fits later.1 in
+            let t = (txn_at_end dialect).takes bytes later.0.0 later.0.1 fits later.1 in
             let g = guard_refused (eqb (length later.0.1) 0) TrailingBytes e later.0.0 later.2 in
             inr (
               sym g.1,
@@ -62,50 +62,50 @@ module _ (reads : Reads) where
             )
       ]
 
-  field_answers : (bytes : List ℕ) (e : Fault) → (txn_in reads).against e bytes
-      → value_of_whole (txn_in reads) bytes ≡ Err e
+  field_answers : (bytes : List ℕ) (e : Fault) → (txn_in dialect).against e bytes
+      → value_of_whole (txn_in dialect) bytes ≡ Err e
   unfolding whole_by
-  field_answers bytes e h = rw ((txn_at_end reads).named.answers bytes e h) refl
+  field_answers bytes e h = rw ((txn_at_end dialect).named.answers bytes e h) refl
 
-  trailing_answers : (r : Result Txn Fault) (bytes : List ℕ) → IsBytes bytes → value_of_whole (txn_in reads) bytes ≡ r
-      → HasTrailing reads bytes
+  trailing_answers : (r : Result Txn Fault) (bytes : List ℕ) → IsBytes bytes → value_of_whole (txn_in dialect) bytes ≡ r
+      → HasTrailing dialect bytes
       → r ≡ Err TrailingBytes
   trailing_answers (Ok t) bytes fits h s =
-      absurd (s.none t (whole_found (txn_in reads) (txn_at_end reads).takes bytes t fits h))
+      absurd (s.none t (whole_found (txn_in dialect) (txn_at_end dialect).takes bytes t fits h))
   trailing_answers (Err e) bytes fits h s = elim (refusal_names bytes e fits h) [
     | inl first ↦ absurd (s.fine e first)
     | inr last ↦ ap (λ (d : Fault). Err d) last.0
   ]
 
-  pub naming_answers : (bytes : List ℕ) (e : Fault) → IsBytes bytes → AgainstIn reads e bytes
-      → value_of_whole (txn_in reads) bytes ≡ Err e
+  pub naming_answers : (bytes : List ℕ) (e : Fault) → IsBytes bytes → AgainstIn dialect e bytes
+      → value_of_whole (txn_in dialect) bytes ≡ Err e
   naming_answers bytes e fits (inl h) = field_answers bytes e h
-  naming_answers bytes e fits (inr h) = trailing_answers (value_of_whole (txn_in reads) bytes) bytes fits refl h.1
+  naming_answers bytes e fits (inr h) = trailing_answers (value_of_whole (txn_in dialect) bytes) bytes fits refl h.1
       ∙ ap (λ (d : Fault). Err d) (sym h.0)
 
   -- ---- the contracts of the code
 
   pub decoded : (bytes : List ℕ) (r : Result Txn ReadError) → IsBytes bytes
-      → ReadsOwnedWhole (value_of_whole (txn_in reads) bytes) r
-      → IfOk r (λ t. (txn_in reads).Spells t bytes)
-  decoded bytes (Ok t) fits given = whole_found (txn_in reads) (txn_at_end reads).takes bytes t fits given
+      → ReadsOwnedWhole (value_of_whole (txn_in dialect) bytes) r
+      → IfOk r (λ t. (txn_in dialect).Spells t bytes)
+  decoded bytes (Ok t) fits given = whole_found (txn_in dialect) (txn_at_end dialect).takes bytes t fits given
   decoded bytes (Err e) fits given = tt
 
   pub decoded_only : (bytes : List ℕ) (r : Result Txn ReadError) (t : Txn)
-      → ReadsOwnedWhole (value_of_whole (txn_in reads) bytes) r
-      → (txn_in reads).Spells t bytes → ReadsOwnedWhole (Ok t) r
+      → ReadsOwnedWhole (value_of_whole (txn_in dialect) bytes) r
+      → (txn_in dialect).Spells t bytes → ReadsOwnedWhole (Ok t) r
   decoded_only bytes r t given s = subst (λ (x : Result Txn Fault). ReadsOwnedWhole x r) (spelled_again bytes t s) given
 
   pub refused_is_named : (bytes : List ℕ) (r : Result Txn ReadError) → IsBytes bytes
-      → ReadsOwnedWhole (value_of_whole (txn_in reads) bytes) r
-      → IfErr r (λ e. IfFault e (λ fault. AgainstIn reads fault bytes))
+      → ReadsOwnedWhole (value_of_whole (txn_in dialect) bytes) r
+      → IfErr r (λ e. IfFault e (λ fault. AgainstIn dialect fault bytes))
   refused_is_named bytes (Ok t) fits given = tt
   refused_is_named bytes (Err errors.NoMemory) fits given = tt
   refused_is_named bytes (Err (errors.Fault e)) fits given = refusal_names bytes e fits given
 
   pub refused_spells_none : (bytes : List ℕ) (r : Result Txn ReadError)
-      → ReadsOwnedWhole (value_of_whole (txn_in reads) bytes) r
-      → IfErr r (λ e. IfFault e (λ fault. (t : Txn) → (txn_in reads).Spells t bytes → ⊥))
+      → ReadsOwnedWhole (value_of_whole (txn_in dialect) bytes) r
+      → IfErr r (λ e. IfFault e (λ fault. (t : Txn) → (txn_in dialect).Spells t bytes → ⊥))
   refused_spells_none bytes (Ok t) given = tt
   refused_spells_none bytes (Err errors.NoMemory) given = tt
   refused_spells_none bytes (Err (errors.Fault e)) given = refused_spells bytes e given

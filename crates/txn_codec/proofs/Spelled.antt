@@ -6,6 +6,7 @@ use Rattle.std.specs.Ordering.{int_eq}
 use Rattle.std.proofs.lemmas.Bool.Decides.{Decides-int_eq}
 use Rattle.values.specs.declared.fault.Fault.{Fault}
 use Rattle.values.specs.declared.fault.Fault.TheVariants.{Short, BadPath, BadTxnType}
+use Rattle.settings.specs.declared.dialect.Dialect.{Dialect}
 use Rattle.settings.specs.declared.dialect.Reads.{Reads}
 use Rattle.jute.specs.Format.{Format, int, long, boolean, buffer, text_format, vector_of, pair_of}
 use Rattle.jute.specs.Laws.{IsSound, IsSoundAtEnd}
@@ -18,7 +19,8 @@ use Rattle.txn_codec.specs.declared.place.Place.TheVariants.{Alone, Part}
 use Rattle.txn_codec.specs.Kinds.{txn_kinds, kind_of, later_kind_of, kind_at, code_of, is_part_kind, part_kind_of}
 use Rattle.txn_codec.specs.Endings.{or_end, with_trailer_if}
 use Rattle.txn_codec.specs.Paths.{is_path, is_child_path}
-use Rattle.txn_codec.specs.Spelling.{tested_text, path_by, path_format, child_path, kind_in, part_kind_in, owner_if, with_flag, flagged, owner_format, fields_of, create_with, set_data, set_acl, check_format, txn_header}
+use Rattle.txn_codec.specs.Fields.{tested_text, path_by, path_format, child_path}
+use Rattle.txn_codec.specs.Spelling.{kind_in, part_kind_in, owner_if, with_flag, flagged, owner_format, fields_of, create_with, set_data, set_acl, check_format, header_of, numbers_of, header_in}
 use Rattle.txn_codec.proofs.Endings.{number_long, trailer_if_sound, last_at_end}
 
 -- ---- paths
@@ -186,6 +188,6 @@ set_acl_sound = mapped_sound _ _ _ (λ v. refl) (λ s. refl)
 pub check_sound : IsSound check_format
 check_sound = mapped_sound _ _ _ (λ v. refl) (λ c. refl) (both_sound path_format int (path_sound is_path) int_sound)
 
-pub header_sound : IsSound txn_header
-header_sound = mapped_sound _ _ _ (λ v. refl) (λ h. refl)
+pub header_sound : (rules : Dialect) → IsSound (header_in rules)
+header_sound rules = case_sound (header_of rules) numbers_of _ (λ v. refl)
     (both_sound long _ long_sound (both_sound int _ int_sound (both_sound long long long_sound long_sound)))

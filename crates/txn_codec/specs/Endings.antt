@@ -1,9 +1,12 @@
 -- The ends of transactions, which a leader spells in several ways; what is written is the shortest.
 use Rattle.std.specs.Prelude.{◌≡◌, ◌≢◌, ℕ, ℤ, negsuc, Bool, true, false, ◌&&◌, ◌||◌, ◌==◌, List, [], ◌∷◌, ◌++◌, length, get_or, Option, Some, None, Result, Ok, Err, IsTrue, IsFalse, ◌<◌, ◌^◌, ◌≤◌, ◌⊎◌, if◌then◌else◌}
+use Rattle.std.specs.List.{flat_map}
 use Rattle.values.specs.declared.fault.Fault.{Fault}
 use Rattle.values.specs.declared.fault.Fault.TheVariants.{Short, TrailingBytes}
-use Rattle.jute.specs.Format.{Format, ◌>>=◌, SpellsFront, judged_at, int, buffer, buffer_at, buffer_limit, text_format, vector_of, pair_of}
+use Rattle.jute.specs.Format.{Format, ◌>>=◌, SpellsFront, judged_at, int, buffer, buffer_at, buffer_limit, text_format, vector_of, or_empty, pair_of}
 use Rattle.jute.specs.Sums.{empty_format, held_value, held_in_buffer}
+use Rattle.txn_codec.specs.Paths.{is_child_path}
+use Rattle.txn_codec.specs.Fields.{child_path}
 
 -- ---- the digest of the leader's tree
 
@@ -71,24 +74,54 @@ starts_as_digest bytes =
 abbrev pub lists_nothing : List ℕ → Bool
 lists_nothing bytes = length bytes == 0 || length bytes == digest_length && starts_as_digest bytes
 
--- The paths of the session's ephemeral nodes, and a digest or nothing after them.
-abbrev pub listed_paths : Format (Option (List (Option (List ℕ))))
-listed_paths = with_trailer (vector_of text_format)
+-- Texts, and a digest or nothing after them.
+abbrev pub Texts : Type 0
+Texts = Option (List (Option (List ℕ)))
 
--- The list is passed over: the tree knows the session's nodes.
-abbrev pub closing_format : Format (Unit {0})
+abbrev pub listed_texts : Format Texts
+listed_texts = with_trailer (vector_of text_format)
+
+-- The path, if the text is that of a node that has a parent.
+abbrev pub listed_path : Option (List ℕ) → List (List ℕ)
+listed_path None = []
+listed_path (Some text) = if is_child_path text then text ∷ [] else []
+
+-- The paths among the texts; other texts aren't counted.
+abbrev pub listed_paths : Texts → List (List ℕ)
+listed_paths texts = flat_map listed_path (or_empty texts)
+
+abbrev pub with_paths : Texts × List ℕ → Result (List (List ℕ) × List ℕ) Fault
+with_paths a = Ok (listed_paths a.0, a.1)
+
+abbrev pub closing_bytes : List (List ℕ) → List ℕ
+closing_bytes [] = []
+closing_bytes (path ∷ paths) = (vector_of child_path).written (Some (path ∷ paths))
+
+-- The paths of the session's ephemeral nodes, and a digest or nothing after them; or no list.
+abbrev pub closing_format : Format (List (List ℕ))
 closing_format = record {
-  Spells = λ v bytes. IsTrue (lists_nothing bytes)
-      ⊎ ((paths : Option (List (Option (List ℕ)))) × listed_paths.Spells paths bytes);
-  written = λ v. [];
-  Fits = λ v. Unit {0};
-  Writable = λ v. Unit {0};
-  read = λ bytes. if lists_nothing bytes then Ok (tt, []) else listed_paths.read bytes >>= λ a. Ok (tt, a.1);
-  against = λ e bytes. IsFalse (lists_nothing bytes) × listed_paths.against e bytes;
+  Spells = λ v bytes. (IsTrue (lists_nothing bytes) × (v ≡ []))
+      ⊎ ((texts : Texts) × IsFalse (lists_nothing bytes) × (v ≡ listed_paths texts) × listed_texts.Spells texts bytes);
+  written = closing_bytes;
+  Fits = λ v. (vector_of child_path).Fits (Some v);
+  Writable = λ v. (vector_of child_path).Writable (Some v);
+  read = λ bytes. if lists_nothing bytes then Ok ([], []) else listed_texts.read bytes >>= with_paths;
+  against = λ e bytes. IsFalse (lists_nothing bytes) × listed_texts.against e bytes;
 }
 
-abbrev pub closing_if : Bool → Format (Unit {0})
-closing_if false = empty_format
+-- No list.
+abbrev pub unlisted_format : Format (List (List ℕ))
+unlisted_format = record {
+  Spells = λ v bytes. (v ≡ []) × (bytes ≡ []);
+  written = closing_bytes;
+  Fits = λ v. v ≡ [];
+  Writable = λ v. (vector_of child_path).Writable (Some v);
+  read = λ bytes. Ok ([], bytes);
+  against = λ e bytes. ⊥;
+}
+
+abbrev pub closing_if : Bool → Format (List (List ℕ))
+closing_if false = unlisted_format
 closing_if true = closing_format
 
 -- ---- buffers of which the front counts

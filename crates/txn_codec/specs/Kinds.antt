@@ -79,7 +79,7 @@ body_kind (bodies.Single o) = operation_kind o
 body_kind (bodies.SetAcl s) = kinds.SetAcl
 body_kind (bodies.Multi ps) = kinds.Multi
 body_kind (bodies.CreateSession timeout) = kinds.CreateSession
-body_kind bodies.CloseSession = kinds.CloseSession
+body_kind (bodies.CloseSession listed) = kinds.CloseSession
 
 -- Whether a part of a multi may have this type.
 abbrev pub is_part_kind : TxnKind → Bool

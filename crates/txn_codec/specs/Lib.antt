@@ -1,6 +1,7 @@
 pub mod Acls
 pub mod Paths
 pub mod Kinds
+pub mod Fields
 pub mod Endings
 pub mod Spelling
 pub mod Parents

@@ -3,6 +3,7 @@ use Rattle.std.specs.Prelude.{ℕ, ℤ, List, Option, Some, None, Result, Ok, Er
 use Rattle.values.specs.declared.fault.Fault.{Fault}
 use Rattle.values.specs.declared.fault.Fault.TheVariants.{BadPath, BadTxnType}
 use Rattle.settings.specs.Dialects.{reads_of}
+use Rattle.settings.specs.declared.dialect.Dialect.{Dialect}
 use Rattle.settings.specs.declared.dialect.Dialect.TheVariants.{Zk34}
 use Rattle.settings.specs.declared.dialect.Reads.{Reads}
 use Rattle.jute.specs.Format.{Format, int, long, boolean, buffer, text_format, vector_of, pair_of, mapped_format, judged_format, case_of, or_null}
@@ -27,24 +28,10 @@ use Rattle.txn_codec.specs.declared.txn.Body.TheVariants as bodies
 use Rattle.txn_codec.specs.declared.txn.Txn.{Txn}
 use Rattle.txn_codec.specs.Paths.{is_path, is_child_path}
 use Rattle.txn_codec.specs.Kinds.{kind_at, code_of, part_kind_of, operation_kind, body_kind}
+use Rattle.txn_codec.specs.Fields.{path_by, path_format, child_path}
 use Rattle.txn_codec.specs.Endings.{or_end, with_trailer_if, closing_if, in_buffer}
 
 -- ---- fields
-
--- A text that passes a test; null passes none.
-abbrev pub tested_text : (List ℕ → Bool) → Option (List ℕ) → Result (List ℕ) Fault
-tested_text test None = Err BadPath
-tested_text test (Some p) = if test p then Ok p else Err BadPath
-
-abbrev pub path_by : (List ℕ → Bool) → Format (List ℕ)
-path_by test = judged_format (tested_text test) (λ p. Some (Some p)) text_format
-
-abbrev pub path_format : Format (List ℕ)
-path_format = path_by is_path
-
--- The path of a node that has a parent.
-abbrev pub child_path : Format (List ℕ)
-child_path = path_by is_child_path
 
 -- The last field of a create, which may be missing outside a multi.
 abbrev pub int_or_end : Format ℤ
@@ -142,11 +129,18 @@ abbrev pub check_format : Format Check
 check_format = mapped_format (λ v. record { path = v.0; version = v.1 }) (λ s. (s.path, s.version))
     (pair_of path_format int)
 
-abbrev pub txn_header : Format TxnHeader
-txn_header = mapped_format
-    (λ v. record { client_id = v.0; cxid = v.1.0; zxid = v.1.1.0; time = v.1.1.1 })
-    (λ h. (h.client_id, (h.cxid, (h.zxid, h.time))))
-    (pair_of long (pair_of int (pair_of long long)))
+-- The numbers of a header are spelled. The rules are those of the leader's dialect.
+abbrev pub HeaderNumbers : Type 0
+HeaderNumbers = ℤ × (ℤ × (ℤ × ℤ))
+
+abbrev pub header_of : Dialect → HeaderNumbers → TxnHeader
+header_of rules v = record { client_id = v.0; cxid = v.1.0; zxid = v.1.1.0; time = v.1.1.1; rules = rules }
+
+abbrev pub numbers_of : TxnHeader → Option HeaderNumbers
+numbers_of h = Some (h.client_id, (h.cxid, (h.zxid, h.time)))
+
+abbrev pub header_in : Dialect → Format TxnHeader
+header_in rules = case_of (header_of rules) numbers_of (pair_of long (pair_of int (pair_of long long)))
 
 -- ---- operations after their type; a create's last field is a parameter
 
@@ -229,8 +223,8 @@ abbrev pub as_session : Body → Option ℤ
 as_session (bodies.CreateSession timeout) = Some timeout
 as_session b = None
 
-abbrev pub as_close : Body → Option (Unit {0})
-as_close bodies.CloseSession = Some tt
+abbrev pub as_close : Body → Option (List (List ℕ))
+as_close (bodies.CloseSession listed) = Some listed
 as_close b = None
 
 abbrev pub single_body : Reads → TxnKind → Format Body
@@ -240,7 +234,7 @@ abbrev pub body_fields : Reads → TxnKind → Format Body
 body_fields reads kinds.SetAcl = case_of bodies.SetAcl as_set_acl set_acl
 body_fields reads kinds.Multi = case_of bodies.Multi as_multi (parts_in reads)
 body_fields reads kinds.CreateSession = case_of bodies.CreateSession as_session int
-body_fields reads kinds.CloseSession = case_of (λ none. bodies.CloseSession) as_close (closing_if reads.lists_paths)
+body_fields reads kinds.CloseSession = case_of bodies.CloseSession as_close (closing_if reads.lists_paths)
 body_fields reads k = single_body reads k
 
 -- A digest after these isn't told by the bytes that are left alone, so their last fields have it.
@@ -257,14 +251,17 @@ body_in reads = tagged_format (kind_in reads Alone) body_kind (body_content read
 
 -- ---- transactions
 
-abbrev pub txn_in : Reads → Format Txn
-txn_in reads = mapped_format (λ v. record { header = v.0; body = v.1 }) (λ t. (t.header, t.body))
-    (pair_of txn_header (body_in reads))
+abbrev pub txn_in : Dialect → Format Txn
+txn_in dialect = mapped_format (λ v. record { header = v.0; body = v.1 }) (λ t. (t.header, t.body))
+    (pair_of (header_in dialect) (body_in (reads_of dialect)))
 
 -- ---- those of ZooKeeper 3.4
 
 abbrev pub earlier : Reads
 earlier = reads_of Zk34
+
+abbrev pub txn_header : Format TxnHeader
+txn_header = header_in Zk34
 
 abbrev pub kind_format : Format TxnKind
 kind_format = kind_in earlier Alone
@@ -286,7 +283,7 @@ abbrev pub body_format : Format Body
 body_format = body_in earlier
 
 abbrev pub txn_format : Format Txn
-txn_format = txn_in earlier
+txn_format = txn_in Zk34
 
 -- A value that is spelled by all of the bytes.
 abbrev pub value_of_whole : {A : Type 0} → Format A → List ℕ → Result A Fault

@@ -1,16 +1,16 @@
 //! Reading transactions field by field.
 
 ghost use Rattle.std.specs.Prelude.{◌≡◌, IfOk, IfErr, Ok, Some};
-ghost use Rattle.settings.specs.Dialects.{reads_of};
 ghost use Rattle.jute.specs.Reads.{ReadsOwned, ReadsOwnedWhole};
 ghost use Rattle.jute.specs.Format.{int, read_n};
 ghost use Rattle.txn_codec.specs.Endings.{value_in_buffer};
-ghost use Rattle.txn_codec.specs.Spelling.{path_format, child_path, last_field, kind_in, part_kind_in, flagged, timed, owner_format, create_with, created, create_format, set_data as set_data_format, set_acl as set_acl_format, check_format, txn_header as header_format, operation_format, is_lenient, multi_part, part_content, part_in, parts_in, body_fields, body_content, body_in, txn_in, txn_format, value_of_whole};
+ghost use Rattle.txn_codec.specs.Fields.{path_format, child_path};
+ghost use Rattle.txn_codec.specs.Spelling.{last_field, kind_in, part_kind_in, flagged, timed, owner_format, create_with, created, create_format, set_data as set_data_format, set_acl as set_acl_format, check_format, header_in, operation_format, is_lenient, multi_part, part_content, part_in, parts_in, body_fields, body_content, body_in, txn_in, txn_format, value_of_whole};
 ghost use Rattle.txn_codec.specs.Parents.{HaveParents};
 ghost use Rattle.txn_codec.specs.Refusals.{IfFault, AgainstIn, AgainstTxn};
 ghost use Rattle.txn_codec.specs.declared.txn.Txn.{Txn as TheTxn};
 
-use crate::ending::{pass_closing, pass_trailer};
+use crate::ending::{pass_trailer, read_closing};
 use crate::kind::TxnKind;
 use crate::path::Path;
 use crate::place::Place;
@@ -66,23 +66,24 @@ fn read_part_kind(reads: Reads, reader: &mut Reader<'_>) -> Result<TxnKind, Read
     Ok(kind)
 }
 
-impl<'a> ReadRecord<'a> for TxnHeader {
-    ghost read_of = { header_format.read };
-
-    fn read(_alloc: Global, reader: &mut Reader<'a>) -> Result<TxnHeader, ReadError> {
-        let mut ahead = reader.ahead();
-        let client_id = ahead.read_long()?;
-        let cxid = ahead.read_int()?;
-        let zxid = ahead.read_long()?;
-        let time = ahead.read_long()?;
-        *reader = ahead;
-        Ok(TxnHeader {
-            client_id,
-            cxid,
-            zxid,
-            time,
-        })
-    }
+// The header of a transaction that is applied by these rules.
+#[tactic(auto, unfolding(jute::specs::Format::judged_at))]
+fn read_header(rules: Dialect, reader: &mut Reader<'_>) -> Result<TxnHeader, ReadError>
+    ensures { ReadsOwned (header_in rules).read (λ h. h) result reader.old reader.new }
+{
+    let mut ahead = reader.ahead();
+    let client_id = ahead.read_long()?;
+    let cxid = ahead.read_int()?;
+    let zxid = ahead.read_long()?;
+    let time = ahead.read_long()?;
+    *reader = ahead;
+    Ok(TxnHeader {
+        client_id,
+        cxid,
+        zxid,
+        time,
+        rules,
+    })
 }
 
 // The last field of a create. In an operation outside a multi it may be missing, which means -1.
@@ -405,8 +406,7 @@ fn read_fields(
         TxnKind::Multi => Ok(Body::Multi(read_parts(reads, alloc, reader)?)),
         TxnKind::CreateSession => Ok(Body::CreateSession(reader.read_int()?)),
         TxnKind::CloseSession => {
-            pass_closing(reads.lists_paths, alloc, reader)?;
-            Ok(Body::CloseSession)
+            Ok(Body::CloseSession(read_closing(reads.lists_paths, alloc, reader)?))
         }
     }
 }
@@ -439,22 +439,22 @@ fn read_body(reads: Reads, alloc: Global, reader: &mut Reader<'_>) -> Result<Bod
     Ok(body)
 }
 
-fn read_txn(reads: Reads, alloc: Global, reader: &mut Reader<'_>) -> Result<Txn, ReadError>
-    ensures { ReadsOwned (txn_in reads).read (λ t. t) result reader.old reader.new }
+fn read_txn(dialect: Dialect, alloc: Global, reader: &mut Reader<'_>) -> Result<Txn, ReadError>
+    ensures { ReadsOwned (txn_in dialect).read (λ t. t) result reader.old reader.new }
 {
     let mut ahead = reader.ahead();
-    let header = TxnHeader::read(alloc, &mut ahead)?;
-    let body = read_body(reads, alloc, &mut ahead)?;
+    let header = read_header(dialect, &mut ahead)?;
+    let body = read_body(dialect.reads(), alloc, &mut ahead)?;
     *reader = ahead;
     Ok(Txn { header, body })
 }
 
 #[tactic(auto, unfolding(jute::specs::Sums::whole_value))]
-fn read_whole(reads: Reads, alloc: Global, bytes: &[u8]) -> Result<Txn, ReadError>
-    ensures { ReadsOwnedWhole (value_of_whole (txn_in reads) bytes.now) result }
+fn read_whole(dialect: Dialect, alloc: Global, bytes: &[u8]) -> Result<Txn, ReadError>
+    ensures { ReadsOwnedWhole (value_of_whole (txn_in dialect) bytes.now) result }
 {
     let mut ahead = Reader::new(bytes);
-    let txn = read_txn(reads, alloc, &mut ahead)?;
+    let txn = read_txn(dialect, alloc, &mut ahead)?;
     if !ahead.rest().is_empty() {
         return Err(ReadError::Fault(Fault::TrailingBytes));
     }
@@ -462,26 +462,27 @@ fn read_whole(reads: Reads, alloc: Global, bytes: &[u8]) -> Result<Txn, ReadErro
 }
 
 /// Decodes a transaction from all of the bytes, as [`decode_txn`] does, in this dialect. In a later one a digest of the
-/// leader's tree may follow the transaction, and the paths of a session's nodes may follow its end; neither is kept.
+/// leader's tree may follow the transaction, which isn't kept, and the paths of a session's nodes may follow its end,
+/// which are. The header has the dialect as the rules by which the transaction is applied.
 pub fn decode_txn_in(dialect: Dialect, alloc: Global, bytes: &[u8]) -> Result<Txn, ReadError>
     // What is read was spelled so.
-    ensures found { IfOk result (λ t. (txn_in (reads_of dialect)).Spells t bytes.now) }
+    ensures found { IfOk result (λ t. (txn_in dialect).Spells t bytes.now) }
     // A spelling is read, unless an allocation is refused.
-    ensures only { (t : TheTxn) → (txn_in (reads_of dialect)).Spells t bytes.now → ReadsOwnedWhole (Ok t) result }
+    ensures only { (t : TheTxn) → (txn_in dialect).Spells t bytes.now → ReadsOwnedWhole (Ok t) result }
     // The result is that of the definition.
-    ensures exact { ReadsOwnedWhole (value_of_whole (txn_in (reads_of dialect)) bytes.now) result }
+    ensures exact { ReadsOwnedWhole (value_of_whole (txn_in dialect) bytes.now) result }
     // The bytes of a refusal spell no transaction.
     ensures none { IfErr result (λ e. IfFault e (λ fault.
-        (t : TheTxn) → (txn_in (reads_of dialect)).Spells t bytes.now → ⊥)) }
+        (t : TheTxn) → (txn_in dialect).Spells t bytes.now → ⊥)) }
     // A refusal names the first field that isn't spelled.
-    ensures named { IfErr result (λ e. IfFault e (λ fault. AgainstIn (reads_of dialect) fault bytes.now)) }
+    ensures named { IfErr result (λ e. IfFault e (λ fault. AgainstIn dialect fault bytes.now)) }
     // What is read is within the limits, so it may be written and is read back.
-    ensures fits { IfOk result (λ t. (txn_in (reads_of dialect)).Fits t) }
-    ensures writable { IfOk result (λ t. (txn_in (reads_of dialect)).Writable t) }
+    ensures fits { IfOk result (λ t. (txn_in dialect).Fits t) }
+    ensures writable { IfOk result (λ t. (txn_in dialect).Writable t) }
     // A node that is created or deleted isn't "/".
     ensures parents { IfOk result (λ t. HaveParents t.body) }
 {
-    read_whole(dialect.reads(), alloc, bytes)
+    read_whole(dialect, alloc, bytes)
 }
 
 /// Decodes a transaction of ZooKeeper 3.4 from all of the bytes: a TxnHeader and the body of its type (zookeeper.jute).

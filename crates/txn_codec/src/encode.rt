@@ -1,14 +1,17 @@
 //! Writing transactions.
 
-ghost use Rattle.std.specs.Prelude.{◌≡◌, ◌<◌, ◌^◌, length};
+ghost use Rattle.std.specs.Prelude.{◌≡◌, ◌<◌, ◌^◌, length, Some};
 ghost use Rattle.values.specs.Gains.{Puts};
 ghost use Rattle.jute.specs.Format.{buffer, vector_of};
 ghost use Rattle.jute.specs.Owned.{acl_format};
 ghost use Rattle.jute.specs.Sums.{held_in_buffer};
+ghost use Rattle.txn_codec.specs.Fields.{child_path};
+ghost use Rattle.txn_codec.specs.Endings.{closing_bytes};
 ghost use Rattle.txn_codec.specs.Inner.{owner_bytes, create_bytes};
 ghost use Rattle.txn_codec.specs.Spelling.{create_format, set_data as set_data_format, set_acl as set_acl_format, check_format, txn_header as header_format, kind_format, format_of_operation, multi_part as part_format, multi_parts as parts_format, format_of_body, txn_format};
 
 use crate::kind::TxnKind;
+use crate::path::Path;
 use crate::txn::{Body, Check, Create, Operation, Owner, SetAcl, SetData, Txn, TxnHeader};
 use jute::{
     WriteRecord, blob_len, items_len, put_blob, put_bool, put_int, put_items, put_string,
@@ -215,6 +218,46 @@ impl WriteRecord for Operation {
     }
 }
 
+impl WriteRecord for Path {
+    ghost format = { child_path };
+
+    #[tactic(auto, unfolding(jute::specs::Format::number_bytes))]
+    fn written_len(&self) -> usize {
+        4 + self.as_str().len()
+    }
+
+    fn write(&self, out: &mut Vec<u8>) -> Result<(), NoMemory> {
+        put_string(out, self.as_str())
+    }
+}
+
+// The length in bytes of the paths at the end of a session.
+#[tactic(auto, unfolding(jute::specs::Format::number_bytes))]
+fn closing_len(listed: &Listed<Path>) -> usize
+    requires writable { (vector_of child_path).Writable (Some listed.now) }
+    requires small { length (closing_bytes listed.now) < 2 ^ 63 }
+    ensures { result ≡ length (closing_bytes listed.now) }
+{
+    match listed.as_slice() {
+        [] => 0,
+        paths => 4 + items_len(paths),
+    }
+}
+
+// Appends the paths at the end of a session; nothing if there is none.
+fn put_closing(out: &mut Vec<u8>, listed: &Listed<Path>) -> Result<(), NoMemory>
+    requires { (vector_of child_path).Writable (Some listed.now) }
+    ensures { Puts result out.old.items (closing_bytes listed.now) out.new.items }
+{
+    match listed.as_slice() {
+        [] => return Ok(()),
+        paths => {
+            put_int(out, paths.len() as i32)?;
+            put_items(out, paths)
+        }
+    }
+}
+
 // The length in bytes of a transaction after its type.
 #[tactic(auto, unfolding(jute::specs::Format::number_bytes))]
 fn content_len(body: &Body) -> usize
@@ -227,7 +270,7 @@ fn content_len(body: &Body) -> usize
         Body::SetAcl(set_acl) => set_acl.written_len(),
         Body::Multi(parts) => 4 + items_len(parts.as_slice()),
         Body::CreateSession(_) => 4,
-        Body::CloseSession => 0,
+        Body::CloseSession(listed) => closing_len(listed),
     }
 }
 
@@ -250,7 +293,7 @@ fn put_content(out: &mut Vec<u8>, body: &Body) -> Result<(), NoMemory>
         Body::SetAcl(set_acl) => set_acl.write(out),
         Body::Multi(parts) => put_parts(out, parts),
         Body::CreateSession(timeout) => timeout.write(out),
-        Body::CloseSession => Ok(()),
+        Body::CloseSession(listed) => put_closing(out, listed),
     }
 }
 

@@ -6,6 +6,7 @@ ghost use Rattle.txn_codec.specs.Kinds.{create_kind, operation_kind, body_kind};
 use crate::kind::TxnKind;
 use crate::path::Path;
 use jute::Acl;
+use settings::Dialect;
 use std::alloc::AllocError;
 use values::{Blob, Listed};
 
@@ -20,6 +21,8 @@ pub struct TxnHeader {
     pub zxid: i64,
     /// The time at which the leader took the request, in milliseconds since 1970.
     pub time: i64,
+    /// The rules by which it is applied: those of the leader's dialect. No byte shows them.
+    pub rules: Dialect,
 }
 
 /// The owner of a created node.
@@ -94,8 +97,8 @@ pub enum Body {
     Multi(Listed<Operation>),
     /// A session begins, with this timeout in milliseconds (CreateSessionTxn).
     CreateSession(i32),
-    /// The session of the header ends.
-    CloseSession,
+    /// The session of the header ends. Later leaders list the paths of its ephemeral nodes.
+    CloseSession(Listed<Path>),
 }
 
 /// A transaction: its header and its body.
@@ -149,7 +152,7 @@ impl Body {
             Body::SetAcl(_) => TxnKind::SetAcl,
             Body::Multi(_) => TxnKind::Multi,
             Body::CreateSession(_) => TxnKind::CreateSession,
-            Body::CloseSession => TxnKind::CloseSession,
+            Body::CloseSession(_) => TxnKind::CloseSession,
         }
     }
 }
@@ -177,7 +180,7 @@ impl Clone for Body {
             Body::SetAcl(set_acl) => Body::SetAcl(set_acl.clone()?),
             Body::Multi(parts) => Body::Multi(parts.clone()?),
             Body::CreateSession(timeout) => Body::CreateSession(*timeout),
-            Body::CloseSession => Body::CloseSession,
+            Body::CloseSession(listed) => Body::CloseSession(listed.clone()?),
         })
     }
 }

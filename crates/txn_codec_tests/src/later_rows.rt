@@ -4,7 +4,7 @@ use crate::rows::{bytes_of, row_of};
 use settings::Dialect;
 use std::alloc::Global;
 use std::test::Fail;
-use txn_codec::{Body, Operation, decode_txn, decode_txn_in};
+use txn_codec::{Body, Operation, Path, decode_txn, decode_txn_in};
 
 // Session 7, its request 1, zxid 0x100000001, at 1000.
 const HEADER: &str = "00000000 00000007 00000001 00000001 00000001 00000000 000003e8";
@@ -19,12 +19,15 @@ a time to live | 00000015 00000002 2f74 00000001 54 00000001 0000001f 00000005 7
 the end of a container | 00000014 00000002 2f63 00000002 000000012ce4cee4 | delete /c
 a reconfig | 00000010 00000011 2f7a6f6f6b65657065722f636f6e666967 00000001 78 ffffffff 00000002 000000013afa8f1b | set /zookeeper/config -1
 a check | 0000000d 00000002 2f70 00000001 00000002 00000001748e7f8c | check /p 1
-a session that lists a path | fffffff5 00000001 00000003 2f6578 00000002 00000000a5ad3dbe | close
+a session that lists a path | fffffff5 00000001 00000003 2f6578 00000002 00000000a5ad3dbe | close /ex
 a session that lists none | fffffff5 00000000 00000002 00000000a5ad3dbe | close
-a list without a digest | fffffff5 00000001 00000003 2f6578 | close
+a list without a digest | fffffff5 00000001 00000003 2f6578 | close /ex
 a digest without a list | fffffff5 00000002 00000000a5ad3dbe | close
 a session's bare end | fffffff5 | close
-a list of one path in 12 bytes | fffffff5 00000001 00000004 2f616263 | close
+a list with texts that are no paths of nodes, among them null and the root | fffffff5 00000006 00000002 2f61 ffffffff 00000000 00000001 2f 00000002 2f2f 00000001 61 00000002 00000000a5ad3dbe | close /a
+two texts of 12 bytes, which are a digest | fffffff5 00000002 00000000 ffffffff | close
+a null list | fffffff5 ffffffff | close
+a list of one path in 12 bytes | fffffff5 00000001 00000004 2f616263 | close /abc
 an error with a digest | ffffffff ffffff9b 00000002 00000000a5ad3dbe | error -101
 a failed multi of a DIFF | 0000000e 00000004 ffffffff 0000002d 00000003 2f7a31 00000002 7a7a 00000001 0000001f 00000005 776f726c64 00000006 616e796f6e65 00 0000000c ffffffff 00000004 ffffff99 ffffffff 00000004 fffffffe ffffffff 00000004 fffffffe 00000002 00000000a5ad3dbe | multi, error 3, error -103, error -2, error -2
 a container and its end in a multi | 0000000e 00000002 00000013 00000012 00000002 2f63 ffffffff ffffffff 00000004 00000014 00000006 00000002 2f63 | multi, create /c Container true 4, delete /c";
@@ -90,6 +93,16 @@ fn parts_told(alloc: Global, parts: &[Operation]) -> Result<String, Fail> {
     Ok(told)
 }
 
+// The end of a session in words.
+fn close_told(alloc: Global, listed: &[Path]) -> Result<String, Fail> {
+    let mut told = String::from_str(alloc, "close")?;
+    for path in listed {
+        told.push_str(" ")?;
+        told.push_str(path.as_str())?;
+    }
+    Ok(told)
+}
+
 // The body in words.
 fn told(alloc: Global, body: &Body) -> Result<String, Fail> {
     Ok(match body {
@@ -97,7 +110,7 @@ fn told(alloc: Global, body: &Body) -> Result<String, Fail> {
         Body::SetAcl(set_acl) => format!(in alloc; "set-acl {}", set_acl.path.as_str())?,
         Body::Multi(parts) => parts_told(alloc, parts.as_slice())?,
         Body::CreateSession(timeout) => format!(in alloc; "session {timeout}")?,
-        Body::CloseSession => String::from_str(alloc, "close")?,
+        Body::CloseSession(listed) => close_told(alloc, listed.as_slice())?,
     })
 }
 
@@ -113,6 +126,19 @@ fn later_transactions_are_read(rt: HostRuntime) -> Result<(), Fail> {
     for line in READ.lines() {
         assert!(rt; is_read(rt.alloc(), line)?, "{line}");
     }
+    Ok(())
+}
+
+// The dialect by whose rules a transaction is applied that was read in this one.
+fn rules_in(dialect: Dialect, alloc: Global) -> Result<Dialect, Fail> {
+    let bytes = behind_header(alloc, &bytes_of(alloc, "fffffff5")?)?;
+    Ok(decode_txn_in(dialect, alloc, &bytes)?.header.rules)
+}
+
+#[test]
+fn rules_are_those_of_the_dialect(rt: HostRuntime) -> Result<(), Fail> {
+    assert!(rt; rules_in(Dialect::Zk34, rt.alloc())? == Dialect::Zk34);
+    assert!(rt; rules_in(Dialect::Zk38, rt.alloc())? == Dialect::Zk38);
     Ok(())
 }
 

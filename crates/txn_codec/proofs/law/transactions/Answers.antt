@@ -1,3 +1,4 @@
+use Rattle.settings.specs.declared.dialect.Dialect.TheVariants.{Zk34}
 use Rattle.txn_codec.specs.Paths.{is_path, is_child_path}
 use Rattle.txn_codec.specs.declared.kind.TxnKind.TheVariants as kinds
 use Rattle.txn_codec.specs.declared.place.Place.TheVariants.{Alone}
@@ -17,12 +18,12 @@ returns c = record {
   set_data = set_data_sound;
   set_acl = set_acl_sound;
   check = check_sound;
-  header = header_sound;
+  header = header_sound Zk34;
   part = part_sound earlier;
   parts = parts_sound earlier;
   body = body_at_end earlier;
-  txn = txn_at_end earlier;
-  again = written_again earlier;
-  names = refusal_names earlier;
-  answers = naming_answers earlier;
+  txn = txn_at_end Zk34;
+  again = written_again Zk34;
+  names = refusal_names Zk34;
+  answers = naming_answers Zk34;
 }
