@@ -1,5 +1,5 @@
 -- The end of a session is sound.
-use Rattle.std.proofs.Common.{◌≡◌, ℕ, ◌+◌, ◌≤◌, ◌==◌, Bool, true, false, ◌||◌, ◌&&◌, List, [], ◌∷◌, ◌++◌, length, Option, Some, None, Result, Ok, Err, refl, sym, ap, subst, ◌∙◌, arith, inl, inr, if◌then◌else◌}
+use Rattle.std.proofs.Common.{◌≡◌, ℕ, suc, ◌+◌, ◌≤◌, ◌==◌, Bool, true, false, ◌||◌, ◌&&◌, List, [], ◌∷◌, ◌++◌, length, Option, Some, None, Result, Ok, Err, refl, sym, ap, subst, ◌∙◌, arith, inl, inr, if◌then◌else◌}
 use Rattle.std.specs.Prelude.{IsTrue, pos}
 use Rattle.std.specs.Int.{w32}
 use Rattle.std.specs.List.{AllByRecursion, flat_map}
@@ -116,12 +116,8 @@ child_long p h =
     omega (arith, has_slash p (tested_is is_child_path (Some p) p h.0).0,
     length-append (number_bytes w32 (pos (length p))) p, number_long (pos (length p)))
 
-not_empty : (bytes : List ℕ) → 1 ≤ length bytes → (length bytes == 0) ≡ false
-not_empty [] h = absurd (omega arith)
-not_empty (b ∷ bytes) h = refl
-
-not_twelve : (n : ℕ) → 13 ≤ n → (n == digest_length) ≡ false
-not_twelve n h = grind arith
+longer : (n k : ℕ) → k + 1 ≤ n → (n == k) ≡ false
+longer n k h = grind arith
 
 or_false : (a b : Bool) → a ≡ false → b ≡ false → (a || b) ≡ false
 or_false a b h k = rw (h, k) refl
@@ -143,7 +139,7 @@ not_digest : (p : List ℕ) (ps : Paths) → (vector_of child_path).Fits (Some (
 not_digest p [] h =
     let rest : List ℕ = flat_map child_path.written (p ∷ []) in
     or_false _ _
-    (not_empty (closing_bytes (p ∷ [])) (omega (
+    (longer (length (closing_bytes (p ∷ []))) 0 (omega (
       arith,
       length-append (number_bytes w32 (pos 1)) rest,
       number_long (pos 1),
@@ -162,8 +158,8 @@ not_digest p (q ∷ qs) h =
       child_long p h.1.0,
       child_long q h.1.1.0,
     ) in
-    or_false _ _ (not_empty (closing_bytes (p ∷ q ∷ qs)) (omega (arith, long)))
-    (and_first _ _ (not_twelve (length (closing_bytes (p ∷ q ∷ qs))) (omega (arith, long))))
+    or_false _ _ (longer (length (closing_bytes (p ∷ q ∷ qs))) 0 (omega (arith, long)))
+    (and_first _ _ (longer (length (closing_bytes (p ∷ q ∷ qs))) digest_length (omega (arith, long))))
 
 closing_writes : (v : Paths) → closing_format.Fits v → closing_format.Spells v (closing_bytes v)
 closing_writes [] h = inl (refl, refl)

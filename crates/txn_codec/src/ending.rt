@@ -76,7 +76,7 @@ impl<'a> ReadRecord<'a> for ListedText<'a> {
 fn add_path(alloc: Global, listed: &ListedText<'_>, paths: &mut Vec<Path>) -> Result<(), NoMemory>
     ensures { OnOk result (paths.new.items ≡ paths.old.items ++ listed_path listed.now) }
 {
-    let Some(text) = listed.text else {
+    let Some(text) = &listed.text else {
         return Ok(());
     };
     match Path::if_child(alloc, text.as_str())? {
