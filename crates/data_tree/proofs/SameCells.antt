@@ -77,7 +77,6 @@ after_change-frame s (Disown v p) q h =
       owners = λ w. set.contains-remove pair_total s.pairs (v, p) (w, q)
           ∙ ap (λ b. not b && set.contains s.pairs (w, q)) (pair_apart w v q p h);
     }
-
 after_change-frame s (Mend p acl) q h =
     record { node = updated_apart s.nodes p (with_missing_acl acl) q h; owners = λ w. refl }
 
@@ -111,7 +110,6 @@ after_change-local s t (Disown v p) q e =
           ∙ ap (λ b. not (eq_by_cmp pair_cmp (w, q) (v, p)) && b) (e.owners w)
           ∙ sym (set.contains-remove pair_total t.pairs (v, p) (w, q));
     }
-
 after_change-local s t (Mend p acl) q e =
     record { node = updated_same s.nodes t.nodes p (with_missing_acl acl) q e.node; owners = e.owners }
 

@@ -101,8 +101,7 @@ create_new header create parent =
       err = pos 0;
       changes =
           Put (parent_of create.path)
-          (record parent
-          {
+          (record parent {
             children = set.insert parent.children (name_of create.path);
             stat = stat_with_child header create parent.stat;
           })

@@ -19,7 +19,9 @@ use std::alloc::{AllocError, Global};
 use std::collections::BTreeMap;
 use std::collections::btree_map::Iter;
 use std::marker::Model;
-use txn_codec::{AclList, Create, SetAcl, SetData, TxnHeader, child_of, is_path, name_of, parent_of};
+use txn_codec::{
+    AclList, Create, SetAcl, SetData, TxnHeader, child_of, is_path, name_of, parent_of,
+};
 use values::{NoMemory, TextQuery};
 
 /// Nodes by path.

@@ -113,8 +113,12 @@ has_slash (b ∷ names) is = omega arith
 
 child_long : (p : List ℕ) → child_path.Fits p → 5 ≤ length (child_path.written p)
 child_long p h =
-    omega (arith, has_slash p (tested_is is_child_path (Some p) p h.0).0,
-    length-append (number_bytes w32 (pos (length p))) p, number_long (pos (length p)))
+    omega (
+      arith,
+      has_slash p (tested_is is_child_path (Some p) p h.0).0,
+      length-append (number_bytes w32 (pos (length p))) p,
+      number_long (pos (length p)),
+    )
 
 longer : (n k : ℕ) → k + 1 ≤ n → (n == k) ≡ false
 longer n k h = grind arith

@@ -97,7 +97,10 @@ fn paths_among(alloc: Global, texts: &[ListedText<'_>]) -> Result<Vec<Path>, NoM
 }
 
 // The paths among texts that may be null.
-fn listed_paths(alloc: Global, texts: &Option<Listed<ListedText<'_>>>) -> Result<Listed<Path>, NoMemory>
+fn listed_paths(
+    alloc: Global,
+    texts: &Option<Listed<ListedText<'_>>>,
+) -> Result<Listed<Path>, NoMemory>
     ensures { IfOk result (λ paths. paths ≡ listed_paths texts.now) }
 {
     match texts {
