@@ -12,6 +12,8 @@ mod cells;
 #[cfg(test)]
 mod leader_owned;
 #[cfg(test)]
+mod mended;
+#[cfg(test)]
 mod owners;
 #[cfg(test)]
 mod texts;

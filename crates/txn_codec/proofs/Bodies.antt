@@ -1,5 +1,5 @@
 -- Operations, parts, bodies and transactions are sound.
-use Rattle.std.proofs.Common.{◌≡◌, ℕ, Bool, true, false, ◌&&◌, List, Ok, refl, sym, ap, subst, ◌∙◌}
+use Rattle.std.proofs.Common.{◌≡◌, ℕ, Bool, true, false, ◌&&◌, List, refl, sym, ap, ◌∙◌}
 use Rattle.std.specs.Prelude.{ℤ, not}
 use Rattle.values.specs.declared.fault.Fault.TheVariants.{BadTxnType}
 use Rattle.settings.specs.Dialects.{reads_of}
@@ -19,7 +19,7 @@ use Rattle.txn_codec.specs.declared.txn.Body.{Body}
 use Rattle.txn_codec.specs.declared.txn.Body.TheVariants as bodies
 use Rattle.txn_codec.specs.Kinds.{create_kind, operation_kind, body_kind}
 use Rattle.txn_codec.specs.Paths.{is_child_path}
-use Rattle.txn_codec.specs.Endings.{with_trailer_if, closing_if, in_buffer}
+use Rattle.txn_codec.specs.Endings.{with_trailer_if, closing_if}
 use Rattle.txn_codec.specs.Fields.{child_path}
 use Rattle.txn_codec.specs.Spelling.{last_field, kind_in, part_kind_in, owner_if, owner_format, shows_stat, create_with, set_data, set_acl, check_format, header_in, as_create, as_delete, as_set_data, as_check, as_error, created, operation_format, is_lenient, part_content, part_in, parts_in, as_single, as_set_acl, as_multi, as_session, as_close, has_own_end, body_fields, body_content, body_in, txn_in}
 use Rattle.txn_codec.proofs.Closing.{closing_if_sound}

@@ -5,7 +5,7 @@ use Rattle.std.specs.Int.{w32}
 use Rattle.std.specs.List.{AllByRecursion, flat_map}
 use Rattle.std.proofs.lemmas.List.{append-nil, length-append}
 use Rattle.values.specs.declared.fault.Fault.{Fault}
-use Rattle.jute.specs.Format.{◌>>=◌, Format, SpellsEach, or_empty, text_format, vector_of, count_limit, number_bytes}
+use Rattle.jute.specs.Format.{◌>>=◌, SpellsEach, text_format, vector_of, count_limit, number_bytes}
 use Rattle.jute.specs.Laws.{IsBytes, TakesSpelling, IsSound, IsSoundAtEnd}
 use Rattle.jute.proofs.Public.{ok_is, not_refused, text_sound, vector_sound}
 use Rattle.txn_codec.specs.Paths.{is_child_path}

@@ -1,14 +1,13 @@
 -- The ends of transactions are sound.
-use Rattle.std.proofs.Common.{◌≡◌, ℕ, Bool, true, false, cond, eqb, ◌||◌, List, [], ◌∷◌, ◌++◌, length, Option, Some, None, Result, Ok, Err, refl, sym, ap, subst, ◌∙◌, arith, inl, inr}
-use Rattle.std.specs.Prelude.{ℤ, negsuc, pos, ◌≢◌, ◌≤◌}
+use Rattle.std.proofs.Common.{◌≡◌, ℕ, Bool, true, false, List, [], ◌∷◌, ◌++◌, length, Option, Some, None, Result, Ok, Err, refl, sym, ap, subst, ◌∙◌, arith, inl, inr}
+use Rattle.std.specs.Prelude.{ℤ, negsuc, pos, ◌≤◌}
 use Rattle.std.proofs.lemmas.List.{append-nil, length-append}
 use Rattle.std.specs.Int.{w32}
 use Rattle.values.specs.declared.fault.Fault.{Fault}
 use Rattle.values.specs.declared.fault.Fault.TheVariants.{Short, TrailingBytes}
-use Rattle.jute.specs.Format.{◌>>=◌, Format, int, buffer, buffer_limit, number_bytes, pair_of, mapped_format, judged_at, SpellsFront}
-use Rattle.jute.specs.Sums.{empty_format}
+use Rattle.jute.specs.Format.{◌>>=◌, Format, buffer, buffer_limit, number_bytes, pair_of, mapped_format}
 use Rattle.jute.specs.Laws.{IsBytes, TakesSpelling, TakesSpellings, NamesFaults, IsSound, IsSoundAtEnd}
-use Rattle.jute.proofs.Public.{IsBytes-front, IsBytes-back, bind_ok, bind_err, guard_ended, guard_refused, ok_is, not_refused, sound_at_end, int_sound, buffer_sound, both_at_end, mapped_at_end, judged_takes, judged_reads, judged_pieced, judged_eats, held_sound}
+use Rattle.jute.proofs.Public.{IsBytes-front, IsBytes-back, bind_ok, guard_ended, guard_refused, ok_is, not_refused, sound_at_end, buffer_sound, both_at_end, mapped_at_end, judged_takes, judged_reads, judged_pieced, judged_eats, held_sound}
 use Rattle.jute.proofs.Judged.{judged_named}
 use Rattle.txn_codec.specs.Endings.{is_trailer, trailer_format, trailer_if, with_trailer, with_trailer_if, last_at, or_end, front_value, AgainstFront, front_of_buffer, in_buffer}
 

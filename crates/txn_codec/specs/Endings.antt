@@ -3,7 +3,7 @@ use Rattle.std.specs.Prelude.{◌≡◌, ◌≢◌, ℕ, ℤ, negsuc, Bool, true
 use Rattle.std.specs.List.{flat_map}
 use Rattle.values.specs.declared.fault.Fault.{Fault}
 use Rattle.values.specs.declared.fault.Fault.TheVariants.{Short, TrailingBytes}
-use Rattle.jute.specs.Format.{Format, ◌>>=◌, SpellsFront, judged_at, int, buffer, buffer_at, buffer_limit, text_format, vector_of, or_empty, pair_of}
+use Rattle.jute.specs.Format.{Format, ◌>>=◌, SpellsFront, judged_at, buffer, buffer_at, buffer_limit, text_format, vector_of, or_empty, pair_of}
 use Rattle.jute.specs.Sums.{empty_format, held_value, held_in_buffer}
 use Rattle.txn_codec.specs.Paths.{is_child_path}
 use Rattle.txn_codec.specs.Fields.{child_path}

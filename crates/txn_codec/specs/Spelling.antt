@@ -1,12 +1,12 @@
 -- The spellings of transactions (zookeeper.jute), by jute's combinators of formats.
-use Rattle.std.specs.Prelude.{ℕ, ℤ, List, Option, Some, None, Result, Ok, Err, Bool, true, false, not, ◌&&◌, if◌then◌else◌}
+use Rattle.std.specs.Prelude.{ℕ, ℤ, List, Option, Some, None, Result, Bool, true, false, not, ◌&&◌}
 use Rattle.values.specs.declared.fault.Fault.{Fault}
-use Rattle.values.specs.declared.fault.Fault.TheVariants.{BadPath, BadTxnType}
+use Rattle.values.specs.declared.fault.Fault.TheVariants.{BadTxnType}
 use Rattle.settings.specs.Dialects.{reads_of}
 use Rattle.settings.specs.declared.dialect.Dialect.{Dialect}
 use Rattle.settings.specs.declared.dialect.Dialect.TheVariants.{Zk34}
 use Rattle.settings.specs.declared.dialect.Reads.{Reads}
-use Rattle.jute.specs.Format.{Format, int, long, boolean, buffer, text_format, vector_of, pair_of, mapped_format, judged_format, case_of, or_null}
+use Rattle.jute.specs.Format.{Format, int, long, boolean, buffer, vector_of, pair_of, mapped_format, judged_format, case_of, or_null}
 use Rattle.jute.specs.Owned.{acl_format}
 use Rattle.jute.specs.declared.owned.Acl.{Acl}
 use Rattle.jute.specs.Sums.{refusal_format, tagged_format, whole_value as whole_by}
@@ -26,9 +26,8 @@ use Rattle.txn_codec.specs.declared.txn.Operation.TheVariants as operations
 use Rattle.txn_codec.specs.declared.txn.Body.{Body}
 use Rattle.txn_codec.specs.declared.txn.Body.TheVariants as bodies
 use Rattle.txn_codec.specs.declared.txn.Txn.{Txn}
-use Rattle.txn_codec.specs.Paths.{is_path, is_child_path}
 use Rattle.txn_codec.specs.Kinds.{kind_at, code_of, part_kind_of, operation_kind, body_kind}
-use Rattle.txn_codec.specs.Fields.{path_by, path_format, child_path}
+use Rattle.txn_codec.specs.Fields.{path_format, child_path}
 use Rattle.txn_codec.specs.Endings.{or_end, with_trailer_if, closing_if, in_buffer}
 
 -- ---- fields
