@@ -26,6 +26,7 @@ use Rattle.quorum_packet.specs.declared.phase.Phase.TheVariants.{Packets}
 use Rattle.quorum_packet.specs.Kinds.{kind_of}
 use Rattle.quorum_packet.specs.Packet.{packet_format}
 use Rattle.quorum_packet.specs.Items.{items_shown_at}
+use Rattle.settings.specs.declared.dialect.Dialect.TheVariants.{Zk34}
 use Rattle.txn_codec.specs.declared.txn.TxnHeader.{TxnHeader}
 use Rattle.txn_codec.specs.declared.txn.Body.{Body}
 use Rattle.txn_codec.specs.declared.txn.Body.TheVariants as bodies
@@ -154,7 +155,7 @@ both_come settings bytes more request reply pending end first second =
 -- ---- a create
 
 abbrev header : TxnHeader
-header = record { client_id = first_id; cxid = pos 4; zxid = pos 4294967297; time = pos 1000 }
+header = record { client_id = first_id; cxid = pos 4; zxid = pos 4294967297; time = pos 1000; rules = Zk34 }
 
 abbrev create_txn : Txn
 create_txn = record { header = header; body = bodies.Single (operations.Create create_body) }
@@ -168,7 +169,7 @@ create_fits =
     let path = text_fits (codes "/a") path_is_text (omega arith) in
     let world = text_fits (codes "world") world_is_text (omega arith) in
     let anyone = text_fits (codes "anyone") anyone_is_text (omega arith) in (
-      search rules,
+      (refl, search rules),
       (
         (refl, search rules),
         (
@@ -176,8 +177,17 @@ create_fits =
           (
             refl,
             (
-              (refl, path),
-              (omega arith, ((omega arith, ((search rules, ((refl, world), (refl, anyone))), tt)), (tt, search rules))),
+              refl,
+              (
+                (refl, path),
+                (
+                  omega arith,
+                  (
+                    (omega arith, ((search rules, ((refl, world), (refl, anyone))), tt)),
+                    (refl, (tt, search rules)),
+                  ),
+                ),
+              ),
             ),
           ),
         ),
@@ -185,7 +195,7 @@ create_fits =
     )
 
 error_fits : txn_format.Fits error_txn
-error_fits = (search rules, ((refl, search rules), (refl, (refl, search rules))))
+error_fits = ((refl, search rules), ((refl, search rules), (refl, (refl, search rules))))
 
 create_found : items_shown_at (place_at Packets inform_of_forwarded)
     ≡ one_packet (packet_of (pos 4294967297) (txn_format.written create_txn))

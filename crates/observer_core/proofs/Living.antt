@@ -22,9 +22,8 @@ use Rattle.txn_codec.specs.declared.txn.Body.{Body}
 use Rattle.txn_codec.specs.declared.txn.Body.TheVariants as bodies
 use Rattle.data_tree.specs.State.{State, SessionTimeouts}
 use Rattle.txn_codec.specs.Row.{has_error, session_change}
-use Rattle.data_tree.specs.Meaning.{Change, Put, Remove, Own, Disown, after_change, after_changes, effect_of, of_failed, of_parts, of_multi, of_close_session, effect_of_body, effect_of_txn, set_acl_at, delete_operations, state_without_session, fresh_state}
-use Rattle.ephemerals.specs.Orders.{sorted_names}
-use Rattle.ephemerals.specs.Pairs.{paths_of_session}
+use Rattle.data_tree.specs.Meaning.{Change, Put, Remove, Own, Disown, Mend, after_change, after_changes, effect_of, of_failed, of_parts, of_multi, of_close_session, effect_of_body, effect_of_txn, set_acl_at, delete_operations, ended_paths, state_without_session, fresh_state}
+use Rattle.ephemerals.specs.Orders.{Bytes, sorted_names}
 use Rattle.snapshot_codec.specs.Made.{Loading, with_loaded}
 use Rattle.snapshot_codec.specs.declared.part.ImagePart.{ImagePart}
 use Rattle.snapshot_codec.specs.declared.part.ImagePart.TheVariants as part
@@ -81,6 +80,7 @@ changes_leave s (Put path node ∷ cs) = changes_leave (after_change s (Put path
 changes_leave s (Remove path ∷ cs) = changes_leave (after_change s (Remove path)) cs
 changes_leave s (Own session path ∷ cs) = changes_leave (after_change s (Own session path)) cs
 changes_leave s (Disown session path ∷ cs) = changes_leave (after_change s (Disown session path)) cs
+changes_leave s (Mend path acl ∷ cs) = changes_leave (after_change s (Mend path acl)) cs
 
 parts_leave : (header : TxnHeader) (parts : List Operation) (s : State)
     → (of_parts header parts s).state.sessions ≡ s.sessions
@@ -96,10 +96,10 @@ multi_leaves header parts s =
     (λ _. refl) (λ _. parts_leave header parts s)
 
 -- All sessions but the one that is closed stay.
-close_leaves : (header : TxnHeader) (s : State)
-    → (of_close_session header s).state.sessions ≡ finmap.remove s.sessions header.client_id
-close_leaves header s =
-    parts_leave header (delete_operations (sorted_names (paths_of_session header.client_id s.pairs)))
+close_leaves : (header : TxnHeader) (listed : List Bytes) (s : State)
+    → (of_close_session header listed s).state.sessions ≡ finmap.remove s.sessions header.client_id
+close_leaves header listed s =
+    parts_leave header (delete_operations (sorted_names (ended_paths header.client_id listed s)))
     (state_without_session header.client_id s)
 
 -- ---- what an item does to a tree that is served
@@ -455,9 +455,9 @@ module _ (stays : ServingStays) (laws : LowerLaws) where
           → SessionsLive (give_answer w t err (due_by w.clients t (session_change b))).after
       by (bodies.CreateSession time_out) is =
           created time_out is (connecting_to w.clients.pending session) refl
-      by bodies.CloseSession is =
+      by (bodies.CloseSession listed) is =
           ended_live w t err (connection_of w.clients.sessions session) refl a
-          (closed (is ∙ close_leaves t.header before))
+          (closed (is ∙ close_leaves t.header listed before))
       by (bodies.Single operation) is =
           replied_live w t err (connection_of w.clients.sessions session) a
           (same_live (is ∙ changes_leave before (effect_of t.header operation before.nodes).changes))

@@ -33,7 +33,9 @@ use Rattle.quorum_packet.specs.declared.phase.Phase.TheVariants.{Packets}
 use Rattle.quorum_packet.specs.Kinds.{kind_of}
 use Rattle.quorum_packet.specs.Packet.{packet_format}
 use Rattle.quorum_packet.specs.Items.{items_shown_at}
+use Rattle.settings.specs.declared.dialect.Dialect.TheVariants.{Zk34}
 use Rattle.txn_codec.specs.declared.txn.TxnHeader.{TxnHeader}
+use Rattle.txn_codec.specs.declared.txn.Owner.TheVariants.{Nobody}
 use Rattle.txn_codec.specs.declared.txn.Create.{Create}
 use Rattle.txn_codec.specs.declared.txn.SetData.{SetData}
 use Rattle.txn_codec.specs.declared.txn.Operation.{Operation}
@@ -111,14 +113,15 @@ anyone_is_text = (codes "anyone", (refl, refl))
 -- ---- the transactions
 
 abbrev pub create_header : TxnHeader
-create_header = record { client_id = pos 7; cxid = pos 1; zxid = pos 4294967297; time = pos 1000 }
+create_header = record { client_id = pos 7; cxid = pos 1; zxid = pos 4294967297; time = pos 1000; rules = Zk34 }
 
 abbrev pub create_body : Create
 create_body = record {
   path = codes "/a";
   bytes = Some (codes "hi");
   acl = Some open_acl;
-  ephemeral = false;
+  owner = Nobody;
+  asks_stat = false;
   parent_cversion = pos 1;
 }
 
@@ -126,7 +129,7 @@ abbrev pub create_txn : Txn
 create_txn = record { header = create_header; body = bodies.Single (operations.Create create_body) }
 
 abbrev set_header : TxnHeader
-set_header = record { client_id = pos 7; cxid = pos 2; zxid = pos 4294967298; time = pos 2000 }
+set_header = record { client_id = pos 7; cxid = pos 2; zxid = pos 4294967298; time = pos 2000; rules = Zk34 }
 
 abbrev set_body : SetData
 set_body = record { path = codes "/a"; bytes = None; version = pos 1 }
@@ -143,7 +146,7 @@ create_fits =
     let path = text_fits (codes "/a") path_is_text (omega arith) in
     let world = text_fits (codes "world") world_is_text (omega arith) in
     let anyone = text_fits (codes "anyone") anyone_is_text (omega arith) in (
-      search rules,
+      (refl, search rules),
       (
         (refl, search rules),
         (
@@ -151,8 +154,17 @@ create_fits =
           (
             refl,
             (
-              (refl, path),
-              (omega arith, ((omega arith, ((search rules, ((refl, world), (refl, anyone))), tt)), (tt, search rules))),
+              refl,
+              (
+                (refl, path),
+                (
+                  omega arith,
+                  (
+                    (omega arith, ((search rules, ((refl, world), (refl, anyone))), tt)),
+                    (refl, (tt, search rules)),
+                  ),
+                ),
+              ),
             ),
           ),
         ),
@@ -162,7 +174,7 @@ create_fits =
 set_fits : txn_format.Fits set_txn
 set_fits =
     let path = text_fits (codes "/a") path_is_text (omega arith) in
-    (search rules, ((refl, search rules), (refl, (refl, ((refl, path), (tt, search rules))))))
+    ((refl, search rules), ((refl, search rules), (refl, (refl, ((refl, path), (tt, search rules))))))
 
 -- ---- the states
 

@@ -28,6 +28,7 @@ use Rattle.quorum_packet.specs.declared.phase.Phase.TheVariants.{Packets}
 use Rattle.quorum_packet.specs.Kinds.{kind_of}
 use Rattle.quorum_packet.specs.Packet.{packet_format}
 use Rattle.quorum_packet.specs.Items.{items_shown_at}
+use Rattle.settings.specs.declared.dialect.Dialect.TheVariants.{Zk34}
 use Rattle.txn_codec.specs.declared.txn.TxnHeader.{TxnHeader}
 use Rattle.txn_codec.specs.declared.txn.Body.TheVariants as bodies
 use Rattle.txn_codec.specs.declared.txn.Txn.{Txn}
@@ -411,13 +412,13 @@ module _ (settings : Settings) where
 -- ---- the leader creates the session
 
 abbrev session_header : TxnHeader
-session_header = record { client_id = second_session; cxid = pos 0; zxid = pos 4294967297; time = pos 1000 }
+session_header = record { client_id = second_session; cxid = pos 0; zxid = pos 4294967297; time = pos 1000; rules = Zk34 }
 
 abbrev session_txn : Txn
 session_txn = record { header = session_header; body = bodies.CreateSession (pos 10000) }
 
 session_fits : txn_format.Fits session_txn
-session_fits = (search rules, ((refl, search rules), (refl, search rules)))
+session_fits = ((refl, search rules), ((refl, search rules), (refl, search rules)))
 
 session_found : items_shown_at (place_at Packets inform_of_session)
     ≡ one_packet (packet_of (pos 4294967297) (txn_format.written session_txn))

@@ -154,6 +154,7 @@ fn root_of(alloc: Global, bytes: &[u8]) -> Result<Tree, Fail> {
         bytes: Some(Blob::new(alloc, bytes)?),
         acl: AclList::open(),
         stat,
+        mark: 0,
         children: TextSet::new(alloc),
     };
     let mut tree = Tree::empty(alloc);
