@@ -19,7 +19,7 @@ use serve_bounds::{Accepting, Acceptor, Stopwatch, accept_all, open_door};
 use serve_failures::{Failure, Step, servers_of};
 use serve_journal::Journal;
 use serve_options::{Address, Options, Servers};
-use settings::{Epochs, FirstCounter, Secret, TimeoutBounds};
+use settings::{Dialect, Epochs, FirstCounter, Secret, TimeoutBounds};
 use std::alloc::Global;
 use std::io::Write;
 use std::net::{Net, TcpStream};
@@ -62,6 +62,7 @@ fn config_of(alloc: Global, options: &Options<'_>, first_counter: FirstCounter) 
         timeouts: TimeoutBounds::default(),
         secret: Secret::empty(alloc),
         first_counter,
+        dialect: Dialect::default(),
     };
     Config::from_settings(settings, options.limits).with_threshold(WORTH_THREADS)
 }
