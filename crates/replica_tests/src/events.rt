@@ -3,7 +3,7 @@
 use jute::{put_int, put_long};
 use quorum_packet::{Item, LentItem, Packet, PacketKind, QuorumPacket};
 use replica::{ItemOutcome, LeaderNews, Replica};
-use settings::{Epochs, ServerId};
+use settings::{Dialect, Epochs, ServerId};
 use snapshot_codec::{ImagePart, ImageSession, Loader};
 use std::alloc::Global;
 use values::{Blob, Bytes, Fault, NoMemory, ReadError};
@@ -198,8 +198,8 @@ fn play(
 /// The view of a replica that starts like this, after these events.
 pub fn after(alloc: Global, start: Start, events: &[Event]) -> Result<Seen, NoMemory> {
     let mut replica = match start {
-        Start::New => Replica::new(alloc, Epochs::default())?,
-        Start::Primed => Replica::primed(alloc, 4, 10_000)?,
+        Start::New => Replica::new(alloc, Dialect::Zk34, Epochs::default())?,
+        Start::Primed => Replica::primed(alloc, Dialect::Zk34, 4, 10_000)?,
     };
     let mut loader = Loader::new(alloc);
     play(alloc, &mut replica, &mut loader, events)
