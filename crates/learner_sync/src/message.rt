@@ -44,7 +44,7 @@ pub enum Message<'a> {
 pub(crate) fn message_of_packet(dialect: Dialect, packet: Packet<'_>) -> Message<'_>
     ensures { result ≡ message_of_packet dialect packet.entry }
 {
-    let reads = dialect.reads();
+    let has_reconfigs = dialect.reads().extended_types;
     match PacketKind::from_code(packet.kind()) {
         Some(PacketKind::LeaderInfo) => Message::LeaderInfo {
             epoch: epoch_of(packet.zxid()),
@@ -56,8 +56,8 @@ pub(crate) fn message_of_packet(dialect: Dialect, packet: Packet<'_>) -> Message
         Some(PacketKind::Proposal) => Message::Proposal(packet.data()),
         Some(PacketKind::Commit) => Message::Commit(packet.zxid()),
         Some(PacketKind::Inform) => Message::Inform(packet.data()),
-        Some(PacketKind::CommitAndActivate) if reads.extended_types => Message::Commit(packet.zxid()),
-        Some(PacketKind::InformAndActivate) if reads.extended_types => {
+        Some(PacketKind::CommitAndActivate) if has_reconfigs => Message::Commit(packet.zxid()),
+        Some(PacketKind::InformAndActivate) if has_reconfigs => {
             Message::InformAndActivate(packet.data())
         }
         Some(PacketKind::NewLeader) => Message::NewLeader,

@@ -64,12 +64,7 @@ fn told(
 }
 
 // Whether the learner does with a row's packet what the column of the dialect says.
-fn is_so(
-    alloc: Global,
-    dialect: Dialect,
-    learner: &mut Learner,
-    line: &str,
-) -> Result<bool, Fail> {
+fn is_so(alloc: Global, dialect: Dialect, learner: &mut Learner, line: &str) -> Result<bool, Fail> {
     let mut fields = line.split(" | ").skip(1);
     let item = packet_of(alloc, fields.next().ok_or("a packet")?)?;
     let later = fields.next().ok_or("the later dialect")?;
@@ -109,8 +104,14 @@ fn a_diff_commits_a_reconfig(rt: HostRuntime) -> Result<(), Fail> {
     let mut later = with_diff(rt.alloc(), Dialect::Zk38)?;
     let mut earlier = with_diff(rt.alloc(), Dialect::Zk34)?;
     for line in PROPOSED.lines() {
-        assert!(rt; is_so(rt.alloc(), Dialect::Zk38, &mut later, line)?, "{line}");
-        assert!(rt; is_so(rt.alloc(), Dialect::Zk34, &mut earlier, line)?, "{line}");
+        assert!(rt;
+            is_so(rt.alloc(), Dialect::Zk38, &mut later, line)?,
+            "{line}"
+        );
+        assert!(rt;
+            is_so(rt.alloc(), Dialect::Zk34, &mut earlier, line)?,
+            "{line}"
+        );
     }
     Ok(())
 }
@@ -120,8 +121,14 @@ fn a_reconfig_comes_too_early(rt: HostRuntime) -> Result<(), Fail> {
     let mut later = greeted_in(Dialect::Zk38, rt.alloc())?;
     let mut earlier = greeted_in(Dialect::Zk34, rt.alloc())?;
     for line in EARLY.lines() {
-        assert!(rt; is_so(rt.alloc(), Dialect::Zk38, &mut later, line)?, "{line}");
-        assert!(rt; is_so(rt.alloc(), Dialect::Zk34, &mut earlier, line)?, "{line}");
+        assert!(rt;
+            is_so(rt.alloc(), Dialect::Zk38, &mut later, line)?,
+            "{line}"
+        );
+        assert!(rt;
+            is_so(rt.alloc(), Dialect::Zk34, &mut earlier, line)?,
+            "{line}"
+        );
     }
     Ok(())
 }

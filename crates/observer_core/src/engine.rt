@@ -119,12 +119,8 @@ impl Engine {
         let settings = &config.settings;
         let mut clients = Clients::new(alloc, settings)?;
         let session = open_first(alloc, settings, &mut clients)?;
-        let replica = Replica::primed(
-            alloc,
-            settings.dialect,
-            session,
-            settings.timeouts.greatest(),
-        )?;
+        let time_out = settings.timeouts.greatest();
+        let replica = Replica::primed(alloc, settings.dialect, session, time_out)?;
         let leader = Leader {
             feed: PacketFeed::new(alloc),
             loader: Loader::new(alloc),

@@ -6,12 +6,17 @@ use std::test::Fail;
 use values::Fault;
 
 // The containers /c and /d, and the end of /d.
-const FIRST: &[u8] = b"\0\0\0\x02/c\0\0\0\0\0\0\0\x01\0\0\0\x1f\0\0\0\x05world\0\0\0\x06anyone\0\0\0\x01\0\0\0\x02\0\0\0\0\x51\xc6\xd6\x60";
-const SECOND: &[u8] = b"\0\0\0\x02/d\0\0\0\0\0\0\0\x01\0\0\0\x1f\0\0\0\x05world\0\0\0\x06anyone\0\0\0\x02\0\0\0\x02\0\0\0\0\x51\xc6\xd6\x60";
+const FIRST: &[u8] =
+    b"\0\0\0\x02/c\0\0\0\0\0\0\0\x01\0\0\0\x1f\0\0\0\x05world\0\0\0\x06anyone\0\0\0\x01\0\0\0\x02\0\0\0\0\x51\xc6\xd6\x60";
+
+const SECOND: &[u8] =
+    b"\0\0\0\x02/d\0\0\0\0\0\0\0\x01\0\0\0\x1f\0\0\0\x05world\0\0\0\x06anyone\0\0\0\x02\0\0\0\x02\0\0\0\0\x51\xc6\xd6\x60";
+
 const SECOND_ENDS: &[u8] = b"\0\0\0\x02/d\0\0\0\x02\0\0\0\0\x51\xc6\xd6\x60";
 
 // The configuration is set to "v".
-const RECONFIG: &[u8] = b"\0\0\0\x11/zookeeper/config\0\0\0\x01v\xff\xff\xff\xff\0\0\0\x02\0\0\0\0\x51\xc6\xd6\x60";
+const RECONFIG: &[u8] =
+    b"\0\0\0\x11/zookeeper/config\0\0\0\x01v\xff\xff\xff\xff\0\0\0\x02\0\0\0\0\x51\xc6\xd6\x60";
 
 // The first container is in the base, and the next leader asks for a truncation before the end of the second.
 const TRUNCATED: [Event; 8] = [
@@ -47,7 +52,11 @@ fn a_reconfig_is_applied(rt: HostRuntime) -> Result<(), Fail> {
 
 #[test]
 fn the_earlier_dialect_has_none_of_them(rt: HostRuntime) -> Result<(), Fail> {
-    let passed = after(rt.alloc(), Start::Primed, &[Event::Activated(16, RECONFIG, 1)])?;
+    let passed = after(
+        rt.alloc(),
+        Start::Primed,
+        &[Event::Activated(16, RECONFIG, 1)],
+    )?;
     assert!(rt; passed.refused.is_none() && passed.logged == 0 && passed.last_zxid == 0);
     let refused = after(rt.alloc(), Start::Primed, &[Event::Txn(19, FIRST, 1)])?;
     assert!(rt; refused.refused == Some(Fault::BadTxnType) && refused.logged == 0);
