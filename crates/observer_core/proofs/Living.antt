@@ -12,9 +12,8 @@ use Rattle.std.proofs.lemmas.Map.Views.{tells_apart}
 use Rattle.std.specs.FinMap as finmap
 use mathlib.Core.Bool.{true≢false}
 use Rattle.values.specs.declared.fault.Fault.{Fault}
-use Rattle.jute.specs.Format.{◌>>=◌}
+use Rattle.jute.specs.Format.{long, ◌>>=◌}
 use Rattle.jute.specs.declared.owned.Id.{Id}
-use Rattle.txn_codec.specs.Spelling.{txn_format, value_of_whole}
 use Rattle.txn_codec.specs.declared.txn.Txn.{Txn}
 use Rattle.txn_codec.specs.declared.txn.TxnHeader.{TxnHeader}
 use Rattle.txn_codec.specs.declared.txn.Operation.{Operation}
@@ -30,7 +29,7 @@ use Rattle.snapshot_codec.specs.declared.part.ImagePart.TheVariants as part
 use Rattle.quorum_packet.specs.declared.item.Item.{Item}
 use Rattle.quorum_packet.specs.declared.item.Item.TheVariants as item
 use Rattle.learner_sync.specs.Learner.{Learner}
-use Rattle.learner_sync.specs.Learn.{LearnerStep, message_in_phase, message_in_serving, part_in_phase, load_to_drop, learn_inform, apply_txn, with_applied, zxid_floor}
+use Rattle.learner_sync.specs.Learn.{LearnerStep, message_in_phase, message_in_serving, part_in_phase, load_to_drop, carried_txn, learn_inform, learn_activation, apply_txn, with_applied, zxid_floor}
 use Rattle.learner_sync.specs.Messages.{message_of_packet}
 use Rattle.learner_sync.specs.declared.act.Act.TheVariants as act
 use Rattle.learner_sync.specs.declared.message.Message.{Message}
@@ -146,10 +145,17 @@ module _ (loading : Loading) (r : Replica) where
       }))
 
   informed : (l : Learner) (bytes : List ℕ) → Serves r (carried (learn_inform l bytes))
-  informed l bytes = by (value_of_whole txn_format bytes)
+  informed l bytes = by (carried_txn l bytes)
     where
       by : (x : Result Txn Fault) → Serves r (carried (x >>= λ t. apply_txn l t))
       by (Ok txn) = applied l txn
+      by (Err e) = tt
+
+  activated : (l : Learner) (bytes : List ℕ) → Serves r (carried (learn_activation l bytes))
+  activated l bytes = by (long.read bytes)
+    where
+      by : (x : Result (ℤ × List ℕ) Fault) → Serves r (carried (x >>= λ named. learn_inform l named.1))
+      by (Ok named) = informed l named.1
       by (Err e) = tt
 
   -- Nothing is told.
@@ -159,7 +165,7 @@ module _ (loading : Loading) (r : Replica) where
   nothing : (l : Learner) → Serves r (carried (Ok (record { acts = []; after = l })))
   nothing l = inl (untold (no_effect loading (with_learner r (record { acts = []; after = l }))) refl refl)
 
-  -- Only an INFORM brings a transaction where clients are served.
+  -- Only an INFORM and an INFORMANDACTIVATE bring a transaction where clients are served.
   message_serves : (l : Learner) (m : Message) → Serves r (carried (message_in_serving l m))
   message_serves l (message.Ping p) = inl (record { tree = refl; none = λ place err e. true≢false (ap was_ping e) })
     where
@@ -176,6 +182,7 @@ module _ (loading : Loading) (r : Replica) where
       was_sync (Some (news.Applied place err)) = false
       was_sync (Some news.SyncSettled) = true
   message_serves l (message.Inform bytes) = informed l bytes
+  message_serves l (message.InformAndActivate bytes) = activated l bytes
   message_serves l (message.LeaderInfo epoch bytes) = nothing l
   message_serves l message.Diff = nothing l
   message_serves l (message.Trunc zxid) = nothing l
@@ -212,8 +219,9 @@ module _ (loading : Loading) (r : Replica) where
 
   item_serves : (i : Item) → is_serving r ≡ true → Serves r (take_item loading r i)
   item_serves (item.Packet p) s =
-      subst (λ (ph : Phase). Serves r (carried (message_in_phase ph r.learner (message_of_packet p))))
-      (sym (phase_is r.learner.phase s)) (message_serves r.learner (message_of_packet p))
+      let m = message_of_packet r.learner.dialect p in
+      subst (λ (ph : Phase). Serves r (carried (message_in_phase ph r.learner m)))
+      (sym (phase_is r.learner.phase s)) (message_serves r.learner m)
   item_serves (item.Part p) s =
       subst (λ (ph : Phase). Serves r (carried (part_in_phase ph r.learner p))) (sym (phase_is r.learner.phase s))
       (part_serves r.learner p)

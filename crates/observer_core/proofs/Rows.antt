@@ -59,6 +59,8 @@ use Rattle.watch_manager.specs.Watching.{WatchTables, no_watch}
 use Rattle.watch_manager.specs.Watches.{FireResult, fire}
 use Rattle.watch_manager.specs.Laws.{AllPass, AllLastingPass, OnlyWatchersAreTold, NoEventKeepsWatches}
 use Rattle.read_processor.specs.Watch.{watch_of}
+use Rattle.settings.specs.declared.dialect.Dialect.{Dialect}
+use Rattle.settings.specs.declared.dialect.Dialect.TheVariants.{Zk34}
 use Rattle.world.specs.declared.world.Settings.{Settings}
 use Rattle.client_frames.specs.declared.call.Call.{Call}
 use Rattle.client_frames.specs.declared.call.CallBody.TheVariants.{Local}
@@ -68,6 +70,7 @@ use Rattle.forwarding.specs.Queue.{RequestQueue, pending_limit, found_write}
 use Rattle.forwarding.specs.State.{TouchedSessions, PendingTable}
 use Rattle.forwarding.specs.Pending.{nothing_pending, queue_in, is_idle, hold_frame, touch_session}
 use Rattle.leader_answers.specs.Answering.{txn_number, reply_as, reply_of, is_due, lets_answer, answer_optional_txn, answer_applied_txn}
+use Rattle.observer_core.specs.declared.event.Event.{Event}
 use Rattle.world.specs.declared.output.Output.{Output}
 use Rattle.observer_core.proofs.Batches.{no_answer}
 use Rattle.observer_core.specs.declared.event.Event.TheVariants.{ClientBytes}
@@ -84,7 +87,7 @@ use Rattle.observer_core.specs.Machine.{Leader, Machine}
 use Rattle.client_frames.specs.Call.{call_in, call_after_header, call_body, read_as, read_with_flag, value_if_read}
 use Rattle.world.specs.Steps.{StepResult, prepend_outputs, no_output, and_then, fold_steps}
 use Rattle.world.specs.Clients.{heard_in, without_client, close_clients, no_clients, notices_of}
-use Rattle.replica.specs.Replica.{Replica}
+use Rattle.replica.specs.Replica.{Replica, primed_replica}
 use Rattle.replica.specs.Taking.{nothing_loaded, no_effect as unled, with_learner, carry_out_all, without_leader}
 use Rattle.learner_sync.specs.Learn.{LearnerStep, apply_txn}
 use Rattle.learner_sync.specs.declared.phase.Phase.TheVariants.{Serving}
@@ -93,7 +96,7 @@ use Rattle.four_letter.specs.Words.{word_of}
 use Rattle.four_letter.specs.declared.word.Word.{Word}
 use Rattle.world.specs.Sending.{close_client, send_or_close, send_reply, with_watches, with_pending}
 use Rattle.client_service.specs.Serve.{with_watch_if, handle_local, handle_or_hold, touched_as, serve_as, serve_by, header_len, is_refused_frame, serve_frame, word_without_session, is_unheard, with_waiting_bytes, wait_if_heard, wait_at, frames_of_client, serve_all, tell_or_serve, take_client_bytes}
-use Rattle.observer_core.specs.Play.{play_event, primed_session, first_client}
+use Rattle.observer_core.specs.Play.{play_event, play, initial_machine, primed_session, first_client, primed_machine}
 use Rattle.world.proofs.NatMaps.{get-inserted, insert-insert, insert-same, entries-empty}
 
 -- ---- texts
@@ -467,6 +470,7 @@ no_ids_first settings = ap ids_in (first_is settings)
 abbrev replica_at : Settings → ℤ → List Txn → State → Replica
 replica_at settings zxid log s = record {
   learner = record {
+    dialect = Zk34;
     phase = Serving;
     accepted_epoch = pos 1;
     current_epoch = pos 1;
@@ -491,6 +495,24 @@ world_at settings zxid log s touched rest = world_with settings zxid log s (clie
 -- A leader's stream without waiting bytes.
 abbrev pub beginning : Leader
 beginning = record { place = place_at Packets []; loading = nothing_loaded }
+
+-- The primed machine in this dialect.
+abbrev machine_in : Dialect → Settings → Machine
+machine_in dialect settings =
+    initial_machine settings
+    (primed_replica dialect (primed_session settings) settings.timeouts.greatest) (Some part_reader.opened)
+    (first_client settings)
+
+-- The primed machine in the dialect of ZooKeeper 3.4.
+abbrev pub earlier_machine : Settings → Machine
+earlier_machine settings = machine_in Zk34 settings
+
+-- It is the machine of settings that have this dialect.
+pub in_earlier : (settings : Settings) (events : List Event) (outputs : List Output) → settings.dialect ≡ Zk34
+    → (play (earlier_machine settings) events).outputs ≡ outputs
+    → (play (primed_machine settings) events).outputs ≡ outputs
+in_earlier settings events outputs is answers =
+    subst (λ (d : Dialect). (play (machine_in d settings) events).outputs ≡ outputs) (sym is) answers
 
 -- A machine that follows a leader, in this world.
 abbrev pub following : Settings → ℤ → List Txn → State → TouchedSessions → List ℕ → Machine
