@@ -94,8 +94,12 @@ fn told_in(alloc: Global, tree: &mut Tree, txn: &Txn) -> Result<String, Fail> {
     load(alloc, tree)?;
     let outcome = text_of(alloc, &tree.apply(alloc, txn)?)?;
     let root = tree.node("/").ok_or("no root")?;
-    Ok(format!(in alloc; "{outcome}: {} {} {}",
-        root.stat.cversion, root.stat.pzxid, has_list(tree, "/a"))?)
+    Ok(format!(in alloc;
+        "{outcome}: {} {} {}",
+        root.stat.cversion,
+        root.stat.pzxid,
+        has_list(tree, "/a")
+    )?)
 }
 
 fn told(alloc: Global, rules: Dialect, zxid: i64, body: Body) -> Result<String, Fail> {
