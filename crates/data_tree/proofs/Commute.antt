@@ -12,7 +12,7 @@ use Rattle.node_map.specs.Updates.{owner_of}
 use Rattle.node_map.specs.declared.node.Node.{Node}
 use Rattle.data_tree.specs.State.{State, Nodes}
 use Rattle.txn_codec.specs.Row.{has_error, footprint_of_operation, footprint_of_parts, session_change}
-use Rattle.data_tree.specs.Meaning.{Effect, effect_of, create_under, create_taken, create_new, Change, mended, delete_missing, delete_at, set_data_at, set_acl_at, TxnEffect, answer_of, of_effect, of_operation, of_set_acl, of_parts, of_failed, first_error, effect_of_txn, effect_of_body, after_changes, of_create_session, of_close_session, delete_operations, ended_paths, state_without_session}
+use Rattle.data_tree.specs.Meaning.{Effect, effect_of, create_under, create_taken, create_new, Change, mended_list, delete_missing, delete_at, set_data_at, set_acl_at, TxnEffect, answer_of, of_effect, of_operation, of_set_acl, of_parts, of_failed, first_error, effect_of_txn, effect_of_body, after_changes, of_create_session, of_close_session, delete_operations, ended_paths, state_without_session}
 use Rattle.data_tree.specs.Meaning.Change.{Put, Own, Disown}
 use Rattle.data_tree.specs.Footprint.{has_path, IsSameCell, AreSameAt, AreApart, footprint, KeepsToCells}
 use Rattle.data_tree.specs.Commuting.{IsConfined, IsConfinedTo, TransactionsKeepToTheirFootprints, TransactionsSetTheirTimeouts, DisjointTransactionsCommute, with_timeout_of, with_timeouts}
@@ -42,7 +42,7 @@ within_lost ps owner path true h = tt
 within_lost ps owner path false h = (h, tt)
 
 within_mended : (ps : List Bytes) (rules : Dialect) (c : Create) → has_path ps c.path ≡ true
-    → AreWithin ps (mended rules c)
+    → AreWithin ps (mended_list rules c)
 within_mended ps Zk34 c h = tt
 within_mended ps Zk38 c h = (h, tt)
 
@@ -61,7 +61,7 @@ within_create h c (Some parent) =
     let up : has_path ps (parent_of c.path) ≡ true = touches_second (parent_of c.path) c.path [] in
     elim (set.contains parent.children (name_of c.path)) as
     (λ b. AreWithin ps (if b then create_taken h c parent else create_new h c parent).changes) [
-      | true ↦ within_taken ps (parent_of c.path) _ (mended h.rules c) _ up (within_mended ps h.rules c here)
+      | true ↦ within_taken ps (parent_of c.path) _ (mended_list h.rules c) _ up (within_mended ps h.rules c here)
       | false ↦ (up, (here, within_gained ps (owner_of h c.owner) c.path _ here))
     ]
 

@@ -15,7 +15,7 @@ use Rattle.node_map.specs.Updates.{next_cversion, update_node, update_found}
 use Rattle.node_map.specs.Children.{with_added_child, with_raised_stat, stat_after_create, added_child, without_added_child}
 use Rattle.node_map.specs.declared.node.Node.{Node}
 use Rattle.data_tree.specs.State.{State, Nodes}
-use Rattle.data_tree.specs.Meaning.{Change, after_changes, mended, create_new, create_taken, create_under, of_effect, of_operation, with_children}
+use Rattle.data_tree.specs.Meaning.{Change, after_changes, mended_list, create_new, create_taken, create_under, of_effect, of_operation, with_children}
 use Rattle.data_tree.specs.Meaning.Change.{Put}
 use Rattle.data_tree.specs.Inner.Doing.{IsEffectDone}
 use Rattle.data_tree.specs.Inner.Mending.{with_mended}
@@ -27,7 +27,7 @@ use Rattle.node_map.proofs.NodeUpdates.{insert_same, added_child_taken, undone}
 
 -- What mends a node, as a change.
 mended_is : (rules : Dialect) (c : Create) (s : State)
-    → with_mended rules c.path (acl_or_open c.acl) s ≡ after_changes s (mended rules c)
+    → with_mended rules c.path (acl_or_open c.acl) s ≡ after_changes s (mended_list rules c)
 mended_is Zk34 c s = refl
 mended_is Zk38 c s = refl
 
@@ -84,9 +84,9 @@ taken-done s h c n before after taken is same = by (finmap.get s.nodes (parent_o
       state =
           mended_is h.rules c (let t : State = record { nodes = n; pairs = s.pairs; sessions = s.sessions } in t)
           ∙ ap (λ (m : Nodes). after_changes (let t : State =
-          record { nodes = m; pairs = s.pairs; sessions = s.sessions } in t) (mended h.rules c))
+          record { nodes = m; pairs = s.pairs; sessions = s.sessions } in t) (mended_list h.rules c))
           (is ∙ ap (finmap.insert s.nodes (parent_of c.path)) (added_child_taken h c (name_of c.path) parent e))
-          ∙ with_raised_stat-is s h c (parent_of c.path) parent (mended h.rules c) found;
+          ∙ with_raised_stat-is s h c (parent_of c.path) parent (mended_list h.rules c) found;
       err = refl;
       fired = same ∙ nothing_more before [] refl;
     }

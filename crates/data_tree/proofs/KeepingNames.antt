@@ -26,7 +26,7 @@ use Rattle.node_map.proofs.Links.{each_of_all}
 use Rattle.node_map.proofs.Naming.{name_is, IsNamed, EachIsNamed, each_with, each_without, names_with, names_without, no_names}
 use Rattle.data_tree.specs.State.{State, Nodes}
 use Rattle.txn_codec.specs.Row.{has_error}
-use Rattle.data_tree.specs.Meaning.{Change, after_change, after_changes, effect_of, create_under, create_taken, create_new, with_children, mended, gained_pair, delete_missing, delete_at, lost_pair, set_data_at, set_acl_at, of_parts, of_multi, of_failed, delete_operations, ended_paths, state_without_session, effect_of_body, fresh_state}
+use Rattle.data_tree.specs.Meaning.{Change, after_change, after_changes, effect_of, create_under, create_taken, create_new, with_children, mended_list, gained_pair, delete_missing, delete_at, lost_pair, set_data_at, set_acl_at, of_parts, of_multi, of_failed, delete_operations, ended_paths, state_without_session, effect_of_body, fresh_state}
 use Rattle.data_tree.specs.Meaning.Change.{Put, Remove, Own, Disown, Mend}
 use Rattle.data_tree.specs.Making.{with_node, with_node_in_place}
 
@@ -103,7 +103,7 @@ lost_fine owner path = by (int_eq owner (pos 0))
     by true = tt
     by false = (tt, tt)
 
-mended_fine : (rules : Dialect) (c : Create) → AreFine (mended rules c)
+mended_fine : (rules : Dialect) (c : Create) → AreFine (mended_list rules c)
 mended_fine Zk34 c = tt
 mended_fine Zk38 c = (tt, tt)
 
@@ -115,8 +115,8 @@ taken_fine h c parent named =
     by : (b : Bool)
         → AreFine (if b then Put (parent_of c.path)
         (with_children parent parent.children (next_cversion parent.stat.cversion c.parent_cversion) h.zxid)
-        ∷ mended h.rules c
-        else mended h.rules c)
+        ∷ mended_list h.rules c
+        else mended_list h.rules c)
     by true = (record { right = named.right; names = named.names }, mended_fine h.rules c)
     by false = mended_fine h.rules c
 

@@ -77,9 +77,9 @@ lost_pair owner path = if int_eq owner (pos 0) then [] else Disown owner path �
 
 -- An image that was written while the leader went on may lack the list of a node. By the rules of later dialects the
 -- create that comes again brings it.
-abbrev pub mended : Dialect → Create → List Change
-mended Zk34 create = []
-mended Zk38 create = Mend create.path (acl_or_open create.acl) ∷ []
+abbrev pub mended_list : Dialect → Create → List Change
+mended_list Zk34 create = []
+mended_list Zk38 create = Mend create.path (acl_or_open create.acl) ∷ []
 
 -- A create of a name that the parent has already can only raise the parent's stat.
 abbrev pub create_taken : TxnHeader → Create → Node → Effect
@@ -90,8 +90,8 @@ create_taken header create parent =
       changes =
           if int_lt parent.stat.cversion next
           then Put (parent_of create.path) (with_children parent parent.children next header.zxid)
-          ∷ mended header.rules create
-          else mended header.rules create;
+          ∷ mended_list header.rules create
+          else mended_list header.rules create;
       triggers = [];
     }
 

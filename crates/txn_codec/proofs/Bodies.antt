@@ -21,14 +21,14 @@ use Rattle.txn_codec.specs.Kinds.{create_kind, operation_kind, body_kind}
 use Rattle.txn_codec.specs.Paths.{is_child_path}
 use Rattle.txn_codec.specs.Endings.{with_trailer_if, closing_if}
 use Rattle.txn_codec.specs.Fields.{child_path}
-use Rattle.txn_codec.specs.Spelling.{last_field, kind_in, part_kind_in, owner_if, owner_format, shows_stat, create_with, set_data, set_acl, check_format, header_in, as_create, as_delete, as_set_data, as_check, as_error, created, operation_format, is_lenient, part_content, part_in, parts_in, as_single, as_set_acl, as_multi, as_session, as_close, has_own_end, body_fields, body_content, body_in, txn_in}
+use Rattle.txn_codec.specs.Spelling.{last_field, kind_format_in, part_kind_in, owner_if, owner_format, shows_stat, create_with, set_data, set_acl, check_format, header_in, as_create, as_delete, as_set_data, as_check, as_error, created_operation, operation_format, is_lenient, part_content, part_format_in, parts_format_in, as_single, as_set_acl, as_multi, as_session, as_close, has_own_end, body_fields, body_content, body_in, txn_in}
 use Rattle.txn_codec.proofs.Closing.{closing_if_sound}
 use Rattle.txn_codec.proofs.Endings.{trailer_if_sound, in_buffer_sound, before_trailer, buffered}
 use Rattle.txn_codec.proofs.Spelled.{path_sound, last_sound, kind_sound, part_kind_sound, create_sound, create_at_end, set_data_sound, set_acl_sound, check_sound, header_sound}
 
 -- ---- operations
 
-created_sound : (k : TxnKind) → IsSound (created int k)
+created_sound : (k : TxnKind) → IsSound (created_operation int k)
 created_sound k = case_sound operations.Create as_create (create_with int k) (λ c. refl) (create_sound k)
 
 pub operation_sound : (k : TxnKind) → IsSound (operation_format int k)
@@ -72,7 +72,7 @@ owner_tells last kinds.CreateSession v text s = absurd s
 owner_tells last kinds.CloseSession v text s = absurd s
 owner_tells last kinds.Error v text s = absurd s
 
-created_tells : (last : Format ℤ) (k : TxnKind) (o : Operation) (text : List ℕ) → (created last k).Spells o text
+created_tells : (last : Format ℤ) (k : TxnKind) (o : Operation) (text : List ℕ) → (created_operation last k).Spells o text
     → operation_kind o ≡ k
 created_tells last k o text s =
     ap operation_kind (sym (ok_is (operations.Create s.0) o s.1))
@@ -104,13 +104,13 @@ part_tells reads k o text s =
     let held = buffered (is_lenient reads k) (operation_format int k) o text s in
     operation_tells int k o held.0 held.1
 
-pub part_sound : (reads : Reads) → IsSound (part_in reads)
+pub part_sound : (reads : Reads) → IsSound (part_format_in reads)
 part_sound reads =
     tagged_sound (part_kind_in reads) operation_kind (part_content reads) (part_tells reads) (part_kind_sound reads)
     (λ k. in_buffer_sound (operation_format int k) (operation_sound k) (is_lenient reads k))
 
-pub parts_sound : (reads : Reads) → IsSound (parts_in reads)
-parts_sound reads = null_vector_sound (part_in reads) (part_sound reads)
+pub parts_sound : (reads : Reads) → IsSound (parts_format_in reads)
+parts_sound reads = null_vector_sound (part_format_in reads) (part_sound reads)
 
 -- ---- bodies
 
@@ -163,7 +163,7 @@ module _ (reads : Reads) where
       (case_sound bodies.SetAcl as_set_acl set_acl (λ s. refl) set_acl_sound)
   content_at_end kinds.Multi =
       trailed reads.trailer (body_fields reads kinds.Multi)
-      (case_sound bodies.Multi as_multi (parts_in reads) (λ ps. refl) (parts_sound reads))
+      (case_sound bodies.Multi as_multi (parts_format_in reads) (λ ps. refl) (parts_sound reads))
   content_at_end kinds.CreateSession =
       trailed reads.trailer (body_fields reads kinds.CreateSession)
       (case_sound bodies.CreateSession as_session int (λ z. refl) int_sound)
@@ -199,7 +199,7 @@ module _ (reads : Reads) where
 
   pub body_at_end : IsSoundAtEnd (body_in reads)
   body_at_end =
-      tagged_at_end (kind_in reads Alone) body_kind (body_content reads) content_tells (kind_sound reads Alone)
+      tagged_at_end (kind_format_in reads Alone) body_kind (body_content reads) content_tells (kind_sound reads Alone)
       content_at_end
 
 pub txn_at_end : (dialect : Dialect) → IsSoundAtEnd (txn_in dialect)

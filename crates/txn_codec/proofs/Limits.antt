@@ -22,7 +22,7 @@ use Rattle.txn_codec.specs.Kinds.{operation_kind, body_kind}
 use Rattle.txn_codec.specs.Parents.{HasParent, HaveParents}
 use Rattle.txn_codec.specs.Paths.{is_child_path}
 use Rattle.txn_codec.specs.Fields.{child_path}
-use Rattle.txn_codec.specs.Spelling.{last_field, created, operation_format, is_lenient, part_in, parts_in, has_own_end, body_fields, body_in, txn_in}
+use Rattle.txn_codec.specs.Spelling.{last_field, created_operation, operation_format, is_lenient, part_format_in, parts_format_in, has_own_end, body_fields, body_in, txn_in}
 use Rattle.txn_codec.proofs.Bodies.{txn_at_end}
 use Rattle.txn_codec.proofs.Closing.{closing_children}
 use Rattle.txn_codec.proofs.Endings.{before_trailer, buffered}
@@ -31,7 +31,7 @@ use Rattle.txn_codec.proofs.Spelled.{tested_is}
 child_spelled : (p text : List ℕ) → child_path.Spells p text → IsTrue (is_child_path p)
 child_spelled p text s = (tested_is is_child_path s.0 p s.1).0
 
-created_parent : (last : Format ℤ) (k : TxnKind) (o : Operation) (text : List ℕ) → (created last k).Spells o text
+created_parent : (last : Format ℤ) (k : TxnKind) (o : Operation) (text : List ℕ) → (created_operation last k).Spells o text
     → HasParent o
 created_parent last k o text s =
     subst HasParent (ok_is (operations.Create s.0) o s.1)
@@ -55,18 +55,18 @@ operation_parent last kinds.CreateSession o text s = absurd s
 operation_parent last kinds.CloseSession o text s = absurd s
 
 module _ (reads : Reads) where
-  part_parent : (o : Operation) (text : List ℕ) → (part_in reads).Spells o text → HasParent o
+  part_parent : (o : Operation) (text : List ℕ) → (part_format_in reads).Spells o text → HasParent o
   part_parent o text s =
       let held = buffered (is_lenient reads (operation_kind o)) (operation_format int (operation_kind o)) o s.1 s.4 in
       operation_parent int (operation_kind o) o held.0 held.1
 
-  each_parent : (ps : List Operation) (text : List ℕ) → SpellsEach (part_in reads).Spells ps text
+  each_parent : (ps : List Operation) (text : List ℕ) → SpellsEach (part_format_in reads).Spells ps text
       → AllByRecursion HasParent ps
   each_parent [] text s = tt
   each_parent (p ∷ ps) text s = (part_parent p s.0 s.3, each_parent ps s.1 s.4)
 
   parts_parents : (ps : Option (List Operation)) (text : List ℕ)
-      → (vector_of (part_in reads)).Spells ps text → AllByRecursion HasParent (or_empty ps)
+      → (vector_of (part_format_in reads)).Spells ps text → AllByRecursion HasParent (or_empty ps)
   parts_parents None text s = tt
   parts_parents (Some ps) text s = each_parent ps s.1 s.3
 

@@ -19,7 +19,7 @@ use Rattle.txn_codec.specs.Kinds.{txn_kinds, kind_of, later_kind_of, kind_at, co
 use Rattle.txn_codec.specs.Endings.{or_end, with_trailer_if}
 use Rattle.txn_codec.specs.Paths.{is_path, is_child_path}
 use Rattle.txn_codec.specs.Fields.{tested_text, path_by, path_format, child_path}
-use Rattle.txn_codec.specs.Spelling.{kind_in, part_kind_in, owner_if, with_flag, flagged, owner_format, fields_of, create_with, set_data, set_acl, check_format, header_of, numbers_of, header_in}
+use Rattle.txn_codec.specs.Spelling.{kind_format_in, part_kind_in, owner_if, with_flag, flagged_owner, owner_format, fields_of, create_with, set_data, set_acl, check_format, header_of, header_numbers, header_in}
 use Rattle.txn_codec.proofs.Endings.{number_long, trailer_if_sound, last_at_end}
 
 -- ---- paths
@@ -119,7 +119,7 @@ kind_again false place z k e = subst (λ (c : ℤ). kind_of c ≡ Ok k) (code_fo
 same_length : (y z : ℤ) → length (int.written y) ≤ length (int.written z)
 same_length y z = omega (arith, number_long y, number_long z)
 
-pub kind_sound : (reads : Reads) (place : Place) → IsSound (kind_in reads place)
+pub kind_sound : (reads : Reads) (place : Place) → IsSound (kind_format_in reads place)
 kind_sound reads place = judged_back_sound (kind_at reads place) (λ k. Some (code_of k)) int
     (λ z k e. (kind_again reads.extended_types place z k e, λ h. code_fits k, same_length (code_of k) z)) int_sound
 
@@ -128,7 +128,7 @@ part_is k j e = (guard_ended (is_part_kind k) BadTxnType k j e).1
 
 pub part_kind_sound : (reads : Reads) → IsSound (part_kind_in reads)
 part_kind_sound reads =
-    judged_sound part_kind_of (λ k. Some k) (kind_in reads Part)
+    judged_sound part_kind_of (λ k. Some k) (kind_format_in reads Part)
     (λ k j e. ap (λ (x : TxnKind). Some x) (sym (part_is k j e))) (kind_sound reads Part)
 
 -- ---- records
@@ -140,11 +140,11 @@ flag_back : (b : Bool) (z : ℤ) → with_flag (owner_if b) z ≡ Some (b, z)
 flag_back true z = refl
 flag_back false z = refl
 
-flagged_sound : IsSound (flagged int)
+flagged_sound : IsSound (flagged_owner int)
 flagged_sound = case_sound _ _ (pair_of boolean int) (λ v. flag_back v.0 v.1)
     (both_sound boolean int boolean_sound int_sound)
 
-flagged_at_end : (last : Format ℤ) → IsSoundAtEnd last → IsSoundAtEnd (flagged last)
+flagged_at_end : (last : Format ℤ) → IsSoundAtEnd last → IsSoundAtEnd (flagged_owner last)
 flagged_at_end last s = case_at_end _ _ (pair_of boolean last) (λ v. flag_back v.0 v.1)
     (both_at_end boolean last boolean_sound s)
 
@@ -174,7 +174,7 @@ create_at_end last s =
     case_at_end _ fields_of _ (λ v. refl)
     (both_at_end child_path _ (path_sound is_child_path)
     (both_at_end buffer _ buffer_sound
-    (both_at_end (vector_of acl_format) (flagged last) acls_sound (flagged_at_end last s))))
+    (both_at_end (vector_of acl_format) (flagged_owner last) acls_sound (flagged_at_end last s))))
 
 pub set_data_sound : IsSound set_data
 set_data_sound = mapped_sound _ _ _ (λ v. refl) (λ s. refl)
@@ -188,5 +188,5 @@ pub check_sound : IsSound check_format
 check_sound = mapped_sound _ _ _ (λ v. refl) (λ c. refl) (both_sound path_format int (path_sound is_path) int_sound)
 
 pub header_sound : (rules : Dialect) → IsSound (header_in rules)
-header_sound rules = case_sound (header_of rules) numbers_of _ (λ v. refl)
+header_sound rules = case_sound (header_of rules) header_numbers _ (λ v. refl)
     (both_sound long _ long_sound (both_sound int _ int_sound (both_sound long long long_sound long_sound)))

@@ -9,7 +9,7 @@ use Rattle.txn_codec.specs.declared.txn.Create.{Create}
 use Rattle.txn_codec.specs.declared.txn.Operation.TheVariants as operations
 use Rattle.txn_codec.specs.Kinds.{create_kind}
 use Rattle.txn_codec.specs.Inner.{owner_bytes, create_bytes}
-use Rattle.txn_codec.specs.Spelling.{flagged, owner_format, create_format, operation_format, format_of_operation}
+use Rattle.txn_codec.specs.Spelling.{flagged_owner, owner_format, create_format, operation_format, format_of_operation}
 
 owner_written : (o : Owner) (s : Bool) (z : ℤ) → (owner_format int (create_kind o s)).written (o, z) ≡ owner_bytes o z
 owner_written Nobody true z = refl
@@ -58,7 +58,7 @@ created_writable c h = front_writable c.owner c.asks_stat c h
 
 -- ---- a CreateTxn by itself
 
-flag_written : (o : Owner) (z : ℤ) → (flagged int).Writable (o, z) → (flagged int).written (o, z) ≡ owner_bytes o z
+flag_written : (o : Owner) (z : ℤ) → (flagged_owner int).Writable (o, z) → (flagged_owner int).written (o, z) ≡ owner_bytes o z
 flag_written Nobody z h = refl
 flag_written Client z h = refl
 flag_written Container z h = absurd h

@@ -41,12 +41,12 @@ last_field reads Alone = or_end (with_trailer_if reads.trailer int)
 last_field reads Part = int
 
 -- A type, by its code at this place.
-abbrev pub kind_in : Reads → Place → Format TxnKind
-kind_in reads place = judged_format (kind_at reads place) (λ k. Some (code_of k)) int
+abbrev pub kind_format_in : Reads → Place → Format TxnKind
+kind_format_in reads place = judged_format (kind_at reads place) (λ k. Some (code_of k)) int
 
 -- A type that a part of a multi may have.
 abbrev pub part_kind_in : Reads → Format TxnKind
-part_kind_in reads = judged_format part_kind_of (λ k. Some k) (kind_in reads Part)
+part_kind_in reads = judged_format part_kind_of (λ k. Some k) (kind_format_in reads Part)
 
 -- ---- creates: what all have in front, and then the owner with the parent's cversion
 
@@ -69,20 +69,20 @@ with_ttl (Ttl milliseconds) z = Some (z, milliseconds)
 with_ttl o z = None
 
 -- Whether the session owns the node; and a last field, which may be missing.
-abbrev pub flagged : Format ℤ → Format (Owner × ℤ)
-flagged last = case_of (λ v. (owner_if v.0, v.1)) (λ v. with_flag v.0 v.1) (pair_of boolean last)
+abbrev pub flagged_owner : Format ℤ → Format (Owner × ℤ)
+flagged_owner last = case_of (λ v. (owner_if v.0, v.1)) (λ v. with_flag v.0 v.1) (pair_of boolean last)
 
-abbrev pub contained : Format (Owner × ℤ)
-contained = case_of (λ z. (Container, z)) (λ v. if_container v.0 v.1) int
+abbrev pub container_owner : Format (Owner × ℤ)
+container_owner = case_of (λ z. (Container, z)) (λ v. if_container v.0 v.1) int
 
-abbrev pub timed : Format (Owner × ℤ)
-timed = case_of (λ v. (Ttl v.1, v.0)) (λ v. with_ttl v.0 v.1) (pair_of int long)
+abbrev pub timed_owner : Format (Owner × ℤ)
+timed_owner = case_of (λ v. (Ttl v.1, v.0)) (λ v. with_ttl v.0 v.1) (pair_of int long)
 
 abbrev pub owner_format : Format ℤ → TxnKind → Format (Owner × ℤ)
-owner_format last kinds.Create = flagged last
-owner_format last kinds.Create2 = flagged int
-owner_format last kinds.CreateContainer = contained
-owner_format last kinds.CreateTtl = timed
+owner_format last kinds.Create = flagged_owner last
+owner_format last kinds.Create2 = flagged_owner int
+owner_format last kinds.CreateContainer = container_owner
+owner_format last kinds.CreateTtl = timed_owner
 owner_format last k = refusal_format BadTxnType
 
 -- Whether the reply to a create of this type shows the node's Stat.
@@ -135,11 +135,11 @@ HeaderNumbers = ℤ × (ℤ × (ℤ × ℤ))
 abbrev pub header_of : Dialect → HeaderNumbers → TxnHeader
 header_of rules v = record { client_id = v.0; cxid = v.1.0; zxid = v.1.1.0; time = v.1.1.1; rules = rules }
 
-abbrev pub numbers_of : TxnHeader → Option HeaderNumbers
-numbers_of h = Some (h.client_id, (h.cxid, (h.zxid, h.time)))
+abbrev pub header_numbers : TxnHeader → Option HeaderNumbers
+header_numbers h = Some (h.client_id, (h.cxid, (h.zxid, h.time)))
 
 abbrev pub header_in : Dialect → Format TxnHeader
-header_in rules = case_of (header_of rules) numbers_of (pair_of long (pair_of int (pair_of long long)))
+header_in rules = case_of (header_of rules) header_numbers (pair_of long (pair_of int (pair_of long long)))
 
 -- ---- operations after their type; a create's last field is a parameter
 
@@ -163,14 +163,14 @@ abbrev pub as_error : Operation → Option ℤ
 as_error (operations.Error e) = Some e
 as_error o = None
 
-abbrev pub created : Format ℤ → TxnKind → Format Operation
-created last k = case_of operations.Create as_create (create_with last k)
+abbrev pub created_operation : Format ℤ → TxnKind → Format Operation
+created_operation last k = case_of operations.Create as_create (create_with last k)
 
 abbrev pub operation_format : Format ℤ → TxnKind → Format Operation
-operation_format last kinds.Create = created last kinds.Create
-operation_format last kinds.Create2 = created last kinds.Create2
-operation_format last kinds.CreateContainer = created last kinds.CreateContainer
-operation_format last kinds.CreateTtl = created last kinds.CreateTtl
+operation_format last kinds.Create = created_operation last kinds.Create
+operation_format last kinds.Create2 = created_operation last kinds.Create2
+operation_format last kinds.CreateContainer = created_operation last kinds.CreateContainer
+operation_format last kinds.CreateTtl = created_operation last kinds.CreateTtl
 operation_format last kinds.Delete = case_of operations.Delete as_delete child_path
 operation_format last kinds.SetData = case_of operations.SetData as_set_data set_data
 operation_format last kinds.Check = case_of operations.Check as_check check_format
@@ -197,12 +197,12 @@ is_lenient reads k = reads.lenient_parts && is_error k
 abbrev pub part_content : Reads → TxnKind → Format Operation
 part_content reads k = in_buffer (is_lenient reads k) (operation_format int k)
 
-abbrev pub part_in : Reads → Format Operation
-part_in reads = tagged_format (part_kind_in reads) operation_kind (part_content reads)
+abbrev pub part_format_in : Reads → Format Operation
+part_format_in reads = tagged_format (part_kind_in reads) operation_kind (part_content reads)
 
 -- Null is an empty list.
-abbrev pub parts_in : Reads → Format (List Operation)
-parts_in reads = or_null (vector_of (part_in reads))
+abbrev pub parts_format_in : Reads → Format (List Operation)
+parts_format_in reads = or_null (vector_of (part_format_in reads))
 
 -- ---- bodies: a type, and the fields after it
 
@@ -231,7 +231,7 @@ single_body reads k = case_of bodies.Single as_single (operation_format (last_fi
 
 abbrev pub body_fields : Reads → TxnKind → Format Body
 body_fields reads kinds.SetAcl = case_of bodies.SetAcl as_set_acl set_acl
-body_fields reads kinds.Multi = case_of bodies.Multi as_multi (parts_in reads)
+body_fields reads kinds.Multi = case_of bodies.Multi as_multi (parts_format_in reads)
 body_fields reads kinds.CreateSession = case_of bodies.CreateSession as_session int
 body_fields reads kinds.CloseSession = case_of bodies.CloseSession as_close (closing_if reads.lists_paths)
 body_fields reads k = single_body reads k
@@ -246,7 +246,7 @@ abbrev pub body_content : Reads → TxnKind → Format Body
 body_content reads k = with_trailer_if (reads.trailer && not (has_own_end k)) (body_fields reads k)
 
 abbrev pub body_in : Reads → Format Body
-body_in reads = tagged_format (kind_in reads Alone) body_kind (body_content reads)
+body_in reads = tagged_format (kind_format_in reads Alone) body_kind (body_content reads)
 
 -- ---- transactions
 
@@ -256,30 +256,30 @@ txn_in dialect = mapped_format (λ v. record { header = v.0; body = v.1 }) (λ t
 
 -- ---- those of ZooKeeper 3.4
 
-abbrev pub earlier : Reads
-earlier = reads_of Zk34
+abbrev pub earlier_reads : Reads
+earlier_reads = reads_of Zk34
 
 abbrev pub txn_header : Format TxnHeader
 txn_header = header_in Zk34
 
 abbrev pub kind_format : Format TxnKind
-kind_format = kind_in earlier Alone
+kind_format = kind_format_in earlier_reads Alone
 
 abbrev pub part_kind : Format TxnKind
-part_kind = part_kind_in earlier
+part_kind = part_kind_in earlier_reads
 
 abbrev pub multi_part : Format Operation
-multi_part = part_in earlier
+multi_part = part_format_in earlier_reads
 
 abbrev pub multi_parts : Format (List Operation)
-multi_parts = parts_in earlier
+multi_parts = parts_format_in earlier_reads
 
 -- The format in which a body is written after its type.
 abbrev pub format_of_body : Body → Format Body
-format_of_body b = body_content earlier (body_kind b)
+format_of_body b = body_content earlier_reads (body_kind b)
 
 abbrev pub body_format : Format Body
-body_format = body_in earlier
+body_format = body_in earlier_reads
 
 abbrev pub txn_format : Format Txn
 txn_format = txn_in Zk34

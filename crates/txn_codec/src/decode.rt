@@ -5,7 +5,7 @@ ghost use Rattle.jute.specs.Reads.{ReadsOwned, ReadsOwnedWhole};
 ghost use Rattle.jute.specs.Format.{int, read_n};
 ghost use Rattle.txn_codec.specs.Endings.{value_in_buffer};
 ghost use Rattle.txn_codec.specs.Fields.{path_format, child_path};
-ghost use Rattle.txn_codec.specs.Spelling.{last_field, kind_in, part_kind_in, flagged, timed, owner_format, create_with, created, create_format, set_data as set_data_format, set_acl as set_acl_format, check_format, header_in, operation_format, is_lenient, multi_part, part_content, part_in, parts_in, body_fields, body_content, body_in, txn_in, txn_format, value_of_whole};
+ghost use Rattle.txn_codec.specs.Spelling.{last_field, kind_format_in, part_kind_in, flagged_owner, timed_owner, owner_format, create_with, created_operation, create_format, set_data as set_data_format, set_acl as set_acl_format, check_format, header_in, operation_format, is_lenient, multi_part, part_content, part_format_in, parts_format_in, body_fields, body_content, body_in, txn_in, txn_format, value_of_whole};
 ghost use Rattle.txn_codec.specs.Parents.{HaveParents};
 ghost use Rattle.txn_codec.specs.Refusals.{IfFault, AgainstIn, AgainstTxn};
 ghost use Rattle.txn_codec.specs.declared.txn.Txn.{Txn as TheTxn};
@@ -48,7 +48,7 @@ fn read_child_path(alloc: Global, reader: &mut Reader<'_>) -> Result<Path, ReadE
 
 #[tactic(auto, unfolding(jute::specs::Format::judged_at))]
 fn read_kind(reads: Reads, place: Place, reader: &mut Reader<'_>) -> Result<TxnKind, ReadError>
-    ensures { ReadsOwned (kind_in reads place).read (λ k. k) result reader.old reader.new }
+    ensures { ReadsOwned (kind_format_in reads place).read (λ k. k) result reader.old reader.new }
 {
     let mut ahead = reader.ahead();
     let kind = TxnKind::at(reads, place, ahead.read_int()?)?;
@@ -115,7 +115,7 @@ fn read_flagged(
     place: Place,
     reader: &mut Reader<'_>,
 ) -> Result<(Owner, i32), ReadError>
-    ensures { ReadsOwned (flagged (last_field reads place)).read (λ v. v) result reader.old reader.new }
+    ensures { ReadsOwned (flagged_owner (last_field reads place)).read (λ v. v) result reader.old reader.new }
 {
     let mut ahead = reader.ahead();
     let owner = if ahead.read_bool()? {
@@ -131,7 +131,7 @@ fn read_flagged(
 // The parent's cversion, and the node's time to live.
 #[tactic(auto, unfolding(jute::specs::Format::judged_at))]
 fn read_timed(reader: &mut Reader<'_>) -> Result<(Owner, i32), ReadError>
-    ensures { ReadsOwned timed.read (λ v. v) result reader.old reader.new }
+    ensures { ReadsOwned timed_owner.read (λ v. v) result reader.old reader.new }
 {
     let mut ahead = reader.ahead();
     let parent_cversion = ahead.read_int()?;
@@ -256,7 +256,7 @@ fn read_created(
     place: Place,
     reader: &mut Reader<'_>,
 ) -> Result<Operation, ReadError>
-    ensures { ReadsOwned (created (last_field reads place) kind).read (λ o. o) result reader.old reader.new }
+    ensures { ReadsOwned (created_operation (last_field reads place) kind).read (λ o. o) result reader.old reader.new }
 {
     Ok(Operation::Create(read_create(reads, alloc, kind, place, reader)?))
 }
@@ -326,7 +326,7 @@ fn read_buffered(
 // A part of a multi: a type, and a buffer with the operation.
 #[tactic(auto, unfolding(jute::specs::Sums::tagged_at))]
 fn read_part(reads: Reads, alloc: Global, reader: &mut Reader<'_>) -> Result<Operation, ReadError>
-    ensures { ReadsOwned (part_in reads).read (λ o. o) result reader.old reader.new }
+    ensures { ReadsOwned (part_format_in reads).read (λ o. o) result reader.old reader.new }
 {
     let mut ahead = reader.ahead();
     let kind = read_part_kind(reads, &mut ahead)?;
@@ -351,7 +351,7 @@ fn read_each_part(
     count: u32,
     reader: &mut Reader<'_>,
 ) -> Result<Vec<Operation>, ReadError>
-    ensures { ReadsOwned (read_n (part_in reads).read count) (λ v. v.items) result reader.old reader.new }
+    ensures { ReadsOwned (read_n (part_format_in reads).read count) (λ v. v.items) result reader.old reader.new }
 {
     let mut ahead = reader.ahead();
     let mut parts = Vec::new(alloc);
@@ -369,7 +369,7 @@ fn read_parts(
     alloc: Global,
     reader: &mut Reader<'_>,
 ) -> Result<Listed<Operation>, ReadError>
-    ensures { ReadsOwned (parts_in reads).read (λ p. p) result reader.old reader.new }
+    ensures { ReadsOwned (parts_format_in reads).read (λ p. p) result reader.old reader.new }
 {
     let mut ahead = reader.ahead();
     let Some(count) = ahead.read_count()? else {

@@ -5,7 +5,7 @@ ghost use Rattle.values.specs.declared.fault.Fault.{Fault as TheFault};
 ghost use Rattle.jute.specs.Laws.{IsBytes, IsSound, IsSoundAtEnd};
 ghost use Rattle.txn_codec.specs.Fields.{path_format, child_path};
 ghost use Rattle.txn_codec.specs.Refusals.{AgainstIn, AgainstTxn};
-ghost use Rattle.txn_codec.specs.Spelling.{header_in, kind_in, part_kind_in, part_in, parts_in, body_in, txn_in, kind_format, part_kind, create_format, set_data, set_acl, check_format, txn_header, multi_part, multi_parts, body_format, txn_format, value_of_whole};
+ghost use Rattle.txn_codec.specs.Spelling.{header_in, kind_format_in, part_kind_in, part_format_in, parts_format_in, body_in, txn_in, kind_format, part_kind, create_format, set_data, set_acl, check_format, txn_header, multi_part, multi_parts, body_format, txn_format, value_of_whole};
 ghost use Rattle.txn_codec.specs.declared.txn.Txn.{Txn as TheTxn};
 ghost use Rattle.txn_codec.specs.declared.place.Place.{Place as ThePlace};
 ghost use Rattle.settings.specs.Dialects.{reads_of};
@@ -39,10 +39,10 @@ pub fn transactions()
 /// The formats of this dialect are sound, as those of ZooKeeper 3.4 are.
 pub fn transactions_in(dialect: Dialect)
     ensures header { IsSound (header_in dialect) }
-    ensures kind { (place : ThePlace) → IsSound (kind_in (reads_of dialect) place) }
+    ensures kind { (place : ThePlace) → IsSound (kind_format_in (reads_of dialect) place) }
     ensures part_kind { IsSound (part_kind_in (reads_of dialect)) }
-    ensures part { IsSound (part_in (reads_of dialect)) }
-    ensures parts { IsSound (parts_in (reads_of dialect)) }
+    ensures part { IsSound (part_format_in (reads_of dialect)) }
+    ensures parts { IsSound (parts_format_in (reads_of dialect)) }
     ensures body { IsSoundAtEnd (body_in (reads_of dialect)) }
     ensures txn { IsSoundAtEnd (txn_in dialect) }
     ensures again { (t : TheTxn) → (txn_in dialect).Fits t

@@ -120,12 +120,12 @@ impl Path {
     pub(crate) fn if_child(alloc: Global, text: &str) -> Result<Option<Path>, NoMemory>
         ensures { IfOk result (λ path. path ≡ (if is_child_path text.now then Some text.now else None)) }
     {
-        if !is_child_path(text.as_bytes()) {
-            return Ok(None);
+        if is_child_path(text.as_bytes()) {
+            return Ok(Some(Path {
+                text: String::from_str(alloc, text)?,
+            }));
         }
-        Ok(Some(Path {
-            text: String::from_str(alloc, text)?,
-        }))
+        Ok(None)
     }
 
     /// The whole path.
