@@ -7,7 +7,6 @@ use Rattle.std.specs.Ordering.{int_eq}
 use Rattle.values.specs.declared.fault.Fault.{Fault}
 use Rattle.values.specs.declared.fault.Fault.TheVariants.{OutOfOrder, CommitMismatch, CannotTruncate, EpochTooSmall, UnexpectedPacket}
 use Rattle.values.specs.declared.fault.ReadError.{ReadError}
-use Rattle.settings.specs.Dialects.{reads_of}
 use Rattle.jute.specs.Format.{int, long, ◌>>=◌}
 use Rattle.jute.specs.Reads.{IsFailureOf}
 use Rattle.quorum_packet.specs.declared.item.Item.{Item}
@@ -139,7 +138,7 @@ apply_txn l t =
 
 -- The transaction that a packet carries, in the leader's dialect.
 abbrev pub carried_txn : Learner → List ℕ → Result Txn Fault
-carried_txn l bytes = value_of_whole (txn_in (reads_of l.dialect)) bytes
+carried_txn l bytes = value_of_whole (txn_in l.dialect) bytes
 
 -- A transaction that is proposed and committed in one packet; open proposals stay.
 abbrev pub learn_inform : Learner → List ℕ → Result LearnerStep Fault

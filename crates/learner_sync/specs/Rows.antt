@@ -27,8 +27,8 @@ zxid_at counter = pos (0x100000000 + counter)
 
 abbrev pub txn_at : ℕ → Txn
 txn_at counter = record {
-  header = record { client_id = pos 7; cxid = pos 1; zxid = zxid_at counter; time = pos 1000 };
-  body = bodies.CloseSession;
+  header = record { client_id = pos 7; cxid = pos 1; zxid = zxid_at counter; time = pos 1000; rules = Zk34 };
+  body = bodies.CloseSession [];
 }
 
 abbrev pub sent_packet : ℤ → ℤ → Option (List ℕ) → QuorumPacket

@@ -60,7 +60,6 @@ use Rattle.watch_manager.specs.Watches.{FireResult, fire}
 use Rattle.watch_manager.specs.Laws.{AllPass, AllLastingPass, OnlyWatchersAreTold, NoEventKeepsWatches}
 use Rattle.read_processor.specs.Watch.{watch_of}
 use Rattle.settings.specs.declared.dialect.Dialect.{Dialect}
-use Rattle.settings.specs.declared.dialect.Dialect.TheVariants.{Zk34}
 use Rattle.world.specs.declared.world.Settings.{Settings}
 use Rattle.client_frames.specs.declared.call.Call.{Call}
 use Rattle.client_frames.specs.declared.call.CallBody.TheVariants.{Local}

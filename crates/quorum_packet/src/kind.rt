@@ -77,7 +77,6 @@ impl PacketKind {
     }
 
     /// The code of the kind.
-    #[tactic(auto, unfolding(crate::specs::Kinds::kind_of))]
     pub fn code(self) -> i32
         ensures code { result ≡ code_of self }
         ensures back { kind_of result ≡ Some self }
