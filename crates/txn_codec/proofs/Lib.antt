@@ -16,3 +16,5 @@ pub mod Naming
 pub mod Limits
 -- What is written of a create.
 pub mod Written
+-- A transaction is refused as its header or its body is.
+pub mod Refused
