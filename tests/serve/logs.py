@@ -159,4 +159,7 @@ def test_the_log_is_read_to_its_end():
         told = server.lines_told()
         assert server.lines[-1].startswith("observer: F2 BadLength from 127.0.0.1:"), server.lines[-1]
         assert sum(1 for _, it in told if DROPPED.fullmatch(it)) == 1, told[-5:]
-        assert any("F2 BadLength" in it for target, it in told if target == "leader") or DROPPED.fullmatch(told[-1][1])
+        # The fault's line is told, too, or it is one of those dropped: then only what came after it is told after these.
+        at = next(n for n, (_, it) in enumerate(told) if DROPPED.fullmatch(it))
+        faults = [n for n, (target, it) in enumerate(told) if target == "leader" and "F2 BadLength" in it]
+        assert len(faults) == 1 and faults[0] > at or all("is gone" in it for _, it in told[at + 1:]), told[at:]

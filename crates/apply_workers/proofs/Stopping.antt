@@ -23,7 +23,7 @@ left_alone : (h : TxnHeader) (b : Body) (s : State) → IsLeftByRefused h b s s
 left_alone h (body.Single o) s = refl
 left_alone h (body.SetAcl b) s = refl
 left_alone h (body.CreateSession timeout) s = refl
-left_alone h body.CloseSession s = tt
+left_alone h (body.CloseSession listed) s = tt
 left_alone h (body.Multi parts) s = by (has_error parts)
   where
     by : (b : Bool) → IsPartlyDone b h parts s s

@@ -7,12 +7,13 @@ use Rattle.ephemerals.specs.Orders.{Bytes}
 use Rattle.ephemerals.proofs.Totals.{path_total}
 use Rattle.txn_codec.specs.Paths.{parent_of, name_of}
 use Rattle.txn_codec.specs.declared.txn.Create.{Create}
+use Rattle.txn_codec.specs.declared.txn.Owner.TheVariants.{Nobody}
 use Rattle.txn_codec.specs.declared.txn.Txn.{Txn}
 use Rattle.txn_codec.specs.declared.txn.TxnHeader.{TxnHeader}
-use Rattle.node_map.specs.Updates.{next_cversion}
+use Rattle.node_map.specs.Children.{stat_with_child}
 use Rattle.node_map.specs.declared.node.Node.{Node}
 use Rattle.data_tree.specs.State.{State, SessionTimeouts}
-use Rattle.data_tree.specs.Meaning.{TxnEffect, effect_of_txn, outcomes_of_txns, answer_of, of_effect, create_under, create_taken, create_new, with_children}
+use Rattle.data_tree.specs.Meaning.{TxnEffect, effect_of_txn, outcomes_of_txns, answer_of, of_effect, create_under, create_taken, create_new}
 use Rattle.data_tree.specs.Commuting.{TransactionsSetTheirTimeouts}
 use Rattle.batcher.specs.Rows.{create_txn_of, path_a, path_b, path_a_x, path_a_y, path_b_z}
 use Rattle.apply_workers.specs.declared.step.Step.{Step}
@@ -41,7 +42,14 @@ timeouts_are law set_in_order h s steps =
 -- ---- creates under two parents
 
 abbrev body_of : Bytes → Create
-body_of path = record { path = path; bytes = None; acl = None; ephemeral = false; parent_cversion = negsuc 0 }
+body_of path = record {
+  path = path;
+  bytes = None;
+  acl = None;
+  owner = Nobody;
+  asks_stat = false;
+  parent_cversion = negsuc 0;
+}
 
 -- The effect of a create whose parent doesn't have the child.
 abbrev made : TxnHeader → Bytes → Node → State → TxnEffect
@@ -58,7 +66,8 @@ is_made h s path parent is new =
 -- The parent with one more child.
 abbrev with_child : TxnHeader → Node → Bytes → Node
 with_child h parent name =
-    with_children parent (set.insert parent.children name) (next_cversion parent.stat.cversion (negsuc 0)) h.zxid
+    record parent
+    { children = set.insert parent.children name; stat = stat_with_child h (body_of path_a_x) parent.stat }
 
 outcomes_are : SchedulesAreTheBatch → (h : TxnHeader) (s : State) (parent other : Node)
     → finmap.get s.nodes path_a ≡ Some parent → finmap.get s.nodes path_b ≡ Some other

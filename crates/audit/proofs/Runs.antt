@@ -14,6 +14,8 @@ use Rattle.ephemerals.specs.Pairs.{paths_of_session}
 use Rattle.ephemerals.proofs.Ascending.{any-in_order}
 use Rattle.ephemerals.proofs.SessionPaths.{contains-owned, contains-without}
 use Rattle.ephemerals.proofs.Totals.{path_total, pair_total, pair_exact}
+use Rattle.settings.specs.declared.dialect.Dialect.{Dialect}
+use Rattle.settings.specs.declared.dialect.Dialect.TheVariants.{Zk34, Zk38}
 use Rattle.txn_codec.specs.Parents.{HasParent, HaveParents}
 use Rattle.txn_codec.specs.Paths.{is_root, is_child_path, parent_of, name_of}
 use Rattle.txn_codec.specs.declared.txn.TxnHeader.{TxnHeader}
@@ -25,14 +27,15 @@ use Rattle.txn_codec.specs.declared.txn.Operation.TheVariants as op
 use Rattle.txn_codec.specs.declared.txn.Body.{Body}
 use Rattle.txn_codec.specs.declared.txn.Body.TheVariants as body
 use Rattle.node_map.specs.Updates.{next_cversion, owner_of, with_data, with_acl}
+use Rattle.node_map.specs.Children.{without_child, without_missing_child}
 use Rattle.node_map.specs.declared.node.Node.{Node}
 use Rattle.data_tree.specs.State.{State, Nodes}
 use Rattle.txn_codec.specs.Row.{error_of}
-use Rattle.data_tree.specs.Meaning.{TxnEffect, after_changes, gained_pair, create_under, create_taken, create_new, with_children, lost_pair, delete_at, set_data_at, set_acl_at, of_operation, of_parts, delete_operations, state_without_session, effect_of_body, effect_of_txn, state_after}
+use Rattle.data_tree.specs.Meaning.{TxnEffect, after_changes, gained_pair, create_under, create_taken, create_new, lost_pair, delete_missing, delete_at, set_data_at, set_acl_at, of_operation, of_parts, delete_operations, state_without_session, effect_of_body, effect_of_txn, state_after}
 use Rattle.data_tree.specs.Meaning.Change.{Own, Disown}
 use Rattle.data_tree.specs.declared.outcome.Trigger.{Trigger}
 use Rattle.audit.specs.declared.count.Count.{Count}
-use Rattle.audit.specs.Clean.{is_childless, counts_up, is_clean_operation, are_clean_parts, is_clean_body, is_clean, are_clean}
+use Rattle.audit.specs.Clean.{is_childless, counts_up, is_clean_operation, are_clean_parts, is_clean_body, counts_all, is_clean, are_clean}
 use Rattle.audit.specs.Count.{count_after_triggers, count_after_log}
 use Rattle.audit.proofs.Names.{and_false, root_is, child_no_root}
 use Rattle.audit.proofs.Parts.{both, counted_all-append, multi_is}
@@ -96,12 +99,22 @@ next_is parent wanted up = by (int_eq wanted (negsuc 0)) up
     by true e = refl
     by false e = tells_apart exact_signed wanted (int_wrap w32 (parent.stat.cversion +ℤ pos 1)) e
 
-create_holds : (h : TxnHeader) (c : Create) (s : State) (counts : Bytes → Count) → is_child_path c.path ≡ true
-    → is_clean_operation h (op.Create c) s ≡ true → Holds s counts
-    → Holds (of_operation h (op.Create c) s).state
-    (counts_after counts h.zxid (of_operation h (op.Create c) s).triggers)
-create_holds h c s counts child clean holds = by (finmap.get s.nodes (parent_of c.path)) refl clean
+-- The header, with the rules of ZooKeeper 3.4.
+abbrev earlier : TxnHeader → TxnHeader
+earlier h = record h { rules = Zk34 }
+
+is_earlier : (h : TxnHeader) → h.rules ≡ Zk34 → earlier h ≡ h
+is_earlier h e = λ i. record h { rules = sym e i }
+
+create_counts : (k : TxnHeader) (c : Create) (s : State) (counts : Bytes → Count) → is_child_path c.path ≡ true
+    → is_clean_operation (earlier k) (op.Create c) s ≡ true → Holds s counts
+    → Holds (of_operation (earlier k) (op.Create c) s).state
+    (counts_after counts k.zxid (of_operation (earlier k) (op.Create c) s).triggers)
+create_counts k c s counts child clean holds = by (finmap.get s.nodes (parent_of c.path)) refl clean
   where
+    h : TxnHeader
+    h = earlier k
+
     with_parent : (parent : Node) → finmap.get s.nodes (parent_of c.path) ≡ Some parent → (taken : Bool)
         → set.contains parent.children (name_of c.path) ≡ taken
         → (counts_up c.parent_cversion (Some parent)
@@ -115,7 +128,7 @@ create_holds h c s counts child clean holds = by (finmap.get s.nodes (parent_of 
         (both (counts_up c.parent_cversion (Some parent)) true e).0 in
         let made : AreCounted _ _ =
         create_counted s.nodes counts h c parent child at has (next_is parent c.parent_cversion up) holds.nodes in
-        gained_holds _ _ (owner_of h c.ephemeral) c.path (child_no_root c.path child)
+        gained_holds _ _ (owner_of h c.owner) c.path (child_no_root c.path child)
         (record { nodes = made; root = holds.root })
 
     by : (o : Option Node) → finmap.get s.nodes (parent_of c.path) ≡ o
@@ -126,22 +139,43 @@ create_holds h c s counts child clean holds = by (finmap.get s.nodes (parent_of 
     by (Some parent) at e =
         with_parent parent at (set.contains parent.children (name_of c.path)) refl e
 
-delete_holds : (h : TxnHeader) (path : Bytes) (s : State) (counts : Bytes → Count) → is_root path ≡ false
+create_holds : (h : TxnHeader) → h.rules ≡ Zk34 → (c : Create) (s : State) (counts : Bytes → Count)
+    → is_child_path c.path ≡ true
+    → is_clean_operation h (op.Create c) s ≡ true → Holds s counts
+    → Holds (of_operation h (op.Create c) s).state
+    (counts_after counts h.zxid (of_operation h (op.Create c) s).triggers)
+create_holds h e c s counts child clean holds =
+    subst (λ (g : TxnHeader). Holds (of_operation g (op.Create c) s).state
+    (counts_after counts g.zxid (of_operation g (op.Create c) s).triggers)) (is_earlier h e)
+    (create_counts h c s counts child
+    (subst (λ (g : TxnHeader). is_clean_operation g (op.Create c) s ≡ true) (sym (is_earlier h e)) clean) holds)
+
+delete_counts : (h : TxnHeader) (path : Bytes) (s : State) (counts : Bytes → Count) → is_root path ≡ false
     → is_childless (finmap.get s.nodes path) ≡ true → Holds s counts
-    → Holds (of_operation h (op.Delete path) s).state
-    (counts_after counts h.zxid (of_operation h (op.Delete path) s).triggers)
-delete_holds h path s counts other none holds =
+    → Holds (of_operation (earlier h) (op.Delete path) s).state
+    (counts_after counts h.zxid (of_operation (earlier h) (op.Delete path) s).triggers)
+delete_counts h path s counts other none holds =
     by (finmap.get s.nodes path) (finmap.get (finmap.remove s.nodes path) (parent_of path)) refl refl none
   where
     by : (o p : Option Node) → finmap.get s.nodes path ≡ o
         → finmap.get (finmap.remove s.nodes path) (parent_of path) ≡ p → is_childless o ≡ true
-        → Holds (after_changes s (delete_at h path o p).changes)
-        (counts_after counts h.zxid (delete_at h path o p).triggers)
+        → Holds (after_changes s (delete_at (earlier h) path o p).changes)
+        (counts_after counts h.zxid (delete_at (earlier h) path o p).triggers)
     by None p at up e = holds
     by (Some node) None at up e = absurd (parent_is s.nodes counts path node other at e holds.nodes up)
     by (Some node) (Some parent) at up e =
         let left : AreCounted _ _ = delete_counted s.nodes counts h path node parent other at up e holds.nodes in
         lost_holds _ _ node.stat.ephemeral_owner path (record { nodes = left; root = holds.root })
+
+delete_holds : (h : TxnHeader) → h.rules ≡ Zk34 → (path : Bytes) (s : State) (counts : Bytes → Count)
+    → is_root path ≡ false
+    → is_childless (finmap.get s.nodes path) ≡ true → Holds s counts
+    → Holds (of_operation h (op.Delete path) s).state
+    (counts_after counts h.zxid (of_operation h (op.Delete path) s).triggers)
+delete_holds h e path s counts other none holds =
+    subst (λ (g : TxnHeader). Holds (of_operation g (op.Delete path) s).state
+    (counts_after counts g.zxid (of_operation g (op.Delete path) s).triggers)) (is_earlier h e)
+    (delete_counts h path s counts other none holds)
 
 set_data_holds : (h : TxnHeader) (b : SetData) (s : State) (counts : Bytes → Count) (o : Option Node)
     → finmap.get s.nodes b.path ≡ o → int_eq (set_data_at h b o).err (pos 0) ≡ true → Holds s counts
@@ -153,31 +187,31 @@ set_data_holds h b s counts (Some node) at e holds = record {
   root = holds.root;
 }
 
-operation_holds : (h : TxnHeader) (o : Operation) (s : State) (counts : Bytes → Count) → HasParent o
+operation_holds : (h : TxnHeader) → h.rules ≡ Zk34 → (o : Operation) (s : State) (counts : Bytes → Count) → HasParent o
     → is_clean_operation h o s ≡ true → Holds s counts
     → Holds (of_operation h o s).state (counts_after counts h.zxid (of_operation h o s).triggers)
-operation_holds h (op.Create c) s counts has clean holds = create_holds h c s counts has clean holds
-operation_holds h (op.Delete path) s counts has clean holds =
+operation_holds h e (op.Create c) s counts has clean holds = create_holds h e c s counts has clean holds
+operation_holds h e (op.Delete path) s counts has clean holds =
     let none = both (is_childless (finmap.get s.nodes path)) (int_eq (of_operation h (op.Delete path) s).err (pos 0))
     clean in
-    delete_holds h path s counts (child_no_root path has) none.0 holds
-operation_holds h (op.SetData b) s counts has clean holds =
+    delete_holds h e path s counts (child_no_root path has) none.0 holds
+operation_holds h e (op.SetData b) s counts has clean holds =
     set_data_holds h b s counts (finmap.get s.nodes b.path) refl clean holds
-operation_holds h (op.Check b) s counts has clean holds = holds
-operation_holds h (op.Error e) s counts has clean holds = holds
+operation_holds h e (op.Check b) s counts has clean holds = holds
+operation_holds h e (op.Error error) s counts has clean holds = holds
 
 -- ---- transactions
 
-parts_hold : (h : TxnHeader) (os : List Operation) (s : State) (counts : Bytes → Count) → AllByRecursion HasParent os
+parts_hold : (h : TxnHeader) → h.rules ≡ Zk34 → (os : List Operation) (s : State) (counts : Bytes → Count) → AllByRecursion HasParent os
     → are_clean_parts h os s ≡ true → Holds s counts
     → Holds (of_parts h os s).state (counts_after counts h.zxid (of_parts h os s).triggers)
-parts_hold h [] s counts has clean holds = holds
-parts_hold h (o ∷ os) s counts has clean holds =
+parts_hold h e [] s counts has clean holds = holds
+parts_hold h e (o ∷ os) s counts has clean holds =
     let here = both (is_none (error_of o)) (is_clean_operation h o s && are_clean_parts h os (of_operation h o s).state)
     clean in
     let rest = both (is_clean_operation h o s) (are_clean_parts h os (of_operation h o s).state) here.1 in
-    let one = operation_holds h o s counts has.0 rest.0 holds in
-    let all = parts_hold h os (of_operation h o s).state
+    let one = operation_holds h e o s counts has.0 rest.0 holds in
+    let all = parts_hold h e os (of_operation h o s).state
     (counts_after counts h.zxid (of_operation h o s).triggers) has.1 rest.1 one in
     subst (Holds (of_parts h os (of_operation h o s).state).state)
     (λ i (path : Bytes). sym (counted_all-append path (counts path) h.zxid (of_operation h o s).triggers
@@ -230,7 +264,31 @@ still_childless h path s r none =
 
     by : (o p : Option Node) → finmap.get (finmap.remove s.nodes path) (parent_of path) ≡ p
         → is_childless (finmap.get (after_changes s (delete_at h path o p).changes).nodes r) ≡ true
-    by None p up = none
+    by None p up = missing h.rules p up
+      where
+        touched : (parent new : Node) → finmap.get (finmap.remove s.nodes path) (parent_of path) ≡ Some parent
+            → new.children ≡ parent.children
+            → is_childless (finmap.get (finmap.insert s.nodes (parent_of path) new) r) ≡ true
+        touched parent new up names =
+            ap is_childless (finmap.get-insert path_total s.nodes (parent_of path) new r)
+            ∙ at (eq_by_cmp path_cmp r (parent_of path)) refl
+          where
+            at : (b : Bool) → eq_by_cmp path_cmp r (parent_of path) ≡ b
+                → is_childless (cond b (Some new) (finmap.get s.nodes r)) ≡ true
+            at true e =
+                ap (λ (ns : Names). set.len ns == 0) names
+                ∙ ap is_childless (sym up)
+                ∙ ap (λ (p : Bytes). is_childless (finmap.get (finmap.remove s.nodes path) p))
+                (sym (tells_apart exact_bytes r (parent_of path) e))
+                ∙ removed
+            at false e = none
+
+        missing : (rules : Dialect) (p : Option Node)
+            → finmap.get (finmap.remove s.nodes path) (parent_of path) ≡ p
+            → is_childless (finmap.get (after_changes s (delete_missing rules h path p).changes).nodes r) ≡ true
+        missing Zk34 p up = none
+        missing Zk38 None up = none
+        missing Zk38 (Some parent) up = touched parent (without_missing_child h parent) up refl
     by (Some node) None up = removed
     by (Some node) (Some parent) up = at (int_eq node.stat.ephemeral_owner (pos 0))
       where
@@ -238,7 +296,7 @@ still_childless h path s r none =
             → is_childless (finmap.get (after_changes
             (record s {
               nodes = finmap.insert (finmap.remove s.nodes path) (parent_of path)
-                  (with_children parent (set.remove parent.children (name_of path)) parent.stat.cversion h.zxid);
+                  (without_child (name_of path) h parent);
             })
             (if b then [] else Disown node.stat.ephemeral_owner path ∷ [])).nodes r) ≡ true
         at true = shrunk parent up _ _ refl refl
@@ -251,19 +309,19 @@ list_all_map f g leads (x ∷ xs) all =
     let split = both (f x) (list_all f xs) all in
     (λ i. leads x split.0 i && list_all g xs) ∙ list_all_map f g leads xs split.1
 
-closing_holds : (h : TxnHeader) (ps : List Bytes) (s : State) (counts : Bytes → Count)
+closing_holds : (h : TxnHeader) → h.rules ≡ Zk34 → (ps : List Bytes) (s : State) (counts : Bytes → Count)
     → list_any (eq_by_cmp path_cmp (codes "/")) ps ≡ false
     → list_all (λ (path : Bytes). is_childless (finmap.get s.nodes path)) ps ≡ true → Holds s counts
     → Holds (of_parts h (delete_operations ps) s).state
     (counts_after counts h.zxid (of_parts h (delete_operations ps) s).triggers)
-closing_holds h [] s counts no_root none holds = holds
-closing_holds h (p ∷ ps) s counts no_root none holds =
+closing_holds h e [] s counts no_root none holds = holds
+closing_holds h e (p ∷ ps) s counts no_root none holds =
     let split = both (is_childless (finmap.get s.nodes p))
     (list_all (λ (path : Bytes). is_childless (finmap.get s.nodes path)) ps) none in
     let apart = neither (eq_by_cmp path_cmp (codes "/") p) (list_any (eq_by_cmp path_cmp (codes "/")) ps) no_root in
-    let one = delete_holds h p s counts (inner apart.0 (is_root p) refl) split.0 holds in
+    let one = delete_holds h e p s counts (inner apart.0 (is_root p) refl) split.0 holds in
     let next : State = (of_operation h (op.Delete p) s).state in
-    let all = closing_holds h ps next (counts_after counts h.zxid (of_operation h (op.Delete p) s).triggers) apart.1
+    let all = closing_holds h e ps next (counts_after counts h.zxid (of_operation h (op.Delete p) s).triggers) apart.1
     (list_all_map (λ (path : Bytes). is_childless (finmap.get s.nodes path))
     (λ (path : Bytes). is_childless (finmap.get (of_operation h (op.Delete p) s).state.nodes path))
     (still_childless h p s) ps split.1) one in
@@ -288,11 +346,11 @@ each_of_all P (x ∷ xs) all = (
       (λ k d lt. let next : suc k < length (x ∷ xs) = omega arith in all (suc k) d next),
 )
 
-body_holds : (h : TxnHeader) (b : Body) (s : State) (counts : Bytes → Count) → HaveParents b
+body_holds : (h : TxnHeader) → h.rules ≡ Zk34 → (b : Body) (s : State) (counts : Bytes → Count) → HaveParents b
     → is_clean_body h b s ≡ true → Holds s counts
     → Holds (effect_of_body h b s).state (counts_after counts h.zxid (effect_of_body h b s).triggers)
-body_holds h (body.Single o) s counts has clean holds = operation_holds h o s counts has clean holds
-body_holds h (body.SetAcl b) s counts has clean holds = by (finmap.get s.nodes b.path) refl clean
+body_holds h e (body.Single o) s counts has clean holds = operation_holds h e o s counts has clean holds
+body_holds h e (body.SetAcl b) s counts has clean holds = by (finmap.get s.nodes b.path) refl clean
   where
     by : (o : Option Node) → finmap.get s.nodes b.path ≡ o → int_eq (set_acl_at b o).err (pos 0) ≡ true
         → Holds (after_changes s (set_acl_at b o).changes) (counts_after counts h.zxid (set_acl_at b o).triggers)
@@ -301,13 +359,14 @@ body_holds h (body.SetAcl b) s counts has clean holds = by (finmap.get s.nodes b
       nodes = same_counted s.nodes counts b.path node (with_acl b node) at refl refl refl holds.nodes;
       root = holds.root;
     }
-body_holds h (body.Multi os) s counts has clean holds =
+body_holds h e (body.Multi os) s counts has clean holds =
     subst (λ (m : TxnEffect). Holds m.state (counts_after counts h.zxid m.triggers)) (sym (multi_is h os s clean))
-    (parts_hold h os s counts (each_of_all HasParent os has) clean holds)
-body_holds h (body.CreateSession timeout) s counts has clean holds =
+    (parts_hold h e os s counts (each_of_all HasParent os has) clean holds)
+body_holds h e (body.CreateSession timeout) s counts has clean holds =
     record { nodes = holds.nodes; root = holds.root }
-body_holds h body.CloseSession s counts has clean holds =
-    closing_holds h (sorted_names (paths_of_session h.client_id s.pairs)) (state_without_session h.client_id s) counts
+body_holds h e (body.CloseSession (p ∷ ps)) s counts has clean holds = absurd (true≢false (sym clean))
+body_holds h e (body.CloseSession []) s counts has clean holds =
+    closing_holds h e (sorted_names (paths_of_session h.client_id s.pairs)) (state_without_session h.client_id s) counts
     (any-in_order (paths_of_session h.client_id s.pairs) (codes "/")
     ∙ contains-owned h.client_id s.pairs (codes "/")
     ∙ holds.root h.client_id)
@@ -318,12 +377,17 @@ body_holds h body.CloseSession s counts has clean holds =
           ∙ (λ i. holds.root session i && not (int_eq session h.client_id));
     })
 
+counted_rules : (rules : Dialect) → counts_all rules ≡ true → rules ≡ Zk34
+counted_rules Zk34 e = refl
+counted_rules Zk38 e = absurd (true≢false (sym e))
+
 pub log_holds : (log : List Txn) (s : State) (counts : Bytes → Count)
     → AllByRecursion (λ (t : Txn). HaveParents t.body) log → are_clean s log ≡ true → Holds s counts
     → Holds (state_after s log) (λ (path : Bytes). count_after_log path (counts path) s log)
 log_holds [] s counts has clean holds = holds
 log_holds (t ∷ ts) s counts has clean holds =
     let split = both (is_clean s t) (are_clean (effect_of_txn s t).state ts) clean in
+    let here = both (counts_all t.header.rules) (is_clean_body t.header t.body s) split.0 in
     log_holds ts (effect_of_txn s t).state (counts_after counts t.header.zxid (effect_of_txn s t).triggers) has.1
     split.1
-    (body_holds t.header t.body s counts has.0 split.0 holds)
+    (body_holds t.header (counted_rules t.header.rules here.0) t.body s counts has.0 here.1 holds)

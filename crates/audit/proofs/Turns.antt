@@ -14,12 +14,15 @@ use Rattle.ephemerals.specs.Pairs.{paths_of_session}
 use Rattle.ephemerals.proofs.Ascending.{any-in_order}
 use Rattle.ephemerals.proofs.SessionPaths.{contains-owned}
 use Rattle.ephemerals.proofs.Totals.{path_total}
+use Rattle.settings.specs.declared.dialect.Dialect.{Dialect}
+use Rattle.settings.specs.declared.dialect.Dialect.TheVariants.{Zk34, Zk38}
 use Rattle.txn_codec.specs.Paths.{is_root, is_child_path, parent_of, name_of}
 use Rattle.txn_codec.specs.declared.txn.TxnHeader.{TxnHeader}
 use Rattle.txn_codec.specs.declared.txn.Operation.TheVariants as op
+use Rattle.node_map.specs.Children.{without_child, without_missing_child}
 use Rattle.node_map.specs.declared.node.Node.{Node}
 use Rattle.data_tree.specs.State.{State, Nodes}
-use Rattle.data_tree.specs.Meaning.{after_changes, with_children, delete_at, of_operation, state_without_session}
+use Rattle.data_tree.specs.Meaning.{after_changes, delete_missing, delete_at, of_operation, state_without_session}
 use Rattle.data_tree.specs.Meaning.Change.{Disown}
 use Rattle.audit.specs.Clean.{is_childless, are_childless}
 use Rattle.audit.specs.Laws.{are_childless_in_turn, DeletesGoInTurn}
@@ -131,7 +134,15 @@ unchanged h p s q apart above = by (finmap.get s.nodes p) (finmap.get (finmap.re
 
     by : (o up : Option Node)
         → finmap.get (after_changes s (delete_at h p o up).changes).nodes q ≡ finmap.get s.nodes q
-    by None up = refl
+    by None up = missing h.rules up
+      where
+        missing : (rules : Dialect) (up : Option Node)
+            → finmap.get (after_changes s (delete_missing rules h p up).changes).nodes q ≡ finmap.get s.nodes q
+        missing Zk34 up = refl
+        missing Zk38 None = refl
+        missing Zk38 (Some parent) =
+            finmap.get-insert path_total s.nodes (parent_of p) (without_missing_child h parent) q
+            ∙ ap (λ (b : Bool). cond b (Some (without_missing_child h parent)) (finmap.get s.nodes q)) above
     by (Some node) None = removed
     by (Some node) (Some parent) = owned (int_eq node.stat.ephemeral_owner (pos 0))
       where
@@ -139,7 +150,7 @@ unchanged h p s q apart above = by (finmap.get s.nodes p) (finmap.get (finmap.re
             → finmap.get (after_changes
             (record s {
               nodes = finmap.insert (finmap.remove s.nodes p) (parent_of p)
-                  (with_children parent (set.remove parent.children (name_of p)) parent.stat.cversion h.zxid);
+                  (without_child (name_of p) h parent);
             })
             (if b then [] else Disown node.stat.ephemeral_owner p ∷ [])).nodes q ≡ finmap.get s.nodes q
         owned true = put _

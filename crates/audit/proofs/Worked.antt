@@ -7,6 +7,7 @@ use Rattle.std.specs.Int.{int_wrap}
 use Rattle.std.specs.Ordering.{eq_by_cmp, int_eq}
 use Rattle.ephemerals.specs.Orders.{Bytes, path_cmp}
 use Rattle.ephemerals.proofs.Totals.{path_total}
+use Rattle.settings.specs.declared.dialect.Dialect.TheVariants.{Zk34}
 use Rattle.txn_codec.specs.declared.txn.TxnHeader.{TxnHeader}
 use Rattle.node_map.specs.Updates.{new_node, preset_node}
 use Rattle.node_map.specs.declared.node.Node.{Node}
@@ -28,6 +29,10 @@ at_top = got (codes "/")
 abbrev grown : TxnHeader → Node
 grown h = with_children top (set.insert top.children (codes "a")) (int_wrap w32 (pos 0 +ℤ pos 1)) h.zxid
 
+-- The header, with the rules of ZooKeeper 3.4.
+abbrev earlier : TxnHeader → TxnHeader
+earlier h = record h { rules = Zk34 }
+
 abbrev nodes_with : TxnHeader → Nodes
 nodes_with h = finmap.insert (finmap.insert fresh_state.nodes (codes "/") (grown h)) path_a (new_node h create_of_a)
 
@@ -36,14 +41,14 @@ new_name =
     set.contains-insert path_total set.empty (codes "zookeeper") (codes "a")
     ∙ set.contains-empty path_cmp (codes "a")
 
-effect_is : (h : TxnHeader) → create_under h create_of_a (finmap.get fresh_state.nodes (codes "/"))
-    ≡ create_new h create_of_a top
+effect_is : (h : TxnHeader) → create_under (earlier h) create_of_a (finmap.get fresh_state.nodes (codes "/"))
+    ≡ create_new (earlier h) create_of_a top
 effect_is h =
-    ap (create_under h create_of_a) at_top
-    ∙ ap (λ (b : Bool). if b then create_taken h create_of_a top else create_new h create_of_a top) new_name
+    ap (create_under (earlier h) create_of_a) at_top
+    ∙ ap (λ (b : Bool). if b then create_taken (earlier h) create_of_a top else create_new (earlier h) create_of_a top) new_name
 
 meant_is : (h : TxnHeader) → effect_of_txn fresh_state (txn_creating_a h)
-    ≡ of_effect (create_new h create_of_a top) fresh_state
+    ≡ of_effect (create_new (earlier h) create_of_a top) fresh_state
 meant_is h = ap (λ (e : Effect). of_effect e fresh_state) (effect_is h)
 
 clean_once : (h : TxnHeader) → is_clean fresh_state (txn_creating_a h) ≡ true
@@ -68,11 +73,11 @@ got_with h r =
     ∙ ap (λ (o : Option Node). cond (eq_by_cmp path_cmp r (codes "/")) (Some (grown h)) o) (got r))
 
 counted_is : (h : TxnHeader) (path : Bytes) → count_from_log (txn_creating_a h ∷ []) path
-    ≡ count_after_triggers path (first_count path) h.zxid (create_new h create_of_a top).triggers
+    ≡ count_after_triggers path (first_count path) h.zxid (create_new (earlier h) create_of_a top).triggers
 counted_is h path = ap (λ (m : TxnEffect). count_after_triggers path (first_count path) h.zxid m.triggers) (meant_is h)
 
 at_path : (h : TxnHeader) (path : Bytes) (o : Option Node) → finmap.get (nodes_with h) path ≡ o → (counted : Count)
-    → counted ≡ count_after_triggers path (first_count path) h.zxid (create_new h create_of_a top).triggers
+    → counted ≡ count_after_triggers path (first_count path) h.zxid (create_new (earlier h) create_of_a top).triggers
     → IsCounted (txn_creating_a h ∷ []) path (if is_some o then Some (numbers_of counted) else None)
 at_path h path o at counted is = record {
   clean = once h;
@@ -89,17 +94,17 @@ wrapped = let fits : FitsSigned w32 (pos 0) = search rules in sym (int_wrap_fits
 taken : (h : TxnHeader) → set.contains (grown h).children (codes "a") ≡ true
 taken h = set.contains-insert path_total top.children (codes "a") (codes "a")
 
-second_effect : (h : TxnHeader) → create_under h create_of_a (finmap.get (nodes_with h) (codes "/"))
-    ≡ create_taken h create_of_a (grown h)
+second_effect : (h : TxnHeader) → create_under (earlier h) create_of_a (finmap.get (nodes_with h) (codes "/"))
+    ≡ create_taken (earlier h) create_of_a (grown h)
 second_effect h =
-    ap (create_under h create_of_a) (got_with h (codes "/"))
-    ∙ ap (λ (b : Bool). if b then create_taken h create_of_a (grown h) else create_new h create_of_a (grown h))
+    ap (create_under (earlier h) create_of_a) (got_with h (codes "/"))
+    ∙ ap (λ (b : Bool). if b then create_taken (earlier h) create_of_a (grown h) else create_new (earlier h) create_of_a (grown h))
     (taken h)
 
 second_unclean : (h : TxnHeader) → is_clean (state_after fresh_state (txn_creating_a h ∷ [])) (txn_creating_a h) ≡ false
 second_unclean h =
     (λ i. counts_up (negsuc 0) (finmap.get (nodes_are h i) (codes "/"))
-    && int_eq (create_under h create_of_a (finmap.get (nodes_are h i) (codes "/"))).err (pos 0))
+    && int_eq (create_under (earlier h) create_of_a (finmap.get (nodes_are h i) (codes "/"))).err (pos 0))
     ∙ (λ i. counts_up (negsuc 0) (got_with h (codes "/") i) && int_eq (second_effect h i).err (pos 0))
 
 counts_are_worked_at : (h : TxnHeader) → WorkedCounts h

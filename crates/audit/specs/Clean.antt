@@ -1,6 +1,6 @@
--- A log is clean if nothing fails, each deleted node has no children, and each create counts its parent's stored
--- cversion up by one.
-use Rattle.std.specs.Prelude.{ℤ, pos, negsuc, ◌+ℤ◌, ◌&&◌, ◌||◌, ◌==◌, Bool, true, List, [], ◌∷◌, Option, Some, None, is_none}
+-- A log is clean if it is applied by the rules of ZooKeeper 3.4, nothing fails, each deleted node has no children, and
+-- each create counts its parent's stored cversion up by one.
+use Rattle.std.specs.Prelude.{ℤ, pos, negsuc, ◌+ℤ◌, ◌&&◌, ◌||◌, ◌==◌, Bool, true, false, List, [], ◌∷◌, Option, Some, None, is_none}
 use Rattle.std.specs.Int.{int_wrap, w32}
 use Rattle.std.specs.List.{list_all}
 use Rattle.std.specs.Ordering.{int_eq}
@@ -8,6 +8,8 @@ use Rattle.std.specs.FinMap as finmap
 use Rattle.std.specs.FinSet as set
 use Rattle.ephemerals.specs.Orders.{Bytes, sorted_names}
 use Rattle.ephemerals.specs.Pairs.{paths_of_session}
+use Rattle.settings.specs.declared.dialect.Dialect.{Dialect}
+use Rattle.settings.specs.declared.dialect.Dialect.TheVariants.{Zk34, Zk38}
 use Rattle.txn_codec.specs.Paths.{parent_of}
 use Rattle.txn_codec.specs.declared.txn.TxnHeader.{TxnHeader}
 use Rattle.txn_codec.specs.declared.txn.Txn.{Txn}
@@ -54,15 +56,24 @@ are_clean_parts header (o ∷ os) s =
 abbrev pub closes_clean : ℤ → State → Bool
 closes_clean session s = are_childless s.nodes (sorted_names (paths_of_session session s.pairs))
 
+abbrev pub lists_none : List Bytes → Bool
+lists_none [] = true
+lists_none (path ∷ paths) = false
+
 abbrev pub is_clean_body : TxnHeader → Body → State → Bool
 is_clean_body header (body.Single o) s = is_clean_operation header o s
 is_clean_body header (body.SetAcl set_acl) s = int_eq (of_set_acl set_acl s).err (pos 0)
 is_clean_body header (body.Multi parts) s = are_clean_parts header parts s
 is_clean_body header (body.CreateSession timeout) s = true
-is_clean_body header body.CloseSession s = closes_clean header.client_id s
+is_clean_body header (body.CloseSession listed) s = lists_none listed && closes_clean header.client_id s
+
+-- By the rules of later dialects a parent's numbers may stay as they are.
+abbrev pub counts_all : Dialect → Bool
+counts_all Zk34 = true
+counts_all Zk38 = false
 
 abbrev pub is_clean : State → Txn → Bool
-is_clean s t = is_clean_body t.header t.body s
+is_clean s t = counts_all t.header.rules && is_clean_body t.header t.body s
 
 -- Each transaction is clean after those before it.
 abbrev pub are_clean : State → List Txn → Bool

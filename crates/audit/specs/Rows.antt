@@ -1,7 +1,9 @@
--- Counts that were worked out by hand, of a create with any header.
+-- Counts that were worked out by hand, of a create with any numbers in its header.
 use Rattle.std.specs.Prelude.{pos, negsuc, [], ◌∷◌, Some, None, false, codes}
 use Rattle.ephemerals.specs.Orders.{Bytes}
+use Rattle.settings.specs.declared.dialect.Dialect.TheVariants.{Zk34}
 use Rattle.txn_codec.specs.declared.txn.Create.{Create}
+use Rattle.txn_codec.specs.declared.txn.Owner.TheVariants.{Nobody}
 use Rattle.txn_codec.specs.declared.txn.Txn.{Txn}
 use Rattle.txn_codec.specs.declared.txn.TxnHeader.{TxnHeader}
 use Rattle.txn_codec.specs.declared.txn.Operation.TheVariants as op
@@ -12,10 +14,17 @@ abbrev pub path_a : Bytes
 path_a = codes "/a"
 
 abbrev pub create_of_a : Create
-create_of_a = record { path = path_a; bytes = None; acl = None; ephemeral = false; parent_cversion = negsuc 0 }
+create_of_a = record {
+  path = path_a;
+  bytes = None;
+  acl = None;
+  owner = Nobody;
+  asks_stat = false;
+  parent_cversion = negsuc 0;
+}
 
 abbrev pub txn_creating_a : TxnHeader → Txn
-txn_creating_a header = record { header = header; body = body.Single (op.Create create_of_a) }
+txn_creating_a header = record { header = record header { rules = Zk34 }; body = body.Single (op.Create create_of_a) }
 
 pub record WorkedCounts (h : TxnHeader) : Type 0 where
   -- After a create of /a: the new node, its parent, another node, and a missing one.

@@ -2,11 +2,12 @@
 
 ghost use Rattle.std.specs.Prelude.{◌≡◌};
 ghost use Rattle.std.specs.Option.{option_copied};
-ghost use Rattle.audit.specs.Clean.{is_childless, are_childless, counts_up, is_orderly, closes_clean};
+ghost use Rattle.audit.specs.Clean.{is_childless, are_childless, counts_up, is_orderly, closes_clean, counts_all};
 ghost use Rattle.ephemerals.specs.Orders.{sorted_names};
 
 use data_tree::{Node, Tree};
 use ephemerals::TextSet;
+use settings::Dialect;
 use txn_codec::{Operation, TxnHeader};
 
 fn is_childless(node: Option<&Node>) -> bool
@@ -51,6 +52,13 @@ fn are_childless(paths: &TextSet, tree: &Tree) -> bool
         }
     }
     true
+}
+
+/// Whether it is applied by the rules of ZooKeeper 3.4, by which each create and delete counts.
+pub(crate) fn counts_all(header: &TxnHeader) -> bool
+    ensures { result ≡ counts_all header.now.rules }
+{
+    matches!(header.rules, Dialect::Zk34)
 }
 
 /// Whether no ephemeral node of the session that ends has a child.

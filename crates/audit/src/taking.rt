@@ -3,10 +3,10 @@
 ghost use Rattle.std.specs.Prelude.{◌≡◌, pos, IfOk, IsTrue};
 ghost use Rattle.std.specs.Ordering.{int_eq};
 ghost use Rattle.data_tree.specs.Meaning.{of_operation, of_parts, effect_of_txn};
-ghost use Rattle.audit.specs.Clean.{is_clean_operation, are_clean_parts, is_clean};
+ghost use Rattle.audit.specs.Clean.{is_clean_operation, are_clean_parts, is_clean_body, is_clean};
 ghost use Rattle.audit.specs.Count.{count_after_triggers};
 
-use crate::clean::{closes_clean, is_orderly};
+use crate::clean::{closes_clean, counts_all, is_orderly};
 use crate::count::Count;
 use data_tree::Tree;
 use std::alloc::Global;
@@ -89,6 +89,33 @@ fn take_parts(
     Ok(true)
 }
 
+// Applies a transaction and counts its triggers, if its body is clean.
+fn take_body(
+    alloc: Global,
+    tree: &mut Tree,
+    txn: &Txn,
+    path: &str,
+    count: &mut Count,
+) -> Result<bool, NoMemory>
+    ensures clean { IfOk result (λ clean. clean ≡ is_clean_body txn.now.header txn.now.body tree.old) }
+    ensures state { IfOk result (λ clean. IsTrue clean → tree.new ≡ (effect_of_txn tree.old txn.now).state) }
+    ensures count { IfOk result
+        (λ clean. IsTrue clean → count.new
+        ≡ count_after_triggers path.now count.old txn.now.header.zxid (effect_of_txn tree.old txn.now).triggers) }
+{
+    match &txn.body {
+        Body::Single(operation) => take_operation(alloc, tree, &txn.header, operation, path, count),
+        Body::Multi(parts) => take_parts(alloc, tree, &txn.header, parts.as_slice(), path, count),
+        Body::SetAcl(_) | Body::CreateSession(_) => apply(alloc, tree, txn, path, count),
+        Body::CloseSession(listed) => {
+            if !listed.as_slice().is_empty() || !closes_clean(&txn.header, tree) {
+                return Ok(false);
+            }
+            apply(alloc, tree, txn, path, count)
+        }
+    }
+}
+
 /// Applies a transaction and counts its triggers, if it is clean, and returns whether it is. If it isn't, or an
 /// allocation is refused, tree and count are unspecified, and the caller drops them.
 pub fn take(
@@ -104,15 +131,8 @@ pub fn take(
         (λ clean. IsTrue clean → count.new
         ≡ count_after_triggers path.now count.old txn.now.header.zxid (effect_of_txn tree.old txn.now).triggers) }
 {
-    match &txn.body {
-        Body::Single(operation) => take_operation(alloc, tree, &txn.header, operation, path, count),
-        Body::Multi(parts) => take_parts(alloc, tree, &txn.header, parts.as_slice(), path, count),
-        Body::SetAcl(_) | Body::CreateSession(_) => apply(alloc, tree, txn, path, count),
-        Body::CloseSession => {
-            if !closes_clean(&txn.header, tree) {
-                return Ok(false);
-            }
-            apply(alloc, tree, txn, path, count)
-        }
+    if !counts_all(&txn.header) {
+        return Ok(false);
     }
+    take_body(alloc, tree, txn, path, count)
 }

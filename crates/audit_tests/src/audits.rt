@@ -1,9 +1,10 @@
 //! Logs that were counted by hand.
 
 use audit::{AuditError, audit_stat};
+use settings::Dialect;
 use std::alloc::Global;
 use std::test::Fail;
-use txn_codec::{Body, Create, Operation, Path, Txn, TxnHeader};
+use txn_codec::{Body, Create, Operation, Owner, Path, Txn, TxnHeader};
 use values::Listed;
 
 // Session 9's transaction number `zxid`.
@@ -14,6 +15,7 @@ fn txn(zxid: i64, body: Body) -> Txn {
             cxid: 1,
             zxid,
             time: 1000,
+            rules: Dialect::Zk34,
         },
         body,
     }
@@ -24,7 +26,12 @@ fn create(alloc: Global, path: &str, ephemeral: bool, wanted: i32) -> Result<Ope
         path: Path::new(alloc, path)?,
         bytes: None,
         acl: None,
-        ephemeral,
+        owner: if ephemeral {
+            Owner::Client
+        } else {
+            Owner::Nobody
+        },
+        asks_stat: false,
         parent_cversion: wanted,
     }))
 }
@@ -152,12 +159,12 @@ fn a_session_that_ends_takes_its_nodes(rt: HostRuntime) -> Result<(), Fail> {
     log.push(txn(1, Body::CreateSession(4000)))?;
     log.push(single(2, create(alloc, "/e", true, -1)?))?;
     log.push(single(3, create(alloc, "/f", true, -1)?))?;
-    log.push(txn(4, Body::CloseSession))?;
+    log.push(txn(4, Body::CloseSession(Listed::from_vec(Vec::new(alloc)))))?;
     assert_eq!(rt; audited(alloc, log.as_slice(), "/e")?.as_str(), "none");
     assert_eq!(rt; audited(alloc, log.as_slice(), "/")?.as_str(), "3 4");
     log.truncate(3);
     log.push(single(4, create(alloc, "/e/x", false, -1)?))?;
-    log.push(txn(5, Body::CloseSession))?;
+    log.push(txn(5, Body::CloseSession(Listed::from_vec(Vec::new(alloc)))))?;
     assert_eq!(rt;
         audited(alloc, log.as_slice(), "/")?.as_str(),
         "not clean at 4"

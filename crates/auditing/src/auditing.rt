@@ -107,6 +107,7 @@ fn audit_script(alloc: Global, script: Script, path: &str) -> Result<Option<(i32
         epochs,
         timeouts,
         secret,
+        dialect,
         primed,
         events,
     } = script;
@@ -117,6 +118,7 @@ fn audit_script(alloc: Global, script: Script, path: &str) -> Result<Option<(i32
         timeouts,
         secret,
         first_counter,
+        dialect,
     };
     let engine = engine_of(alloc, primed, settings, default_limits())?;
     feed(alloc, engine, events.as_slice(), path)

@@ -3,8 +3,9 @@
 use crate::asked::{Kind, Load};
 use anyhow::Result;
 use data_tree::Tree;
+use settings::Dialect;
 use std::alloc::Global;
-use txn_codec::{Body, Create, Operation, Path, SetData, Txn, TxnHeader};
+use txn_codec::{Body, Create, Operation, Owner, Path, SetData, Txn, TxnHeader};
 use values::{Blob, Listed};
 
 // The number of nodes below the root.
@@ -41,7 +42,8 @@ fn create(alloc: Global, path: Path, content: &[u8]) -> Result<Operation> {
         path,
         bytes: Some(bytes),
         acl: None,
-        ephemeral: false,
+        owner: Owner::Nobody,
+        asks_stat: false,
         parent_cversion: -1,
     }))
 }
@@ -86,6 +88,7 @@ fn txn(number: u32, body: Body) -> Txn {
         cxid: 1,
         zxid: EPOCH.saturating_add(i64::from(number)),
         time: 1000,
+        rules: Dialect::Zk34,
     };
     Txn { header, body }
 }

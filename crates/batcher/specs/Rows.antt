@@ -3,6 +3,7 @@ use Rattle.std.specs.Prelude.{◌≡◌, ℕ, pos, negsuc, List, [], ◌∷◌, 
 use Rattle.std.specs.FinSet as set
 use Rattle.ephemerals.specs.Orders.{Bytes}
 use Rattle.txn_codec.specs.declared.txn.Txn.{Txn}
+use Rattle.txn_codec.specs.declared.txn.Owner.TheVariants.{Nobody}
 use Rattle.txn_codec.specs.declared.txn.TxnHeader.{TxnHeader}
 use Rattle.txn_codec.specs.declared.txn.Operation.{Operation}
 use Rattle.txn_codec.specs.declared.txn.Operation.TheVariants as op
@@ -14,7 +15,16 @@ use Rattle.batcher.specs.Cut.{cut, groups_of}
 
 abbrev pub create_operation : List ℕ → Operation
 create_operation path =
-    op.Create (record { path = path; bytes = None; acl = None; ephemeral = false; parent_cversion = negsuc 0 })
+    op.Create (
+    record {
+      path = path;
+      bytes = None;
+      acl = None;
+      owner = Nobody;
+      asks_stat = false;
+      parent_cversion = negsuc 0;
+    }
+    )
 
 abbrev pub txn_with : TxnHeader → Body → Txn
 txn_with header body = record { header = header; body = body }
@@ -62,7 +72,7 @@ abbrev pub two_creates_txn : TxnHeader → Txn
 two_creates_txn h = txn_with h (body.Multi (create_operation path_a_p ∷ create_operation path_b_q ∷ []))
 
 abbrev pub close_session_txn : TxnHeader → Txn
-close_session_txn h = txn_with h body.CloseSession
+close_session_txn h = txn_with h (body.CloseSession [])
 
 abbrev pub new_session_txn : TxnHeader → Txn
 new_session_txn h = txn_with h (body.CreateSession (pos 5000))

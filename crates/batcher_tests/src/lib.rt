@@ -5,8 +5,9 @@
 #[cfg(test)]
 mod cuts;
 
+use settings::Dialect;
 use std::alloc::Global;
-use txn_codec::{Body, Check, Create, Operation, Path, Txn, TxnHeader};
+use txn_codec::{Body, Check, Create, Operation, Owner, Path, Txn, TxnHeader};
 use values::{Listed, ReadError};
 
 // A transaction of session 9.
@@ -16,6 +17,7 @@ fn txn_of(body: Body) -> Txn {
         cxid: 1,
         zxid: 1,
         time: 1000,
+        rules: Dialect::Zk34,
     };
     Txn { header, body }
 }
@@ -26,7 +28,12 @@ fn create_of(alloc: Global, path: &str, ephemeral: bool) -> Result<Operation, Re
         path: Path::new(alloc, path)?,
         bytes: None,
         acl: None,
-        ephemeral,
+        owner: if ephemeral {
+            Owner::Client
+        } else {
+            Owner::Nobody
+        },
+        asks_stat: false,
         parent_cversion: -1,
     }))
 }
@@ -38,7 +45,7 @@ pub fn read_txn(alloc: Global, word: &str) -> Result<Txn, ReadError> {
         return Ok(txn_of(Body::CreateSession(5000)));
     }
     if word == "close" {
-        return Ok(txn_of(Body::CloseSession));
+        return Ok(txn_of(Body::CloseSession(Listed::from_vec(Vec::new(alloc)))));
     }
     if let Some(path) = word.strip_prefix('?') {
         let path = Path::new(alloc, path)?;

@@ -4,12 +4,11 @@ ghost use Rattle.std.specs.Prelude.{◌≡◌, ◌≤◌, [], length, true, fals
 ghost use Rattle.jute.specs.Stream.{items_in, place_at};
 ghost use Rattle.forwarding.specs.Pending.{is_idle, is_full};
 ghost use Rattle.read_processor.specs.Asking.{LooksAtAsks};
-ghost use Rattle.world.specs.Clients.{heard_connection, is_heard};
+ghost use Rattle.world.specs.Clients.{heard_connection, is_heard, rest_at};
 ghost use Rattle.client_service.specs.Serve.{serve_as, serve_frame, serve_all, frames_of_client, client_frame_limit, take_client_bytes, open_client, end_client};
 ghost use Rattle.client_frames.specs.Call.{call_in};
 ghost use Rattle.client_service.specs.Runs.{MakesOwing, serve_if_heard};
 ghost use Rattle.client_service.specs.Inner.{session_call, IsFirstFrame, waiting_bytes, stage_with_rest, close_if_heard, tell_if_heard};
-ghost use Rattle.world.specs.Clients.{rest_at};
 ghost use Rattle.world.specs.Results.{MakesStep};
 
 use crate::asked::AskedRead;

@@ -2,7 +2,6 @@
 use Rattle.std.proofs.Common.{◌≡◌, pos, List, [], ◌∷◌, ◌++◌, take, Bool, true, false, if◌then◌else◌, refl, ap, sym, ◌∙◌}
 use Rattle.std.specs.FinMap as finmap
 use Rattle.ephemerals.specs.Orders.{sorted_names}
-use Rattle.ephemerals.specs.Pairs.{paths_of_session}
 use Rattle.txn_codec.specs.declared.txn.TxnHeader.{TxnHeader}
 use Rattle.txn_codec.specs.declared.txn.Operation.{Operation}
 use Rattle.txn_codec.specs.declared.txn.Txn.{Txn}
@@ -10,8 +9,8 @@ use Rattle.txn_codec.specs.declared.txn.Body.{Body}
 use Rattle.txn_codec.specs.declared.txn.Body.TheVariants as body
 use Rattle.data_tree.specs.State.{State, SessionTimeouts}
 use Rattle.txn_codec.specs.Row.{has_error}
-use Rattle.data_tree.specs.Meaning.{Change, after_change, after_changes, Effect, effect_of, set_acl_at, TxnEffect, of_effect, of_operation, of_parts, of_failed, first_error, delete_operations, state_without_session, effect_of_txn, effect_of_body}
-use Rattle.data_tree.specs.Meaning.Change.{Put, Remove, Own, Disown}
+use Rattle.data_tree.specs.Meaning.{Change, after_change, after_changes, Effect, effect_of, set_acl_at, TxnEffect, of_effect, of_operation, of_parts, of_failed, first_error, delete_operations, ended_paths, state_without_session, effect_of_txn, effect_of_body}
+use Rattle.data_tree.specs.Meaning.Change.{Put, Remove, Own, Disown, Mend}
 use Rattle.data_tree.specs.Refused.{IsPartlyDone, IsLeftByRefused}
 
 abbrev with_sessions : SessionTimeouts → State → State
@@ -26,6 +25,7 @@ apart_change x s (Put path node) = refl
 apart_change x s (Remove path) = refl
 apart_change x s (Own session path) = refl
 apart_change x s (Disown session path) = refl
+apart_change x s (Mend path acl) = refl
 
 apart_changes : (x : SessionTimeouts) (s : State) (cs : List Change)
     → after_changes (with_sessions x s) cs ≡ with_sessions x (after_changes s cs)
@@ -86,11 +86,11 @@ apart_mean x t s = by t.header t.body
     by h (body.SetAcl b) = ap (meant_with x) (apart_effect x (set_acl_at b (finmap.get s.nodes b.path)) s)
     by h (body.Multi parts) = ap (meant_with x) (apart_multi x h parts s (has_error parts))
     by h (body.CreateSession timeout) = refl
-    by h body.CloseSession =
+    by h (body.CloseSession listed) =
         ap (λ (m : TxnEffect). meant_with x
         (let n : TxnEffect = record { state = m.state; err = pos 0; parts = []; triggers = m.triggers } in n))
         (apart_parts (finmap.remove x h.client_id) h
-        (delete_operations (sorted_names (paths_of_session h.client_id s.pairs)))
+        (delete_operations (sorted_names (ended_paths h.client_id listed s)))
         (state_without_session h.client_id s))
 
 -- A refused transaction leaves the same whatever the sessions are.
@@ -99,7 +99,7 @@ pub apart_left : (x : SessionTimeouts) (h : TxnHeader) (b : Body) (old new : Sta
 apart_left x h (body.Single o) old new is = ap (with_sessions x) is
 apart_left x h (body.SetAcl b) old new is = ap (with_sessions x) is
 apart_left x h (body.CreateSession timeout) old new is = ap (with_sessions x) is
-apart_left x h body.CloseSession old new is = tt
+apart_left x h (body.CloseSession listed) old new is = tt
 apart_left x h (body.Multi parts) old new is = by (has_error parts) is
   where
     by : (b : Bool) → IsPartlyDone b h parts old new

@@ -5,13 +5,14 @@ use Rattle.std.specs.Ordering.{int_eq, eq_by_cmp}
 use Rattle.std.specs.FinMap as finmap
 use Rattle.std.specs.FinSet as set
 use Rattle.ephemerals.specs.Orders.{Bytes, path_cmp, sorted_names}
-use Rattle.ephemerals.specs.Pairs.{paths_of_session}
+use Rattle.settings.specs.declared.dialect.Dialect.{Dialect}
+use Rattle.settings.specs.declared.dialect.Dialect.TheVariants.{Zk34, Zk38}
 use Rattle.txn_codec.specs.Paths.{parent_of, name_of}
 use Rattle.node_map.specs.Updates.{owner_of}
 use Rattle.node_map.specs.declared.node.Node.{Node}
 use Rattle.data_tree.specs.State.{State, Nodes}
 use Rattle.txn_codec.specs.Row.{has_error, footprint_of_operation, footprint_of_parts, session_change}
-use Rattle.data_tree.specs.Meaning.{Effect, effect_of, create_under, create_taken, create_new, delete_at, set_data_at, set_acl_at, TxnEffect, answer_of, of_effect, of_operation, of_set_acl, of_parts, of_failed, first_error, effect_of_txn, effect_of_body, after_changes, of_create_session, of_close_session, delete_operations, state_without_session}
+use Rattle.data_tree.specs.Meaning.{Effect, effect_of, create_under, create_taken, create_new, Change, mended_list, delete_missing, delete_at, set_data_at, set_acl_at, TxnEffect, answer_of, of_effect, of_operation, of_set_acl, of_parts, of_failed, first_error, effect_of_txn, effect_of_body, after_changes, of_create_session, of_close_session, delete_operations, ended_paths, state_without_session}
 use Rattle.data_tree.specs.Meaning.Change.{Put, Own, Disown}
 use Rattle.data_tree.specs.Footprint.{has_path, IsSameCell, AreSameAt, AreApart, footprint, KeepsToCells}
 use Rattle.data_tree.specs.Commuting.{IsConfined, IsConfinedTo, TransactionsKeepToTheirFootprints, TransactionsSetTheirTimeouts, DisjointTransactionsCommute, with_timeout_of, with_timeouts}
@@ -40,10 +41,16 @@ within_lost : (ps : List Bytes) (owner : ℤ) (path : Bytes) (b : Bool) → has_
 within_lost ps owner path true h = tt
 within_lost ps owner path false h = (h, tt)
 
-within_taken : (ps : List Bytes) (path : Bytes) (node : Node) (b : Bool) → has_path ps path ≡ true
-    → AreWithin ps (if b then Put path node ∷ [] else [])
-within_taken ps path node true h = (h, tt)
-within_taken ps path node false h = tt
+within_mended : (ps : List Bytes) (rules : Dialect) (c : Create) → has_path ps c.path ≡ true
+    → AreWithin ps (mended_list rules c)
+within_mended ps Zk34 c h = tt
+within_mended ps Zk38 c h = (h, tt)
+
+within_taken : (ps : List Bytes) (path : Bytes) (node : Node) (rest : List Change) (b : Bool) → has_path ps path ≡ true
+    → AreWithin ps rest
+    → AreWithin ps (if b then Put path node ∷ rest else rest)
+within_taken ps path node rest true h within = (h, within)
+within_taken ps path node rest false h within = within
 
 within_create : (h : TxnHeader) (c : Create) (parent : Option Node)
     → AreWithin (footprint_of_operation (op.Create c)) (create_under h c parent).changes
@@ -54,13 +61,19 @@ within_create h c (Some parent) =
     let up : has_path ps (parent_of c.path) ≡ true = touches_second (parent_of c.path) c.path [] in
     elim (set.contains parent.children (name_of c.path)) as
     (λ b. AreWithin ps (if b then create_taken h c parent else create_new h c parent).changes) [
-      | true ↦ within_taken ps (parent_of c.path) _ _ up
-      | false ↦ (up, (here, within_gained ps (owner_of h c.ephemeral) c.path _ here))
+      | true ↦ within_taken ps (parent_of c.path) _ (mended_list h.rules c) _ up (within_mended ps h.rules c here)
+      | false ↦ (up, (here, within_gained ps (owner_of h c.owner) c.path _ here))
     ]
+
+within_missing : (rules : Dialect) (h : TxnHeader) (p : Bytes) (parent : Option Node)
+    → AreWithin (footprint_of_operation (op.Delete p)) (delete_missing rules h p parent).changes
+within_missing Zk34 h p parent = tt
+within_missing Zk38 h p None = tt
+within_missing Zk38 h p (Some parent) = (touches_second (parent_of p) p [], tt)
 
 within_delete : (h : TxnHeader) (p : Bytes) (node parent : Option Node)
     → AreWithin (footprint_of_operation (op.Delete p)) (delete_at h p node parent).changes
-within_delete h p None parent = tt
+within_delete h p None parent = within_missing h.rules h p parent
 within_delete h p (Some node) None = (touches_first p (parent_of p ∷ []), tt)
 within_delete h p (Some node) (Some parent) =
     let here : has_path (footprint_of_operation (op.Delete p)) p ≡ true = touches_first p (parent_of p ∷ []) in (
@@ -278,7 +291,7 @@ transactions_keep_to_their_footprints t = by t.header t.body
     by h (body.CreateSession timeout) k =
         nothing-confined (of_create_session h timeout) (λ s q. record { node = refl; owners = λ w. refl })
         (λ s t. refl)
-    by h body.CloseSession k = absurd (true≢false k)
+    by h (body.CloseSession listed) k = absurd (true≢false k)
 
 -- ---- sessions
 
@@ -294,10 +307,10 @@ multi-sessions h os s true = refl
 multi-sessions h os s false = parts-sessions h os s
 
 -- A closeSession removes its session and sets no timeout.
-pub close-sessions : (h : TxnHeader) (s : State)
-    → (of_close_session h s).state.sessions ≡ finmap.remove s.sessions h.client_id
-close-sessions h s =
-    parts-sessions h (delete_operations (sorted_names (paths_of_session h.client_id s.pairs)))
+pub close-sessions : (h : TxnHeader) (listed : List Bytes) (s : State)
+    → (of_close_session h listed s).state.sessions ≡ finmap.remove s.sessions h.client_id
+close-sessions h listed s =
+    parts-sessions h (delete_operations (sorted_names (ended_paths h.client_id listed s)))
     (state_without_session h.client_id s)
 
 pub mean-sessions : (t : Txn) (s : State) → KeepsToCells t
@@ -310,7 +323,7 @@ mean-sessions t s = by t.header t.body
     by h (body.SetAcl b) k = after_changes-sessions s (set_acl_at b (finmap.get s.nodes b.path)).changes
     by h (body.Multi parts) k = multi-sessions h parts s (has_error parts)
     by h (body.CreateSession timeout) k = refl
-    by h body.CloseSession k = absurd (true≢false k)
+    by h (body.CloseSession listed) k = absurd (true≢false k)
 
 pub transactions_set_their_timeouts : TransactionsSetTheirTimeouts
 transactions_set_their_timeouts [] s keep = refl

@@ -7,16 +7,19 @@ use Rattle.std.proofs.lemmas.Map.Views.{tells_apart}
 use Rattle.std.specs.FinMap as finmap
 use Rattle.ephemerals.specs.Orders.{Bytes, OwnerPairs, path_cmp}
 use Rattle.ephemerals.specs.Pairs.{without_pair}
+use Rattle.settings.specs.declared.dialect.Dialect.{Dialect}
+use Rattle.settings.specs.declared.dialect.Dialect.TheVariants.{Zk34, Zk38}
 use Rattle.txn_codec.specs.Paths.{parent_of, name_of}
 use Rattle.jute.specs.declared.codes.TheConstants.{NO_NODE}
 use Rattle.txn_codec.specs.declared.txn.TxnHeader.{TxnHeader}
 use Rattle.txn_codec.specs.declared.txn.Operation.TheVariants as op
 use Rattle.node_map.specs.Updates.{update_node, update_found}
-use Rattle.node_map.specs.Children.{without_child}
+use Rattle.node_map.specs.Children.{without_child, without_missing_child}
 use Rattle.node_map.specs.declared.node.Node.{Node}
 use Rattle.data_tree.specs.State.{State, Nodes}
-use Rattle.data_tree.specs.Meaning.{Effect, after_changes, delete_at, no_change, of_operation}
+use Rattle.data_tree.specs.Meaning.{Effect, after_changes, delete_missing, delete_at, of_operation}
 use Rattle.data_tree.specs.Inner.Doing.{IsEffectDone}
+use Rattle.data_tree.specs.Inner.Mending.{with_missing}
 use Rattle.data_tree.specs.declared.outcome.Trigger.{Trigger}
 use Rattle.ephemerals.proofs.Totals.{path_total}
 use Rattle.data_tree.proofs.Lists.{nothing_more}
@@ -34,22 +37,55 @@ remove_absent m path none =
 abbrev effect : State → TxnHeader → Bytes → Effect
 effect s h path = delete_at h path (finmap.get s.nodes path) (finmap.get (finmap.remove s.nodes path) (parent_of path))
 
+-- What a delete does that finds no node, as changes.
+missing_is : (rules : Dialect) (h : TxnHeader) (path : Bytes) (s : State)
+    → with_missing rules h path s
+    ≡ after_changes s (delete_missing rules h path (finmap.get s.nodes (parent_of path))).changes
+missing_is Zk34 h path s = refl
+missing_is Zk38 h path s = by (finmap.get s.nodes (parent_of path))
+  where
+    by : (o : Option Node)
+        → (let t : State = record s { nodes = update_found s.nodes (parent_of path) (without_missing_child h) o } in t)
+        ≡ after_changes s (delete_missing Zk38 h path o).changes
+    by None = refl
+    by (Some parent) = refl
+
+missing_err : (rules : Dialect) (h : TxnHeader) (path : Bytes) (o : Option Node)
+    → NO_NODE ≡ (delete_missing rules h path o).err
+missing_err Zk34 h path o = refl
+missing_err Zk38 h path None = refl
+missing_err Zk38 h path (Some parent) = refl
+
+missing_fires : (rules : Dialect) (h : TxnHeader) (path : Bytes) (o : Option Node)
+    → (let none : List Trigger = [] in none) ≡ (delete_missing rules h path o).triggers
+missing_fires Zk34 h path o = refl
+missing_fires Zk38 h path None = refl
+missing_fires Zk38 h path (Some parent) = refl
+
 -- There is no node.
-pub missing-effect : (s : State) (h : TxnHeader) (path : Bytes) → None ≡ finmap.get s.nodes path
-    → no_change NO_NODE ≡ effect s h path
+missing-effect : (s : State) (h : TxnHeader) (path : Bytes) → None ≡ finmap.get s.nodes path
+    → delete_missing h.rules h path (finmap.get s.nodes (parent_of path)) ≡ effect s h path
 missing-effect s h path none =
-    ap (λ o. delete_at h path o (finmap.get (finmap.remove s.nodes path) (parent_of path))) none
+    ap (λ (m : Nodes). delete_missing h.rules h path (finmap.get m (parent_of path)))
+    (sym (remove_absent s.nodes path (sym none)))
+    ∙ ap (λ o. delete_at h path o (finmap.get (finmap.remove s.nodes path) (parent_of path))) none
 
 pub missing-done : (s : State) (h : TxnHeader) (path : Bytes) (n : Nodes) (before after : List Trigger)
     → None ≡ finmap.get s.nodes path → n ≡ finmap.remove s.nodes path → after ≡ before
     → IsEffectDone (of_operation h (op.Delete path) s) NO_NODE
-    (let t : State = record { nodes = n; pairs = s.pairs; sessions = s.sessions } in t) before after
+    (with_missing h.rules h path
+    (let t : State = record { nodes = n; pairs = s.pairs; sessions = s.sessions } in t)) before after
 missing-done s h path n before after none is same = record {
-  state = (λ i.
-      record { nodes = (is ∙ remove_absent s.nodes path (sym none)) i; pairs = s.pairs; sessions = s.sessions })
+  state = ap (λ (m : Nodes). with_missing h.rules h path
+      (let t : State = record { nodes = m; pairs = s.pairs; sessions = s.sessions } in t))
+      (is ∙ remove_absent s.nodes path (sym none))
+      ∙ missing_is h.rules h path s
       ∙ ap (λ e. after_changes s e.changes) (missing-effect s h path none);
-  err = ap (λ e. e.err) (missing-effect s h path none);
-  fired = same ∙ nothing_more before [] refl ∙ ap (λ e. before ++ e.triggers) (missing-effect s h path none);
+  err = missing_err h.rules h path (finmap.get s.nodes (parent_of path))
+      ∙ ap (λ e. e.err) (missing-effect s h path none);
+  fired = same ∙ nothing_more before [] refl
+      ∙ ap (λ ts. before ++ ts) (missing_fires h.rules h path (finmap.get s.nodes (parent_of path)))
+      ∙ ap (λ e. before ++ e.triggers) (missing-effect s h path none);
 }
 
 no_parent : (o : Option Node) → false ≡ is_some o → o ≡ None
@@ -68,7 +104,7 @@ orphan-effect s h path node found none =
 pub deleted-is : (s : State) (h : TxnHeader) (path : Bytes) (node : Node) (n : Nodes) (p : OwnerPairs)
     → Some node ≡ finmap.get s.nodes path
     → true ≡ is_some (finmap.get (finmap.remove s.nodes path) (parent_of path))
-    → n ≡ update_node (finmap.remove s.nodes path) (parent_of path) (without_child (name_of path) h.zxid)
+    → n ≡ update_node (finmap.remove s.nodes path) (parent_of path) (without_child (name_of path) h)
     → p ≡ without_pair s.pairs node.stat.ephemeral_owner path
     → (let t : State = record { nodes = n; pairs = p; sessions = s.sessions } in t)
     ≡ after_changes s (effect s h path).changes
@@ -82,7 +118,7 @@ deleted-is s h path node n p found some nodes pairs =
         → (let t : State =
         record {
           nodes =
-              update_found (finmap.remove s.nodes path) (parent_of path) (without_child (name_of path) h.zxid) o;
+              update_found (finmap.remove s.nodes path) (parent_of path) (without_child (name_of path) h) o;
           pairs = without_pair s.pairs node.stat.ephemeral_owner path;
           sessions = s.sessions;
         } in t)
@@ -93,7 +129,7 @@ deleted-is s h path node n p found some nodes pairs =
         (let t : State =
         record {
           nodes =
-              finmap.insert (finmap.remove s.nodes path) (parent_of path) (without_child (name_of path) h.zxid parent);
+              finmap.insert (finmap.remove s.nodes path) (parent_of path) (without_child (name_of path) h parent);
           pairs = s.pairs;
           sessions = s.sessions;
         } in t)

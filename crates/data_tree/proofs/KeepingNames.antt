@@ -1,12 +1,14 @@
 -- Transactions and inserted nodes keep paths and names valid.
-use Rattle.std.proofs.Common.{◌≡◌, Bool, true, false, ◌||◌, ◌&&◌, ◌==◌, not, List, [], ◌∷◌, Option, Some, None, refl, sym, ap, ◌∙◌, if◌then◌else◌, int_lt, ℤ, pos, codes}
+use Rattle.std.proofs.Common.{◌≡◌, Bool, true, false, ◌||◌, ◌&&◌, ◌==◌, not, List, [], ◌∷◌, Option, Some, None, refl, sym, ap, ◌∙◌, if◌then◌else◌, int_lt, length, ℤ, pos, codes}
 use Rattle.std.proofs.lemmas.Bool.{eqb-true}
 use Rattle.std.specs.Ordering.{int_eq}
 use Rattle.std.specs.List.{AllByRecursion}
 use Rattle.std.specs.FinMap as finmap
 use Rattle.std.specs.FinSet as set
 use Rattle.ephemerals.specs.Orders.{Bytes, path_cmp, sorted_names}
-use Rattle.ephemerals.specs.Pairs.{paths_of_session}
+use Rattle.settings.specs.declared.dialect.Dialect.{Dialect}
+use Rattle.settings.specs.declared.dialect.Dialect.TheVariants.{Zk34, Zk38}
+use Rattle.jute.specs.declared.owned.Acl.{Acl}
 use Rattle.txn_codec.specs.Paths.{is_path, is_child_path, is_root, parent_of, name_of}
 use Rattle.txn_codec.specs.Parents.{HasParent, HaveParents}
 use Rattle.txn_codec.specs.declared.txn.TxnHeader.{TxnHeader}
@@ -17,15 +19,15 @@ use Rattle.txn_codec.specs.declared.txn.Operation.{Operation}
 use Rattle.txn_codec.specs.declared.txn.Operation.TheVariants as op
 use Rattle.txn_codec.specs.declared.txn.Body.{Body}
 use Rattle.txn_codec.specs.declared.txn.Body.TheVariants as body
-use Rattle.node_map.specs.Updates.{next_cversion, owner_of, preset_node, with_name, update_found, update_node}
+use Rattle.node_map.specs.Updates.{next_cversion, owner_of, preset_node, with_name, with_missing_acl, update_found, update_node}
 use Rattle.node_map.specs.Agreement.{has_node, AreChildNames}
 use Rattle.node_map.specs.declared.node.Node.{Node}
 use Rattle.node_map.proofs.Links.{each_of_all}
 use Rattle.node_map.proofs.Naming.{name_is, IsNamed, EachIsNamed, each_with, each_without, names_with, names_without, no_names}
 use Rattle.data_tree.specs.State.{State, Nodes}
 use Rattle.txn_codec.specs.Row.{has_error}
-use Rattle.data_tree.specs.Meaning.{Change, after_change, after_changes, effect_of, create_under, create_taken, create_new, with_children, gained_pair, delete_at, lost_pair, set_data_at, set_acl_at, of_parts, of_multi, of_failed, delete_operations, state_without_session, effect_of_body, fresh_state}
-use Rattle.data_tree.specs.Meaning.Change.{Put, Remove, Own, Disown}
+use Rattle.data_tree.specs.Meaning.{Change, after_change, after_changes, effect_of, create_under, create_taken, create_new, with_children, mended_list, gained_pair, delete_missing, delete_at, lost_pair, set_data_at, set_acl_at, of_parts, of_multi, of_failed, delete_operations, ended_paths, state_without_session, effect_of_body, fresh_state}
+use Rattle.data_tree.specs.Meaning.Change.{Put, Remove, Own, Disown, Mend}
 use Rattle.data_tree.specs.Making.{with_node, with_node_in_place}
 
 or-true : (b : Bool) → (b || true) ≡ true
@@ -42,9 +44,27 @@ IsFine (Put path node) = IsNamed path node
 IsFine (Remove path) = Unit {0}
 IsFine (Own session path) = Unit {0}
 IsFine (Disown session path) = Unit {0}
+IsFine (Mend path acl) = Unit {0}
 
 abbrev AreFine : List Change → Type 0
 AreFine changes = AllByRecursion IsFine changes
+
+with_list : (path : Bytes) (acl : List Acl) (node : Node) → IsNamed path node
+    → IsNamed path (with_missing_acl acl node)
+with_list path acl node named = by (length node.acl == 0)
+  where
+    by : (b : Bool) → IsNamed path (if b then record node { acl = acl } else node)
+    by true = record { right = named.right; names = named.names }
+    by false = named
+
+mended_keeps : (nodes : Nodes) (path : Bytes) (acl : List Acl) → EachIsNamed nodes
+    → EachIsNamed (update_node nodes path (with_missing_acl acl))
+mended_keeps nodes path acl each = by (finmap.get nodes path) refl
+  where
+    by : (o : Option Node) → finmap.get nodes path ≡ o → EachIsNamed (update_found nodes path (with_missing_acl acl) o)
+    by None is = each
+    by (Some node) is =
+        each_with nodes path (with_missing_acl acl node) each (with_list path acl node (each path node is))
 
 after_one : (s : State) (change : Change) → IsFine change → EachIsNamed s.nodes
     → EachIsNamed (after_change s change).nodes
@@ -52,6 +72,7 @@ after_one s (Put path node) fine each = each_with s.nodes path node each fine
 after_one s (Remove path) fine each = each_without s.nodes path each
 after_one s (Own session path) fine each = each
 after_one s (Disown session path) fine each = each
+after_one s (Mend path acl) fine each = mended_keeps s.nodes path acl each
 
 after_all : (s : State) (changes : List Change) → AreFine changes → EachIsNamed s.nodes
     → EachIsNamed (after_changes s changes).nodes
@@ -82,6 +103,10 @@ lost_fine owner path = by (int_eq owner (pos 0))
     by true = tt
     by false = (tt, tt)
 
+mended_fine : (rules : Dialect) (c : Create) → AreFine (mended_list rules c)
+mended_fine Zk34 c = tt
+mended_fine Zk38 c = (tt, tt)
+
 taken_fine : (h : TxnHeader) (c : Create) (parent : Node) → IsNamed (parent_of c.path) parent
     → AreFine (create_taken h c parent).changes
 taken_fine h c parent named =
@@ -89,10 +114,11 @@ taken_fine h c parent named =
   where
     by : (b : Bool)
         → AreFine (if b then Put (parent_of c.path)
-        (with_children parent parent.children (next_cversion parent.stat.cversion c.parent_cversion) h.zxid) ∷ []
-        else [])
-    by true = (record { right = named.right; names = named.names }, tt)
-    by false = tt
+        (with_children parent parent.children (next_cversion parent.stat.cversion c.parent_cversion) h.zxid)
+        ∷ mended_list h.rules c
+        else mended_list h.rules c)
+    by true = (record { right = named.right; names = named.names }, mended_fine h.rules c)
+    by false = mended_fine h.rules c
 
 new_fine : (h : TxnHeader) (c : Create) (parent : Node) → is_child_path c.path ≡ true
     → IsNamed (parent_of c.path) parent → AreFine (create_new h c parent).changes
@@ -101,7 +127,7 @@ new_fine h c parent makes named = (
     right = named.right;
     names = names_with parent.children (name_of c.path) named.names (name_is c.path makes);
   },
-  (record { right = child_is_path c.path makes; names = no_names }, gained_fine (owner_of h c.ephemeral) c.path),
+  (record { right = child_is_path c.path makes; names = no_names }, gained_fine (owner_of h c.owner) c.path),
 )
 
 create_fine : (h : TxnHeader) (c : Create) (nodes : Nodes) → is_child_path c.path ≡ true → EachIsNamed nodes
@@ -113,9 +139,21 @@ create_fine h c nodes makes each (Some parent) is = by (set.contains parent.chil
     by true = taken_fine h c parent (each (parent_of c.path) parent is)
     by false = new_fine h c parent makes (each (parent_of c.path) parent is)
 
+missing_fine : (rules : Dialect) (h : TxnHeader) (path : Bytes) (nodes : Nodes) → EachIsNamed nodes → (p : Option Node)
+    → finmap.get nodes (parent_of path) ≡ p → AreFine (delete_missing rules h path p).changes
+missing_fine Zk34 h path nodes each p is = tt
+missing_fine Zk38 h path nodes each None is = tt
+missing_fine Zk38 h path nodes each (Some parent) is = (
+  record {
+    right = (each (parent_of path) parent is).right;
+    names = (each (parent_of path) parent is).names;
+  },
+  tt,
+)
+
 delete_fine : (h : TxnHeader) (path : Bytes) (nodes : Nodes) → EachIsNamed nodes → (o p : Option Node)
     → finmap.get nodes (parent_of path) ≡ p → AreFine (delete_at h path o p).changes
-delete_fine h path nodes each None p is = tt
+delete_fine h path nodes each None p is = missing_fine h.rules h path nodes each p is
 delete_fine h path nodes each (Some node) None is = (tt, tt)
 delete_fine h path nodes each (Some node) (Some parent) is = (
   tt,
@@ -192,9 +230,9 @@ body_keeps h (body.SetAcl b) s has each =
     (set_acl_fine b s.nodes each (finmap.get s.nodes b.path) refl) each
 body_keeps h (body.Multi os) s has each = multi_keeps h os (each_makes os (each_of_all HasParent os has)) s each
 body_keeps h (body.CreateSession timeout) s has each = each
-body_keeps h body.CloseSession s has each =
-    parts_keep h (delete_operations (sorted_names (paths_of_session h.client_id s.pairs)))
-    (delete_makes (sorted_names (paths_of_session h.client_id s.pairs))) (state_without_session h.client_id s) each
+body_keeps h (body.CloseSession listed) s has each =
+    parts_keep h (delete_operations (sorted_names (ended_paths h.client_id listed s)))
+    (delete_makes (sorted_names (ended_paths h.client_id listed s))) (state_without_session h.client_id s) each
 
 -- ---- nodes that are inserted
 

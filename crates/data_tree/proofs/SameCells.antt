@@ -10,9 +10,11 @@ use Rattle.std.proofs.lemmas.Map.Views.{tells_apart}
 use Rattle.std.specs.FinMap as finmap
 use Rattle.std.specs.FinSet as set
 use Rattle.ephemerals.specs.Orders.{Bytes, path_cmp, pair_cmp}
+use Rattle.node_map.specs.Updates.{with_missing_acl}
+use Rattle.node_map.proofs.NodeUpdates.{updated_apart, updated_same}
 use Rattle.data_tree.specs.State.{State}
 use Rattle.data_tree.specs.Meaning.{Change, after_change, after_changes}
-use Rattle.data_tree.specs.Meaning.Change.{Put, Remove, Own, Disown}
+use Rattle.data_tree.specs.Meaning.Change.{Put, Remove, Own, Disown, Mend}
 use Rattle.data_tree.specs.Footprint.{has_path, IsSameCell}
 use Rattle.ephemerals.proofs.Totals.{path_total, pair_total, pair_exact}
 
@@ -38,6 +40,7 @@ path_of (Put path node) = path
 path_of (Remove path) = path
 path_of (Own session path) = path
 path_of (Disown session path) = path
+path_of (Mend path acl) = path
 
 then_apart : (r q : Ordering) → is_eq q ≡ false → is_eq (ordering_then r q) ≡ false
 then_apart Less q h = refl
@@ -74,6 +77,8 @@ after_change-frame s (Disown v p) q h =
       owners = λ w. set.contains-remove pair_total s.pairs (v, p) (w, q)
           ∙ ap (λ b. not b && set.contains s.pairs (w, q)) (pair_apart w v q p h);
     }
+after_change-frame s (Mend p acl) q h =
+    record { node = updated_apart s.nodes p (with_missing_acl acl) q h; owners = λ w. refl }
 
 -- What a change leaves in a cell depends on that cell alone.
 pub after_change-local : (s t : State) (c : Change) (q : Bytes) → IsSameCell s t q
@@ -105,12 +110,15 @@ after_change-local s t (Disown v p) q e =
           ∙ ap (λ b. not (eq_by_cmp pair_cmp (w, q) (v, p)) && b) (e.owners w)
           ∙ sym (set.contains-remove pair_total t.pairs (v, p) (w, q));
     }
+after_change-local s t (Mend p acl) q e =
+    record { node = updated_same s.nodes t.nodes p (with_missing_acl acl) q e.node; owners = e.owners }
 
 pub after_change-sessions : (s : State) (c : Change) → (after_change s c).sessions ≡ s.sessions
 after_change-sessions s (Put p n) = refl
 after_change-sessions s (Remove p) = refl
 after_change-sessions s (Own v p) = refl
 after_change-sessions s (Disown v p) = refl
+after_change-sessions s (Mend p acl) = refl
 
 -- The changes are at these paths.
 abbrev pub AreWithin : List Bytes → List Change → Type 0

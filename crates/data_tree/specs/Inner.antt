@@ -1,3 +1,4 @@
 -- What the contracts of private functions cite. No caller depends on this.
 pub mod Placing
 pub mod Doing
+pub mod Mending

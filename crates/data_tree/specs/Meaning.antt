@@ -7,6 +7,10 @@ use Rattle.std.specs.FinSet as set
 use Rattle.ephemerals.specs.Orders.{Bytes, Names, sorted_names}
 use Rattle.ephemerals.specs.Pairs.{paths_of_session, without_session}
 use Rattle.jute.specs.declared.codes.TheConstants.{NO_NODE, NODE_EXISTS, RUNTIME_INCONSISTENCY}
+use Rattle.jute.specs.declared.owned.Acl.{Acl}
+use Rattle.settings.specs.declared.dialect.Dialect.{Dialect}
+use Rattle.settings.specs.declared.dialect.Dialect.TheVariants.{Zk34, Zk38}
+use Rattle.txn_codec.specs.Acls.{acl_or_open}
 use Rattle.txn_codec.specs.Paths.{parent_of, name_of}
 use Rattle.txn_codec.specs.Row.{error_of, has_error}
 use Rattle.txn_codec.specs.declared.txn.TxnHeader.{TxnHeader}
@@ -19,7 +23,8 @@ use Rattle.txn_codec.specs.declared.txn.Operation.TheVariants as op
 use Rattle.txn_codec.specs.declared.txn.Body.{Body}
 use Rattle.txn_codec.specs.declared.txn.Body.TheVariants as body
 use Rattle.node_map.specs.declared.node.Node.{Node}
-use Rattle.node_map.specs.Updates.{next_cversion, owner_of, new_node, with_data, with_acl, preset_node}
+use Rattle.node_map.specs.Updates.{next_cversion, owner_of, new_node, with_data, with_acl, with_missing_acl, preset_node, update_node}
+use Rattle.node_map.specs.Children.{stat_with_child, without_child, without_missing_child}
 use Rattle.data_tree.specs.State.{State, Nodes}
 use Rattle.data_tree.specs.declared.outcome.Outcome.{Outcome}
 use Rattle.data_tree.specs.declared.outcome.Trigger.{Trigger}
@@ -35,12 +40,15 @@ pub data Change : Type 0 where
   Own : (session : ℤ) (path : Bytes) → Change
   -- The session doesn't list the path.
   Disown : (session : ℤ) (path : Bytes) → Change
+  -- The node at the path, if it came without an access control list, gets this one.
+  Mend : (path : Bytes) (acl : List Acl) → Change
 
 abbrev pub after_change : State → Change → State
 after_change s (Put path node) = record s { nodes = finmap.insert s.nodes path node }
 after_change s (Remove path) = record s { nodes = finmap.remove s.nodes path }
 after_change s (Own session path) = record s { pairs = set.insert s.pairs (session, path) }
 after_change s (Disown session path) = record s { pairs = set.remove s.pairs (session, path) }
+after_change s (Mend path acl) = record s { nodes = update_node s.nodes path (with_missing_acl acl) }
 
 abbrev pub after_changes : State → List Change → State
 after_changes s [] = s
@@ -67,6 +75,12 @@ gained_pair owner path = if int_eq owner (pos 0) then [] else Own owner path ∷
 abbrev pub lost_pair : ℤ → Bytes → List Change
 lost_pair owner path = if int_eq owner (pos 0) then [] else Disown owner path ∷ []
 
+-- An image that was written while the leader went on may lack the list of a node. By the rules of later dialects the
+-- create that comes again brings it.
+abbrev pub mended_list : Dialect → Create → List Change
+mended_list Zk34 create = []
+mended_list Zk38 create = Mend create.path (acl_or_open create.acl) ∷ []
+
 -- A create of a name that the parent has already can only raise the parent's stat.
 abbrev pub create_taken : TxnHeader → Create → Node → Effect
 create_taken header create parent =
@@ -75,20 +89,24 @@ create_taken header create parent =
       err = NODE_EXISTS;
       changes =
           if int_lt parent.stat.cversion next
-          then Put (parent_of create.path) (with_children parent parent.children next header.zxid) ∷ [] else [];
+          then Put (parent_of create.path) (with_children parent parent.children next header.zxid)
+          ∷ mended_list header.rules create
+          else mended_list header.rules create;
       triggers = [];
     }
 
 abbrev pub create_new : TxnHeader → Create → Node → Effect
 create_new header create parent =
-    let next = next_cversion parent.stat.cversion create.parent_cversion in
     record {
       err = pos 0;
       changes =
           Put (parent_of create.path)
-          (with_children parent (set.insert parent.children (name_of create.path)) next header.zxid)
+          (record parent {
+            children = set.insert parent.children (name_of create.path);
+            stat = stat_with_child header create parent.stat;
+          })
           ∷ Put create.path (new_node header create)
-          ∷ gained_pair (owner_of header create.ephemeral) create.path;
+          ∷ gained_pair (owner_of header create.owner) create.path;
       triggers = Created create.path ∷ ChildrenChanged (parent_of create.path) ∷ [];
     }
 
@@ -98,16 +116,28 @@ create_under header create (Some parent) =
     if set.contains parent.children (name_of create.path) then create_taken header create parent
     else create_new header create parent
 
+-- There is no such node. By the rules of later dialects its parent, if there is one, changes all the same: an image may
+-- have been written between the delete and the change of the parent.
+abbrev pub delete_missing : Dialect → TxnHeader → Bytes → Option Node → Effect
+delete_missing Zk34 header path parent = no_change NO_NODE
+delete_missing Zk38 header path None = no_change NO_NODE
+delete_missing Zk38 header path (Some parent) =
+    record {
+      err = NO_NODE;
+      changes = Put (parent_of path) (without_missing_child header parent) ∷ [];
+      triggers = [];
+    }
+
 -- The node is removed, and its name in the parent.
 abbrev pub delete_at : TxnHeader → Bytes → Option Node → Option Node → Effect
-delete_at header path None parent = no_change NO_NODE
+delete_at header path None parent = delete_missing header.rules header path parent
 delete_at header path (Some node) None = record { err = NO_NODE; changes = Remove path ∷ []; triggers = [] }
 delete_at header path (Some node) (Some parent) = record {
   err = pos 0;
   changes =
       Remove path
       ∷ Put (parent_of path)
-      (with_children parent (set.remove parent.children (name_of path)) parent.stat.cversion header.zxid)
+      (without_child (name_of path) header parent)
       ∷ lost_pair node.stat.ephemeral_owner path;
   triggers = Deleted path ∷ ChildrenChanged (parent_of path) ∷ [];
 }
@@ -211,11 +241,20 @@ abbrev pub state_without_session : ℤ → State → State
 state_without_session session s =
     record { nodes = s.nodes; pairs = without_session session s.pairs; sessions = finmap.remove s.sessions session }
 
--- The session's ephemeral nodes are deleted in ascending order of their bytes. Errors are ignored.
-abbrev pub of_close_session : TxnHeader → State → TxnEffect
-of_close_session header s =
+-- Names, and these too.
+abbrev pub with_names : Names → List Bytes → Names
+with_names names [] = names
+with_names names (path ∷ paths) = with_names (set.insert names path) paths
+
+-- The paths of the session's ephemeral nodes, and those that are listed.
+abbrev pub ended_paths : ℤ → List Bytes → State → Names
+ended_paths session listed s = with_names (paths_of_session session s.pairs) listed
+
+-- These nodes are deleted in ascending order of their paths' bytes. Errors are ignored.
+abbrev pub of_close_session : TxnHeader → List Bytes → State → TxnEffect
+of_close_session header listed s =
     let deleted =
-    of_parts header (delete_operations (sorted_names (paths_of_session header.client_id s.pairs)))
+    of_parts header (delete_operations (sorted_names (ended_paths header.client_id listed s)))
     (state_without_session header.client_id s) in
     record { state = deleted.state; err = pos 0; parts = []; triggers = deleted.triggers }
 
@@ -224,7 +263,7 @@ effect_of_body header (body.Single operation) s = of_operation header operation 
 effect_of_body header (body.SetAcl body) s = of_set_acl body s
 effect_of_body header (body.Multi parts) s = of_multi header parts s
 effect_of_body header (body.CreateSession timeout) s = of_create_session header timeout s
-effect_of_body header body.CloseSession s = of_close_session header s
+effect_of_body header (body.CloseSession listed) s = of_close_session header listed s
 
 abbrev pub effect_of_txn : State → Txn → TxnEffect
 effect_of_txn s txn = effect_of_body txn.header txn.body s

@@ -23,4 +23,4 @@ IsLeftByRefused header (body.Single operation) old new = new ≡ old
 IsLeftByRefused header (body.SetAcl body) old new = new ≡ old
 IsLeftByRefused header (body.Multi parts) old new = IsPartlyDone (has_error parts) header parts old new
 IsLeftByRefused header (body.CreateSession timeout) old new = new ≡ old
-IsLeftByRefused header body.CloseSession old new = Unit {0}
+IsLeftByRefused header (body.CloseSession listed) old new = Unit {0}

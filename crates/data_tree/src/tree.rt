@@ -10,9 +10,10 @@ ghost use Rattle.node_map.specs.Stats.{stat_of, children_of};
 ghost use Rattle.data_tree.specs.Making.{with_placed_node};
 ghost use Rattle.data_tree.specs.Making.{empty_state, with_session, with_node_in_place, has_place};
 ghost use Rattle.data_tree.specs.Inner.Placing.{with_new_node_placed};
+ghost use Rattle.data_tree.specs.Inner.Mending.{with_mended, with_missing};
 ghost use Rattle.data_tree.specs.Whole.{IsWhole};
 ghost use Rattle.txn_codec.specs.Row.{has_error};
-ghost use Rattle.data_tree.specs.Meaning.{of_operation, of_set_acl, of_create_session, of_close_session, of_parts, of_multi, delete_operations, effect_of_txn, answer_of, fresh_state};
+ghost use Rattle.data_tree.specs.Meaning.{of_operation, of_set_acl, of_create_session, of_close_session, of_parts, of_multi, with_names, delete_operations, effect_of_txn, answer_of, fresh_state};
 ghost use Rattle.data_tree.specs.Cells.{cells_at, without_cells, with_cells};
 ghost use Rattle.data_tree.specs.Refused.{IsAfterFront};
 ghost use Rattle.data_tree.specs.Refused.{IsPartlyDone, IsLeftByRefused};
@@ -26,6 +27,7 @@ use ephemerals::{Ephemerals, TextSet};
 use jute::Stat;
 use jute::codes::{NO_NODE, NODE_EXISTS};
 use node_map::{AddedChild, Node, NodeMap};
+use settings::Dialect;
 use std::alloc::Global;
 use std::collections::btree_map::Iter;
 use std::marker::Model;
@@ -51,6 +53,17 @@ impl Model for Tree {
     ghost coded = { state_code node.the_row.coded };
 
     ghost view = { λ t. record { nodes = t.nodes; pairs = t.ephemerals; sessions = t.timeouts } };
+}
+
+// The names, and these paths too.
+fn with_names(alloc: Global, names: TextSet, paths: &[Path]) -> Result<TextSet, NoMemory>
+    ensures { IfOk result (λ all. all ≡ with_names names paths.now) }
+{
+    let mut all = names;
+    for path in paths {
+        all.insert(String::from_str(alloc, path.as_str())?)?;
+    }
+    Ok(all)
 }
 
 impl Tree {
@@ -213,6 +226,7 @@ impl Tree {
             }
             AddedChild::Taken => {
                 triggers.truncate(before);
+                self.mend(header, create.path.as_str(), node);
                 Ok(NODE_EXISTS)
             }
             AddedChild::Added(stat) => match self.place_node(alloc, create.path.as_str(), node) {
@@ -222,6 +236,26 @@ impl Tree {
                     Err(error)
                 }
             },
+        }
+    }
+
+    // A node that came with an image, but without its access control list, gets that of this one, which a create made.
+    fn mend(&mut self, header: &TxnHeader, path: &str, made: Node)
+        ensures { self.new ≡ with_mended header.now.rules path.now made.acl self.old }
+    {
+        match header.rules {
+            Dialect::Zk34 => return,
+            Dialect::Zk38 => self.nodes.mend_acl(path, made.acl),
+        }
+    }
+
+    // A node is to be deleted that isn't there: its parent changes all the same by the rules of later dialects.
+    fn miss(&mut self, header: &TxnHeader, path: &str)
+        ensures { self.new ≡ with_missing header.now.rules header.now path.now self.old }
+    {
+        match header.rules {
+            Dialect::Zk34 => return,
+            Dialect::Zk38 => self.nodes.miss_child(parent_of(path), header),
         }
     }
 
@@ -240,6 +274,7 @@ impl Tree {
         fire_with_parent(triggers, alloc, deleted, parent_of(path))?;
         let Some(node) = self.nodes.remove(path) else {
             triggers.truncate(before);
+            self.miss(header, path);
             return Ok(NO_NODE);
         };
         if !self
@@ -358,15 +393,17 @@ impl Tree {
         &mut self,
         alloc: Global,
         header: &TxnHeader,
+        listed: &[Path],
         triggers: &mut Vec<Trigger>,
     ) -> Result<(), NoMemory>
-        ensures state { OnOk result (self.new ≡ (of_close_session header.now self.old).state) }
+        ensures state { OnOk result (self.new ≡ (of_close_session header.now listed.now self.old).state) }
         ensures fired { OnOk result
             (triggers.new.items ≡ triggers.old.items ++
-            (of_close_session header.now self.old).triggers) }
+            (of_close_session header.now listed.now self.old).triggers) }
     {
-        let paths = self.ephemerals.take_session(alloc, header.client_id);
+        let own = self.ephemerals.take_session(alloc, header.client_id);
         self.timeouts.remove(header.client_id);
+        let paths = with_names(alloc, own, listed)?;
         self.delete_all(alloc, header, paths, triggers)
     }
 
@@ -388,8 +425,8 @@ impl Tree {
                 self.create_session(&txn.header, *timeout)?;
                 0
             }
-            Body::CloseSession => {
-                self.close_session(alloc, &txn.header, &mut triggers)?;
+            Body::CloseSession(listed) => {
+                self.close_session(alloc, &txn.header, listed.as_slice(), &mut triggers)?;
                 0
             }
         };

@@ -30,6 +30,7 @@ fn node_of(alloc: Global, owner: i64) -> Result<Node, Fail> {
         bytes: None,
         acl: AclList::of(&Some(Listed::from_vec(Vec::new(alloc))))?,
         stat: stat_of(owner),
+        mark: 0,
         children: TextSet::new(alloc),
     })
 }

@@ -4,9 +4,10 @@ use crate::path_of;
 use crate::transactions::fresh;
 use data_tree::{Cells, Tree};
 use ephemerals::TextSet;
+use settings::Dialect;
 use std::alloc::Global;
 use std::test::Fail;
-use txn_codec::{Body, Create, Operation, SetData, Txn, TxnHeader};
+use txn_codec::{Body, Create, Operation, Owner, SetData, Txn, TxnHeader};
 use values::Blob;
 
 // A transaction of the session.
@@ -16,6 +17,7 @@ fn txn_of(session: i64, body: Body) -> Txn {
         cxid: 1,
         zxid: 1,
         time: 1000,
+        rules: Dialect::Zk34,
     };
     Txn { header, body }
 }
@@ -26,7 +28,8 @@ fn create(alloc: Global, session: i64, path: &str) -> Result<Txn, Fail> {
         path: path_of(alloc, path).ok_or("a path")?,
         bytes: Some(Blob::new(alloc, b"a")?),
         acl: None,
-        ephemeral: true,
+        owner: Owner::Client,
+        asks_stat: false,
         parent_cversion: -1,
     };
     Ok(txn_of(session, Body::Single(Operation::Create(create))))

@@ -10,6 +10,10 @@ mod built_trees;
 #[cfg(test)]
 mod cells;
 #[cfg(test)]
+mod leader_owned;
+#[cfg(test)]
+mod mended;
+#[cfg(test)]
 mod owners;
 #[cfg(test)]
 mod texts;

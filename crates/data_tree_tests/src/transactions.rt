@@ -60,8 +60,8 @@ fn signs_of(alloc: Global, triggers: &[Trigger]) -> Result<String, Fail> {
     Ok(text)
 }
 
-// The error, the parts' errors, and the triggers.
-fn text_of(alloc: Global, outcome: &Outcome) -> Result<String, Fail> {
+/// The error, the parts' errors, and the triggers.
+pub fn text_of(alloc: Global, outcome: &Outcome) -> Result<String, Fail> {
     let errors = errors_of(alloc, outcome.parts.as_slice())?;
     let signs = signs_of(alloc, outcome.triggers.as_slice())?;
     Ok(format!(in alloc; "{}{errors}{signs}", outcome.err)?)

@@ -108,7 +108,11 @@ fn others_touch_nothing_or_are_a_barrier(rt: HostRuntime) -> Result<(), Fail> {
         ""
     );
     assert_eq!(rt;
-        shown(alloc, &txn_of(Body::CloseSession))?.as_str(),
+        shown(
+            alloc,
+            &txn_of(Body::CloseSession(Listed::from_vec(Vec::new(alloc))))
+        )?
+        .as_str(),
         "barrier"
     );
     Ok(())
@@ -173,6 +177,13 @@ fn paths_are_lent_as_they_are_named(rt: HostRuntime) -> Result<(), Fail> {
     let alloc = rt.alloc();
     let parts = [('=', "/b"), ('?', "/d"), ('+', "/b/x")];
     assert_eq!(rt; lent_by_multi(alloc, &parts)?.as_str(), " /b /b/x /b");
-    assert_eq!(rt; lent(alloc, &txn_of(Body::CloseSession))?.as_str(), "");
+    assert_eq!(rt;
+        lent(
+            alloc,
+            &txn_of(Body::CloseSession(Listed::from_vec(Vec::new(alloc))))
+        )?
+        .as_str(),
+        ""
+    );
     Ok(())
 }

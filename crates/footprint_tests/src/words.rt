@@ -1,7 +1,8 @@
 //! Transactions given as signs and paths.
 
+use settings::Dialect;
 use std::alloc::Global;
-use txn_codec::{Body, Check, Create, Operation, Path, SetData, Txn, TxnHeader};
+use txn_codec::{Body, Check, Create, Operation, Owner, Path, SetData, Txn, TxnHeader};
 use values::ReadError;
 
 /// The operation of a sign: "+" a create, "-" a delete, "=" new data, "?" a check, and any other an error.
@@ -12,7 +13,8 @@ pub fn operation_of(alloc: Global, sign: char, path: &str) -> Result<Operation, 
             path,
             bytes: None,
             acl: None,
-            ephemeral: false,
+            owner: Owner::Nobody,
+            asks_stat: false,
             parent_cversion: -1,
         }),
         '-' => Operation::Delete(path),
@@ -33,6 +35,7 @@ pub fn txn_of(body: Body) -> Txn {
         cxid: 1,
         zxid: 1,
         time: 1000,
+        rules: Dialect::Zk34,
     };
     Txn { header, body }
 }

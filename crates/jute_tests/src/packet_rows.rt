@@ -160,15 +160,17 @@ fn packets_are_read_and_written(rt: HostRuntime) -> Result<(), Fail> {
 fn kinds_have_their_codes(rt: HostRuntime) {
     let kinds = [
         (8, PacketKind::Inform),
+        (9, PacketKind::CommitAndActivate),
         (15, PacketKind::Snap),
         (16, PacketKind::ObserverInfo),
         (18, PacketKind::AckEpoch),
+        (19, PacketKind::InformAndActivate),
     ];
     for (code, kind) in kinds {
         assert!(rt; PacketKind::from_code(code) == Some(kind));
         assert_eq!(rt; kind.code(), code);
     }
-    for code in [0, 9, 19, -1] {
+    for code in [0, 20, -1] {
         assert!(rt; PacketKind::from_code(code).is_none());
     }
 }

@@ -4,8 +4,8 @@
 //! (`client_service`); `forwarding` knows what waits. When the leader's stream brings what they wait for, the client is
 //! answered, as specs/Answering defines.
 //!
-//! [`due_in_log`] says once whom an applied transaction answers, and how ([`Due`]), and [`answer_applied_txn`] does it. A
-//! createSession admits the connection that waits for the session: it gets the session and the answer to its connect,
+//! [`due_in_log`] says once whom an applied transaction answers, and how ([`Due`]), and [`answer_applied_txn`] does it.
+//! A createSession admits the connection that waits for the session: it gets the session and the answer to its connect,
 //! and then the frames are served that were held until then. A closeSession answers the closeSession that waits, and
 //! closes the connection of the session. Any other transaction answers the oldest write of the connection that has its
 //! session, if it was made of it. [`answer_sync`] answers the oldest sync that was forwarded. What came after the

@@ -5,18 +5,17 @@ use Rattle.std.specs.List.{AllByRecursion}
 use Rattle.std.specs.Ordering.{int_eq}
 use Rattle.values.specs.declared.fault.Fault.{Fault}
 use Rattle.values.specs.declared.fault.Fault.TheVariants.{OutOfOrder, CommitMismatch, CannotTruncate, EpochTooSmall}
-use Rattle.jute.specs.Format.{int, ◌>>=◌}
+use Rattle.jute.specs.Format.{int, long, ◌>>=◌}
 use Rattle.quorum_packet.specs.Feed.{CanBeWritten}
 use Rattle.quorum_packet.specs.declared.item.Item.{Item}
 use Rattle.quorum_packet.specs.declared.item.Item.TheVariants as item
 use Rattle.quorum_packet.specs.declared.packet.QuorumPacket.{QuorumPacket}
 use Rattle.snapshot_codec.specs.declared.part.ImagePart.{ImagePart}
 use Rattle.snapshot_codec.specs.declared.part.ImagePart.TheVariants as part
-use Rattle.txn_codec.specs.Spelling.{txn_format, value_of_whole}
 use Rattle.txn_codec.specs.declared.txn.Txn.{Txn}
 use Rattle.learner_sync.specs.Answers.{ack_epoch}
 use Rattle.learner_sync.specs.Learner.{Learner}
-use Rattle.learner_sync.specs.Learn.{LearnerStep, no_acts, single_act, at_phase, accept_epoch, leader_info, message_in_hello, txns_up_to, with_truncated_log, truncate_log, await_image, message_in_sync, zxid_floor, with_applied, apply_txn, learn_inform, learn_proposal, commit_of, message_in_replay, message_in_serving, load_part, load_to_drop, acts_to_drop, start_in, message_in_phase, part_in_phase, learn_item}
+use Rattle.learner_sync.specs.Learn.{LearnerStep, no_acts, single_act, at_phase, accept_epoch, leader_info, message_in_hello, txns_up_to, with_truncated_log, truncate_log, await_image, message_in_sync, zxid_floor, with_applied, apply_txn, carried_txn, learn_inform, learn_activation, learn_proposal, commit_of, message_in_replay, message_in_serving, load_part, load_to_drop, acts_to_drop, start_in, message_in_phase, part_in_phase, learn_item}
 use Rattle.learner_sync.specs.Messages.{message_of_packet}
 use Rattle.learner_sync.specs.Laws.{AccountsForLog, CanBeDone, is_of_image, ActsAccountForLog}
 use Rattle.learner_sync.specs.declared.act.Act.{Act}
@@ -42,14 +41,21 @@ apply-holds l ts t = by (int_lt (zxid_floor l.phase l.last_zxid) t.header.zxid)
     by false = tt
 
 inform-holds : (l : Learner) (bytes : List ℕ) → Holds l (learn_inform l bytes)
-inform-holds l bytes = by (value_of_whole txn_format bytes)
+inform-holds l bytes = by (carried_txn l bytes)
   where
     by : (r : Result Txn Fault) → Holds l (r >>= λ t. apply_txn l t)
     by (Ok t) = apply-holds l l.proposals t
     by (Err e) = tt
 
+activate-holds : (l : Learner) (bytes : List ℕ) → Holds l (learn_activation l bytes)
+activate-holds l bytes = by (long.read bytes)
+  where
+    by : (r : Result (ℤ × List ℕ) Fault) → Holds l (r >>= λ named. learn_inform l named.1)
+    by (Ok named) = inform-holds l named.1
+    by (Err e) = tt
+
 propose-holds : (l : Learner) (bytes : List ℕ) → Holds l (learn_proposal l bytes)
-propose-holds l bytes = by (value_of_whole txn_format bytes)
+propose-holds l bytes = by (carried_txn l bytes)
   where
     by : (r : Result Txn Fault) → Holds l (r >>= λ t. Ok (no_acts (record l { proposals = l.proposals ++ t ∷ [] })))
     by (Ok t) = (refl, refl, tt)
@@ -117,12 +123,14 @@ replay-holds : (l : Learner) (m : Message) → Holds l (message_in_replay l m)
 replay-holds l (message.Proposal bytes) = propose-holds l bytes
 replay-holds l (message.Commit zxid) = commit-holds l l.proposals zxid
 replay-holds l (message.Inform bytes) = inform-holds l bytes
+replay-holds l (message.InformAndActivate bytes) = activate-holds l bytes
 replay-holds l message.NewLeader = (refl, refl, (refl, (refl, tt)))
 replay-holds l message.UpToDate = (refl, refl, (refl, (refl, (refl, tt))))
 replay-holds l m = (refl, refl, tt)
 
 serve-holds : (l : Learner) (m : Message) → Holds l (message_in_serving l m)
 serve-holds l (message.Inform bytes) = inform-holds l bytes
+serve-holds l (message.InformAndActivate bytes) = activate-holds l bytes
 serve-holds l (message.Ping p) = (refl, refl, (refl, tt))
 serve-holds l message.Sync = (refl, refl, (refl, tt))
 serve-holds l m = (refl, refl, tt)
@@ -151,7 +159,7 @@ part-holds (phase.Image zxid) l p = load-holds p l zxid
 part-holds ph l p = pass-holds p l
 
 learn-holds : (l : Learner) (i : Item) → Holds l (learn_item l i)
-learn-holds l (item.Packet p) = message-holds l.phase l (message_of_packet p)
+learn-holds l (item.Packet p) = message-holds l.phase l (message_of_packet l.dialect p)
 learn-holds l (item.Part p) = part-holds l.phase l p
 
 -- ---- what is sent

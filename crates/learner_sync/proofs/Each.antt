@@ -5,17 +5,19 @@ use Rattle.std.specs.List.{AllByRecursion}
 use Rattle.std.specs.Ordering.{int_eq}
 use Rattle.values.specs.declared.fault.Fault.{Fault}
 use Rattle.values.specs.declared.fault.Fault.TheVariants.{OutOfOrder, CommitMismatch, CannotTruncate, EpochTooSmall}
-use Rattle.jute.specs.Format.{int, ◌>>=◌}
+use Rattle.settings.specs.Dialects.{reads_of}
+use Rattle.settings.specs.declared.dialect.Reads.{Reads}
+use Rattle.jute.specs.Format.{int, long, ◌>>=◌}
 use Rattle.quorum_packet.specs.declared.packet.QuorumPacket.{QuorumPacket}
 use Rattle.quorum_packet.specs.declared.kind.PacketKind.{PacketKind}
 use Rattle.quorum_packet.specs.declared.kind.PacketKind.TheVariants as kinds
 use Rattle.quorum_packet.specs.Kinds.{kind_of}
-use Rattle.txn_codec.specs.Spelling.{txn_format, value_of_whole}
+use Rattle.quorum_packet.specs.Packet.{carried_bytes}
 use Rattle.txn_codec.specs.declared.txn.Txn.{Txn}
 use Rattle.learner_sync.specs.Answers.{ack_epoch, epoch_ack}
 use Rattle.learner_sync.specs.Learner.{Learner}
-use Rattle.learner_sync.specs.Learn.{LearnerStep, no_acts, single_act, at_phase, accept_epoch, leader_info, message_in_hello, txns_up_to, with_truncated_log, truncate_log, await_image, message_in_sync, zxid_floor, with_applied, apply_txn, learn_inform, learn_proposal, commit_of, message_in_replay, message_in_serving, message_in_phase}
-use Rattle.learner_sync.specs.Messages.{message_of_kind, message_of_packet}
+use Rattle.learner_sync.specs.Learn.{LearnerStep, no_acts, single_act, at_phase, accept_epoch, leader_info, message_in_hello, txns_up_to, with_truncated_log, truncate_log, await_image, message_in_sync, zxid_floor, with_applied, apply_txn, carried_txn, learn_inform, learn_activation, learn_proposal, commit_of, message_in_replay, message_in_serving, message_in_phase}
+use Rattle.learner_sync.specs.Messages.{message_if, message_of_kind, message_of_packet}
 use Rattle.learner_sync.specs.declared.act.Act.{Act}
 use Rattle.learner_sync.specs.declared.act.Act.TheVariants as act
 use Rattle.learner_sync.specs.declared.message.Message.{Message}
@@ -41,14 +43,21 @@ module _ (P : Act → Type 0) (applies : P act.Apply) (epochs : P act.Epochs) (s
       by false = tt
 
   inform-each : (l : Learner) (bytes : List ℕ) → Each (learn_inform l bytes)
-  inform-each l bytes = by (value_of_whole txn_format bytes)
+  inform-each l bytes = by (carried_txn l bytes)
     where
       by : (r : Result Txn Fault) → Each (r >>= λ t. apply_txn l t)
       by (Ok t) = apply-each l t
       by (Err e) = tt
 
+  activate-each : (l : Learner) (bytes : List ℕ) → Each (learn_activation l bytes)
+  activate-each l bytes = by (long.read bytes)
+    where
+      by : (r : Result (ℤ × List ℕ) Fault) → Each (r >>= λ named. learn_inform l named.1)
+      by (Ok named) = inform-each l named.1
+      by (Err e) = tt
+
   propose-each : (l : Learner) (bytes : List ℕ) → Each (learn_proposal l bytes)
-  propose-each l bytes = by (value_of_whole txn_format bytes)
+  propose-each l bytes = by (carried_txn l bytes)
     where
       by : (r : Result Txn Fault) → Each (r >>= λ t. Ok (no_acts (record l { proposals = l.proposals ++ t ∷ [] })))
       by (Ok t) = tt
@@ -116,6 +125,7 @@ module _ (P : Act → Type 0) (applies : P act.Apply) (epochs : P act.Epochs) (s
   replay-each l (message.Proposal bytes) = propose-each l bytes
   replay-each l (message.Commit zxid) = commit-each l l.proposals zxid
   replay-each l (message.Inform bytes) = inform-each l bytes
+  replay-each l (message.InformAndActivate bytes) = activate-each l bytes
   replay-each l message.NewLeader = (epochs, (acknowledges l, tt))
   replay-each l message.UpToDate = (epochs, (acknowledges l, (serves, tt)))
   replay-each l m = tt
@@ -129,6 +139,7 @@ module _ (P : Act → Type 0) (applies : P act.Apply) (epochs : P act.Epochs) (s
   serve-each l (message.Ping p) ping = (ping, tt)
   serve-each l message.Sync ping = (settles, tt)
   serve-each l (message.Inform bytes) ping = inform-each l bytes
+  serve-each l (message.InformAndActivate bytes) ping = activate-each l bytes
   serve-each l m ping = tt
 
   message-each : (ph : Phase) (l : Learner) (m : Message) → Answered m → Each (message_in_phase ph l m)
@@ -140,10 +151,20 @@ module _ (P : Act → Type 0) (applies : P act.Apply) (epochs : P act.Epochs) (s
   message-each phase.Replay l m ping = replay-each l m
   message-each phase.Serving l m ping = serve-each l m ping
 
-  answered : (k : Option PacketKind) (p : QuorumPacket) → P (act.AnswerPing p) → Answered (message_of_kind k p)
-  answered (Some kinds.Ping) p ping = ping
-  answered k p ping = tt
+  answered-if : (b : Bool) (m : Message) → Answered m → Answered (message_if b m)
+  answered-if true m asks = asks
+  answered-if false m asks = tt
+
+  answered : (reads : Reads) (k : Option PacketKind) (p : QuorumPacket) → P (act.AnswerPing p)
+      → Answered (message_of_kind reads k p)
+  answered reads (Some kinds.Ping) p ping = ping
+  answered reads (Some kinds.CommitAndActivate) p ping =
+      answered-if reads.extended_types (message.Commit p.zxid) tt
+  answered reads (Some kinds.InformAndActivate) p ping =
+      answered-if reads.extended_types (message.InformAndActivate (carried_bytes p.bytes)) tt
+  answered reads k p ping = tt
 
   pub packet-each : (l : Learner) (p : QuorumPacket) → P (act.AnswerPing p)
-      → Each (message_in_phase l.phase l (message_of_packet p))
-  packet-each l p ping = message-each l.phase l (message_of_packet p) (answered (kind_of p.kind) p ping)
+      → Each (message_in_phase l.phase l (message_of_packet l.dialect p))
+  packet-each l p ping =
+      message-each l.phase l (message_of_packet l.dialect p) (answered (reads_of l.dialect) (kind_of p.kind) p ping)

@@ -4,16 +4,15 @@ use Rattle.std.specs.Prelude.{pos, negsuc}
 use Rattle.std.specs.Ordering.{int_eq}
 use Rattle.values.specs.declared.fault.Fault.{Fault}
 use Rattle.values.specs.declared.fault.Fault.TheVariants.{OutOfOrder, CommitMismatch, CannotTruncate, EpochTooSmall}
-use Rattle.jute.specs.Format.{int, ◌>>=◌}
+use Rattle.jute.specs.Format.{int, long, ◌>>=◌}
 use Rattle.quorum_packet.specs.declared.item.Item.{Item}
 use Rattle.quorum_packet.specs.declared.item.Item.TheVariants as item
 use Rattle.snapshot_codec.specs.declared.part.ImagePart.{ImagePart}
 use Rattle.snapshot_codec.specs.declared.part.ImagePart.TheVariants as part
-use Rattle.txn_codec.specs.Spelling.{txn_format, value_of_whole}
 use Rattle.txn_codec.specs.declared.txn.Txn.{Txn}
 use Rattle.learner_sync.specs.Answers.{ack_epoch}
 use Rattle.learner_sync.specs.Learner.{Learner}
-use Rattle.learner_sync.specs.Learn.{LearnerStep, no_acts, single_act, at_phase, start_in, accept_epoch, leader_info, message_in_hello, txns_up_to, with_truncated_log, truncate_log, await_image, message_in_sync, zxid_floor, with_applied, apply_txn, learn_inform, learn_proposal, commit_of, message_in_replay, message_in_serving, load_part, message_in_phase, part_in_phase, learn_item, checkpoint_in}
+use Rattle.learner_sync.specs.Learn.{LearnerStep, no_acts, single_act, at_phase, start_in, accept_epoch, leader_info, message_in_hello, txns_up_to, with_truncated_log, truncate_log, await_image, message_in_sync, zxid_floor, with_applied, apply_txn, carried_txn, learn_inform, learn_activation, learn_proposal, commit_of, message_in_replay, message_in_serving, load_part, message_in_phase, part_in_phase, learn_item, checkpoint_in}
 use Rattle.learner_sync.specs.Messages.{message_of_packet}
 use Rattle.learner_sync.specs.Laws.{EpochsDontFall}
 use Rattle.learner_sync.specs.declared.act.Act.TheVariants as act
@@ -36,14 +35,21 @@ apply-holds l t = by (int_lt (zxid_floor l.phase l.last_zxid) t.header.zxid)
     by false = tt
 
 inform-holds : (l : Learner) (bytes : List ℕ) → Holds l.accepted_epoch (learn_inform l bytes)
-inform-holds l bytes = by (value_of_whole txn_format bytes)
+inform-holds l bytes = by (carried_txn l bytes)
   where
     by : (r : Result Txn Fault) → Holds l.accepted_epoch (r >>= λ t. apply_txn l t)
     by (Ok t) = apply-holds l t
     by (Err e) = tt
 
+activate-holds : (l : Learner) (bytes : List ℕ) → Holds l.accepted_epoch (learn_activation l bytes)
+activate-holds l bytes = by (long.read bytes)
+  where
+    by : (r : Result (ℤ × List ℕ) Fault) → Holds l.accepted_epoch (r >>= λ named. learn_inform l named.1)
+    by (Ok named) = inform-holds l named.1
+    by (Err e) = tt
+
 propose-holds : (l : Learner) (bytes : List ℕ) → Holds l.accepted_epoch (learn_proposal l bytes)
-propose-holds l bytes = by (value_of_whole txn_format bytes)
+propose-holds l bytes = by (carried_txn l bytes)
   where
     by : (r : Result Txn Fault) → Holds l.accepted_epoch (r >>= λ t. Ok (no_acts (record l {
       proposals =
@@ -113,10 +119,12 @@ replay-holds : (l : Learner) (m : Message) → Holds l.accepted_epoch (message_i
 replay-holds l (message.Proposal bytes) = propose-holds l bytes
 replay-holds l (message.Commit zxid) = commit-holds l l.proposals zxid
 replay-holds l (message.Inform bytes) = inform-holds l bytes
+replay-holds l (message.InformAndActivate bytes) = activate-holds l bytes
 replay-holds l m = le_refl l.accepted_epoch
 
 serve-holds : (l : Learner) (m : Message) → Holds l.accepted_epoch (message_in_serving l m)
 serve-holds l (message.Inform bytes) = inform-holds l bytes
+serve-holds l (message.InformAndActivate bytes) = activate-holds l bytes
 serve-holds l m = le_refl l.accepted_epoch
 
 load-holds : (p : ImagePart) (l : Learner) (zxid : ℤ) → l.accepted_epoch ≤ℤ (load_part p l zxid).after.accepted_epoch
@@ -139,7 +147,7 @@ part-holds (phase.Image zxid) l p = load-holds p l zxid
 part-holds ph l p = le_refl l.accepted_epoch
 
 learn-holds : (l : Learner) (i : Item) → Holds l.accepted_epoch (learn_item l i)
-learn-holds l (item.Packet p) = message-holds l.phase l (message_of_packet p)
+learn-holds l (item.Packet p) = message-holds l.phase l (message_of_packet l.dialect p)
 learn-holds l (item.Part p) = part-holds l.phase l p
 
 start-holds : (ph : Phase) (l : Learner) (server_id : ℤ)

@@ -4,18 +4,18 @@ use Rattle.std.specs.Prelude.{pos, negsuc}
 use Rattle.std.specs.Int.{int_max}
 use Rattle.std.specs.Ordering.{int_eq}
 use Rattle.settings.specs.Settings.{EpochPair}
+use Rattle.settings.specs.declared.dialect.Dialect.{Dialect}
 use Rattle.values.specs.declared.fault.Fault.{Fault}
 use Rattle.values.specs.declared.fault.Fault.TheVariants.{OutOfOrder, CommitMismatch, CannotTruncate, EpochTooSmall}
-use Rattle.jute.specs.Format.{int, ◌>>=◌}
+use Rattle.jute.specs.Format.{int, long, ◌>>=◌}
 use Rattle.quorum_packet.specs.declared.item.Item.{Item}
 use Rattle.quorum_packet.specs.declared.item.Item.TheVariants as item
 use Rattle.snapshot_codec.specs.declared.part.ImagePart.{ImagePart}
 use Rattle.snapshot_codec.specs.declared.part.ImagePart.TheVariants as part
-use Rattle.txn_codec.specs.Spelling.{txn_format, value_of_whole}
 use Rattle.txn_codec.specs.declared.txn.Txn.{Txn}
 use Rattle.learner_sync.specs.Answers.{ack_epoch}
 use Rattle.learner_sync.specs.Learner.{Learner, new_learner}
-use Rattle.learner_sync.specs.Learn.{LearnerStep, no_acts, single_act, at_phase, start_in, accept_epoch, leader_info, message_in_hello, txns_up_to, zxid_after, with_truncated_log, truncate_log, await_image, message_in_sync, zxid_floor, phase_after_zxid, with_applied, apply_txn, learn_inform, learn_proposal, commit_of, message_in_replay, message_in_serving, load_part, message_in_phase, part_in_phase, learn_item, checkpoint_in}
+use Rattle.learner_sync.specs.Learn.{LearnerStep, no_acts, single_act, at_phase, start_in, accept_epoch, leader_info, message_in_hello, txns_up_to, zxid_after, with_truncated_log, truncate_log, await_image, message_in_sync, zxid_floor, phase_after_zxid, with_applied, apply_txn, carried_txn, learn_inform, learn_activation, learn_proposal, commit_of, message_in_replay, message_in_serving, load_part, message_in_phase, part_in_phase, learn_item, checkpoint_in}
 use Rattle.learner_sync.specs.Messages.{message_of_packet}
 use Rattle.learner_sync.specs.Laws.{PhaseFitsLog, FollowsItsLog, LogsAreFollowed, TruncatesToFronts}
 use Rattle.learner_sync.specs.declared.act.Act.TheVariants as act
@@ -72,14 +72,21 @@ apply-follows l t f = by (int_lt (zxid_floor l.phase l.last_zxid) t.header.zxid)
     by false e = tt
 
 inform-follows : (l : Learner) (bytes : List ℕ) → FollowsItsLog l → Follows (learn_inform l bytes)
-inform-follows l bytes f = by (value_of_whole txn_format bytes)
+inform-follows l bytes f = by (carried_txn l bytes)
   where
     by : (r : Result Txn Fault) → Follows (r >>= λ t. apply_txn l t)
     by (Ok t) = apply-follows l t f
     by (Err e) = tt
 
+activate-follows : (l : Learner) (bytes : List ℕ) → FollowsItsLog l → Follows (learn_activation l bytes)
+activate-follows l bytes f = by (long.read bytes)
+  where
+    by : (r : Result (ℤ × List ℕ) Fault) → Follows (r >>= λ named. learn_inform l named.1)
+    by (Ok named) = inform-follows l named.1 f
+    by (Err e) = tt
+
 propose-follows : (l : Learner) (bytes : List ℕ) → FollowsItsLog l → Follows (learn_proposal l bytes)
-propose-follows l bytes f = by (value_of_whole txn_format bytes)
+propose-follows l bytes f = by (carried_txn l bytes)
   where
     by : (r : Result Txn Fault) → Follows (r >>= λ t. Ok (no_acts (record l { proposals = l.proposals ++ t ∷ [] })))
     by (Ok t) = record { rising = f.rising; last = f.last; based = f.based; stands = f.stands }
@@ -165,6 +172,7 @@ replay-follows : (l : Learner) (m : Message) → FollowsItsLog l → Follows (me
 replay-follows l (message.Proposal bytes) f = propose-follows l bytes f
 replay-follows l (message.Commit zxid) f = commit-follows l l.proposals zxid f
 replay-follows l (message.Inform bytes) f = inform-follows l bytes f
+replay-follows l (message.InformAndActivate bytes) f = activate-follows l bytes f
 replay-follows l message.NewLeader f = record {
   rising = f.rising;
   last = f.last;
@@ -178,6 +186,7 @@ replay-follows l m f = f
 serve-follows : (l : Learner) (m : Message) → FollowsItsLog l → Follows (message_in_serving l m)
 serve-follows l (message.Ping p) f = f
 serve-follows l (message.Inform bytes) f = inform-follows l bytes f
+serve-follows l (message.InformAndActivate bytes) f = activate-follows l bytes f
 serve-follows l m f = f
 
 -- ---- images
@@ -215,7 +224,7 @@ part-follows phase.Replay l p s f = f
 part-follows phase.Serving l p s f = f
 
 learn-follows : (l : Learner) (i : Item) → FollowsItsLog l → Follows (learn_item l i)
-learn-follows l (item.Packet p) f = message-follows l.phase l (message_of_packet p) f
+learn-follows l (item.Packet p) f = message-follows l.phase l (message_of_packet l.dialect p) f
 learn-follows l (item.Part p) f = part-follows l.phase l p f.stands f
 
 start-follows : (ph : Phase) (l : Learner) (server_id : ℤ) → FollowsItsLog l
@@ -233,8 +242,8 @@ check-follows phase.Serving l e f =
     record { rising = tt; last = sym (max_left l.last_zxid (pos 0) le); based = le; stands = stands }
 check-follows ph l e f = f
 
-made-follows : (epochs : EpochPair) → FollowsItsLog (new_learner epochs)
-made-follows epochs = record { rising = tt; last = refl; based = zero_le; stands = tt }
+made-follows : (dialect : Dialect) (epochs : EpochPair) → FollowsItsLog (new_learner dialect epochs)
+made-follows dialect epochs = record { rising = tt; last = refl; based = zero_le; stands = tt }
 
 learns-follow : (l : Learner) (i : Item) (x : LearnerStep) → FollowsItsLog l → learn_item l i ≡ Ok x
     → FollowsItsLog x.after
@@ -243,7 +252,7 @@ learns-follow l i x f e = subst Follows e (learn-follows l i f)
 pub logs_are_followed : LogsAreFollowed
 logs_are_followed = record {
   made = made-follows;
-  primed = record { rising = tt; last = refl; based = zero_le; stands = tt };
+  primed = λ dialect. record { rising = tt; last = refl; based = zero_le; stands = tt };
   starts = λ l server_id. start-follows l.phase l server_id;
   learns = learns-follow;
   ends = λ l f. record { rising = f.rising; last = f.last; based = f.based; stands = tt };

@@ -3,13 +3,12 @@ use Rattle.std.proofs.Common.{◌≡◌, ℕ, ℤ, List, [], ◌∷◌, ◌++◌
 use Rattle.std.specs.Int.{int_max}
 use Rattle.values.specs.declared.fault.Fault.{Fault}
 use Rattle.values.specs.declared.fault.Fault.TheVariants.{OutOfOrder}
-use Rattle.jute.specs.Format.{◌>>=◌}
+use Rattle.jute.specs.Format.{long, ◌>>=◌}
 use Rattle.quorum_packet.specs.declared.item.Item.{Item}
 use Rattle.quorum_packet.specs.declared.item.Item.TheVariants as item
-use Rattle.txn_codec.specs.Spelling.{txn_format, value_of_whole}
 use Rattle.txn_codec.specs.declared.txn.Txn.{Txn}
 use Rattle.learner_sync.specs.Learner.{Learner}
-use Rattle.learner_sync.specs.Learn.{LearnerStep, single_act, zxid_floor, phase_after_zxid, with_applied, apply_txn, learn_inform, message_in_serving, message_in_phase, part_in_phase, learn_item}
+use Rattle.learner_sync.specs.Learn.{LearnerStep, single_act, zxid_floor, phase_after_zxid, with_applied, apply_txn, carried_txn, learn_inform, learn_activation, message_in_serving, message_in_phase, part_in_phase, learn_item}
 use Rattle.learner_sync.specs.Messages.{message_of_packet}
 use Rattle.learner_sync.specs.Laws.{HasOneMoreTxn, ServingRises}
 use Rattle.learner_sync.specs.declared.act.Act.TheVariants as act
@@ -50,19 +49,27 @@ apply-goes l t e = by (int_lt (zxid_floor l.phase l.last_zxid) t.header.zxid) re
     by false lt = tt
 
 inform-goes : (l : Learner) (bytes : List ℕ) → l.phase ≡ phase.Serving → Goes l (learn_inform l bytes)
-inform-goes l bytes e = by (value_of_whole txn_format bytes)
+inform-goes l bytes e = by (carried_txn l bytes)
   where
     by : (r : Result Txn Fault) → Goes l (r >>= λ t. apply_txn l t)
     by (Ok t) = apply-goes l t e
     by (Err f) = tt
 
+activate-goes : (l : Learner) (bytes : List ℕ) → l.phase ≡ phase.Serving → Goes l (learn_activation l bytes)
+activate-goes l bytes e = by (long.read bytes)
+  where
+    by : (r : Result (ℤ × List ℕ) Fault) → Goes l (r >>= λ named. learn_inform l named.1)
+    by (Ok named) = inform-goes l named.1 e
+    by (Err f) = tt
+
 serve-goes : (l : Learner) (m : Message) → l.phase ≡ phase.Serving → Goes l (message_in_serving l m)
 serve-goes l (message.Inform bytes) e = inform-goes l bytes e
+serve-goes l (message.InformAndActivate bytes) e = activate-goes l bytes e
 serve-goes l m e = inl refl
 
 learn-goes : (l : Learner) (i : Item) → l.phase ≡ phase.Serving → Goes l (learn_item l i)
 learn-goes l (item.Packet p) e =
-    let m = message_of_packet p in
+    let m = message_of_packet l.dialect p in
     subst (λ ph. Goes l (message_in_phase ph l m)) (sym e) (serve-goes l m e)
 learn-goes l (item.Part p) e =
     let left : Goes l (part_in_phase phase.Serving l p) = inl refl in

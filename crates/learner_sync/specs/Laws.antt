@@ -3,6 +3,7 @@ use Rattle.std.specs.Prelude.{◌≡◌, ℕ, ◌<◌, ◌^◌, ℤ, pos, Bool, 
 use Rattle.std.specs.Int.{int_max}
 use Rattle.std.specs.List.{AllByRecursion}
 use Rattle.settings.specs.Settings.{EpochPair}
+use Rattle.settings.specs.declared.dialect.Dialect.{Dialect}
 use Rattle.quorum_packet.specs.Feed.{CanBeWritten}
 use Rattle.quorum_packet.specs.Packet.{packet_format}
 use Rattle.quorum_packet.specs.declared.item.Item.{Item}
@@ -39,8 +40,8 @@ pub record FollowsItsLog (l : Learner) : Type 0 where
   pub stands : PhaseFitsLog l.phase l.log
 
 pub record LogsAreFollowed : Type 0 where
-  pub made : (epochs : EpochPair) → FollowsItsLog (new_learner epochs)
-  pub primed : FollowsItsLog primed_learner
+  pub made : (dialect : Dialect) (epochs : EpochPair) → FollowsItsLog (new_learner dialect epochs)
+  pub primed : (dialect : Dialect) → FollowsItsLog (primed_learner dialect)
   pub starts : (l : Learner) (server_id : ℤ) → FollowsItsLog l → FollowsItsLog (start_following l server_id).after
   pub learns : (l : Learner) (i : Item) (x : LearnerStep) → FollowsItsLog l → learn_item l i ≡ Ok x
       → FollowsItsLog x.after

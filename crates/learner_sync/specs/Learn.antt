@@ -7,13 +7,13 @@ use Rattle.std.specs.Ordering.{int_eq}
 use Rattle.values.specs.declared.fault.Fault.{Fault}
 use Rattle.values.specs.declared.fault.Fault.TheVariants.{OutOfOrder, CommitMismatch, CannotTruncate, EpochTooSmall, UnexpectedPacket}
 use Rattle.values.specs.declared.fault.ReadError.{ReadError}
-use Rattle.jute.specs.Format.{int, ◌>>=◌}
+use Rattle.jute.specs.Format.{int, long, ◌>>=◌}
 use Rattle.jute.specs.Reads.{IsFailureOf}
 use Rattle.quorum_packet.specs.declared.item.Item.{Item}
 use Rattle.quorum_packet.specs.declared.item.Item.TheVariants as item
 use Rattle.snapshot_codec.specs.declared.part.ImagePart.{ImagePart}
 use Rattle.snapshot_codec.specs.declared.part.ImagePart.TheVariants as part
-use Rattle.txn_codec.specs.Spelling.{txn_format, value_of_whole}
+use Rattle.txn_codec.specs.Spelling.{txn_in, value_of_whole}
 use Rattle.txn_codec.specs.declared.txn.Txn.{Txn}
 use Rattle.learner_sync.specs.Answers.{observer_info, ack_epoch, epoch_ack}
 use Rattle.learner_sync.specs.Learner.{Learner}
@@ -136,12 +136,21 @@ apply_txn l t =
     if int_lt (zxid_floor l.phase l.last_zxid) t.header.zxid then Ok (single_act act.Apply (with_applied l t))
     else Err OutOfOrder
 
+-- The transaction that a packet carries, in the leader's dialect.
+abbrev pub carried_txn : Learner → List ℕ → Result Txn Fault
+carried_txn l bytes = value_of_whole (txn_in l.dialect) bytes
+
 -- A transaction that is proposed and committed in one packet; open proposals stay.
 abbrev pub learn_inform : Learner → List ℕ → Result LearnerStep Fault
-learn_inform l bytes = value_of_whole txn_format bytes >>= λ t. apply_txn l t
+learn_inform l bytes = carried_txn l bytes >>= λ t. apply_txn l t
+
+-- A change of the configuration that is proposed and committed in one packet. In front of the transaction the data
+-- names a server that may lead after it; an observer follows whoever leads.
+abbrev pub learn_activation : Learner → List ℕ → Result LearnerStep Fault
+learn_activation l bytes = long.read bytes >>= λ named. learn_inform l named.1
 
 abbrev pub learn_proposal : Learner → List ℕ → Result LearnerStep Fault
-learn_proposal l bytes = value_of_whole txn_format bytes >>= λ t. Ok
+learn_proposal l bytes = carried_txn l bytes >>= λ t. Ok
     (no_acts (record l { proposals = l.proposals ++ t ∷ [] }))
 
 -- The oldest proposal is applied; it has to have this zxid.
@@ -172,6 +181,7 @@ abbrev pub message_in_replay : Learner → Message → Result LearnerStep Fault
 message_in_replay l (message.Proposal bytes) = learn_proposal l bytes
 message_in_replay l (message.Commit zxid) = learn_commit l zxid
 message_in_replay l (message.Inform bytes) = learn_inform l bytes
+message_in_replay l (message.InformAndActivate bytes) = learn_activation l bytes
 message_in_replay l message.NewLeader = Ok (new_leader l)
 message_in_replay l message.UpToDate = Ok (up_to_date l)
 message_in_replay l m = Ok (no_acts l)
@@ -182,6 +192,7 @@ abbrev pub message_in_serving : Learner → Message → Result LearnerStep Fault
 message_in_serving l (message.Ping p) = Ok (single_act (act.AnswerPing p) l)
 message_in_serving l message.Sync = Ok (single_act act.SettleSync l)
 message_in_serving l (message.Inform bytes) = learn_inform l bytes
+message_in_serving l (message.InformAndActivate bytes) = learn_activation l bytes
 message_in_serving l m = Ok (no_acts l)
 
 -- ---- images
@@ -231,7 +242,7 @@ part_in_phase phase.Replay l p = Ok (load_to_drop p l)
 part_in_phase phase.Serving l p = Ok (load_to_drop p l)
 
 abbrev pub learn_item : Learner → Item → Result LearnerStep Fault
-learn_item l (item.Packet p) = message_in_phase l.phase l (message_of_packet p)
+learn_item l (item.Packet p) = message_in_phase l.phase l (message_of_packet l.dialect p)
 learn_item l (item.Part p) = part_in_phase l.phase l p
 
 -- ---- a checkpoint: while clients are served, the state is the new base

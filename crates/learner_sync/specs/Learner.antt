@@ -2,11 +2,14 @@
 use Rattle.std.specs.Prelude.{refl, ℤ, pos, List, [], Bool, true}
 use Rattle.std.specs.Coded.{Coded, code_by, coded×, coded_ℤ, coded_bool, coded_list}
 use Rattle.settings.specs.Settings.{EpochPair}
+use Rattle.settings.specs.declared.dialect.Dialect.{Dialect}
 use Rattle.txn_codec.specs.declared.txn.Txn.{Txn}
 use Rattle.learner_sync.specs.declared.phase.Phase.{Phase}
 use Rattle.learner_sync.specs.declared.phase.Phase.TheVariants as phase
 
 pub record Learner : Type 0 where
+  -- The dialect in which leaders speak. Nothing changes it.
+  pub dialect : Dialect
   -- The phase between the learner and its leader.
   pub phase : Phase
   -- The greatest epoch of a leader that was accepted; from its LEADERINFO on, the epoch of the present leader.
@@ -25,8 +28,9 @@ pub record Learner : Type 0 where
   pub is_complete : Bool
 
 -- Before any leader: the base is the tree before any transaction.
-abbrev pub new_learner : EpochPair → Learner
-new_learner epochs = record {
+abbrev pub new_learner : Dialect → EpochPair → Learner
+new_learner dialect epochs = record {
+  dialect = dialect;
   phase = phase.Down;
   accepted_epoch = epochs.accepted;
   current_epoch = epochs.current;
@@ -38,41 +42,45 @@ new_learner epochs = record {
 }
 
 -- A learner that serves in epoch 1.
-abbrev pub primed_learner : Learner
-primed_learner =
-    record (new_learner (record { accepted = pos 1; current = pos 1 })) { phase = phase.Serving }
+abbrev pub primed_learner : Dialect → Learner
+primed_learner dialect =
+    record (new_learner dialect (record { accepted = pos 1; current = pos 1 })) { phase = phase.Serving }
 
 -- ---- code
 
-abbrev pub learner_code : Coded Phase → Coded Txn → Coded Learner
-learner_code phase txn =
-    code_by (Phase × (ℤ × (ℤ × (ℤ × (ℤ × (List Txn × (List Txn × Bool)))))))
-    (coded× phase (coded× coded_ℤ (coded× coded_ℤ (coded× coded_ℤ (coded× coded_ℤ
-    (coded× (coded_list txn) (coded× (coded_list txn) coded_bool)))))))
+abbrev pub learner_code : Coded Dialect → Coded Phase → Coded Txn → Coded Learner
+learner_code dialect phase txn =
+    code_by (Dialect × (Phase × (ℤ × (ℤ × (ℤ × (ℤ × (List Txn × (List Txn × Bool))))))))
+    (coded× dialect (coded× phase (coded× coded_ℤ (coded× coded_ℤ (coded× coded_ℤ (coded× coded_ℤ
+    (coded× (coded_list txn) (coded× (coded_list txn) coded_bool))))))))
     (λ l. (
-      l.phase,
+      l.dialect,
       (
-        l.accepted_epoch,
+        l.phase,
         (
-          l.current_epoch,
+          l.accepted_epoch,
           (
-            l.last_zxid,
+            l.current_epoch,
             (
-              l.base_zxid,
-              (l.log, (l.proposals, l.is_complete)),
+              l.last_zxid,
+              (
+                l.base_zxid,
+                (l.log, (l.proposals, l.is_complete)),
+              ),
             ),
           ),
         ),
       ),
     ))
     (λ p. record {
-      phase = p.0;
-      accepted_epoch = p.1.0;
-      current_epoch = p.1.1.0;
-      last_zxid = p.1.1.1.0;
-      base_zxid = p.1.1.1.1.0;
-      log = p.1.1.1.1.1.0;
-      proposals = p.1.1.1.1.1.1.0;
-      is_complete = p.1.1.1.1.1.1.1;
+      dialect = p.0;
+      phase = p.1.0;
+      accepted_epoch = p.1.1.0;
+      current_epoch = p.1.1.1.0;
+      last_zxid = p.1.1.1.1.0;
+      base_zxid = p.1.1.1.1.1.0;
+      log = p.1.1.1.1.1.1.0;
+      proposals = p.1.1.1.1.1.1.1.0;
+      is_complete = p.1.1.1.1.1.1.1.1;
     })
     (λ _. refl)

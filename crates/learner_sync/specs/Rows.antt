@@ -2,6 +2,8 @@
 use Rattle.std.specs.Prelude.{◌≡◌, ℕ, ◌+◌, ℤ, pos, negsuc, false, List, [], ◌∷◌, Option, Some, None, Ok, Err, codes}
 use Rattle.values.specs.Hex.{hex_bytes}
 use Rattle.values.specs.declared.fault.Fault.TheVariants.{Short, OutOfOrder, CommitMismatch, CannotTruncate, EpochTooSmall, UnexpectedPacket}
+use Rattle.settings.specs.declared.dialect.Dialect.{Dialect}
+use Rattle.settings.specs.declared.dialect.Dialect.TheVariants.{Zk34, Zk38}
 use Rattle.quorum_packet.specs.declared.item.Item.{Item}
 use Rattle.quorum_packet.specs.declared.item.Item.TheVariants as item
 use Rattle.quorum_packet.specs.declared.packet.QuorumPacket.{QuorumPacket}
@@ -25,8 +27,8 @@ zxid_at counter = pos (0x100000000 + counter)
 
 abbrev pub txn_at : ℕ → Txn
 txn_at counter = record {
-  header = record { client_id = pos 7; cxid = pos 1; zxid = zxid_at counter; time = pos 1000 };
-  body = bodies.CloseSession;
+  header = record { client_id = pos 7; cxid = pos 1; zxid = zxid_at counter; time = pos 1000; rules = Zk34 };
+  body = bodies.CloseSession [];
 }
 
 abbrev pub sent_packet : ℤ → ℤ → Option (List ℕ) → QuorumPacket
@@ -35,9 +37,10 @@ sent_packet kind zxid bytes = record { kind = kind; zxid = zxid; bytes = bytes; 
 abbrev pub packet_item : PacketKind → ℤ → Option (List ℕ) → Item
 packet_item kind zxid bytes = item.Packet (sent_packet (code_of kind) zxid bytes)
 
--- A learner that was brought through epoch 1.
+-- A learner of ZooKeeper 3.4 that was brought through epoch 1.
 abbrev pub learner_in_phase : Phase → ℤ → ℤ → List Txn → List Txn → Learner
 learner_in_phase phase last base log proposals = record {
+  dialect = Zk34;
   phase = phase;
   accepted_epoch = pos 1;
   current_epoch = pos 1;
@@ -65,15 +68,18 @@ learner_on_image = learner_in_phase (phase.ReplayOnImage (pos 0)) (zxid_at 5) (z
 abbrev pub learner_with_proposals : Learner
 learner_with_proposals = learner_in_phase phase.Replay (pos 0) (pos 0) [] (txn_at 1 ∷ txn_at 2 ∷ [])
 
+abbrev pub in_dialect : Dialect → Learner → Learner
+in_dialect dialect l = record l { dialect = dialect }
+
 -- A client creates /a with "hi" and no ACL: its frame, without the length.
 abbrev pub create_frame : List ℕ
 create_frame = hex_bytes (codes "00000004 00000001 00000002 2f61 00000002 6869 ffffffff 00000000")
 
 pub record WorkedRows : Type 0 where
   pub introduced :
-      start_following (new_learner (record { accepted = pos 0; current = pos 0 })) (pos 3)
+      start_following (new_learner Zk34 (record { accepted = pos 0; current = pos 0 })) (pos 3)
       ≡ single_act (act.Send (sent_packet (pos 16) (pos 0) (Some (hex_bytes (codes "0000000000000003 00010000")))))
-      (record (new_learner (record { accepted = pos 0; current = pos 0 })) { phase = phase.Hello })
+      (record (new_learner Zk34 (record { accepted = pos 0; current = pos 0 })) { phase = phase.Hello })
   -- The epoch was accepted before.
   pub same_epoch :
       learn_item learner_in_hello (packet_item kinds.LeaderInfo (zxid_at 0) version_bytes)
@@ -120,6 +126,22 @@ pub record WorkedRows : Type 0 where
   pub oldest_commit :
       learn_item learner_with_proposals (packet_item kinds.Commit (zxid_at 1) None)
       ≡ Ok (single_act act.Apply (learner_in_phase phase.Replay (zxid_at 1) (pos 0) (txn_at 1 ∷ []) (txn_at 2 ∷ [])))
+  -- A change of the configuration is committed: in the later dialect, as any proposal.
+  pub configuration_commit :
+      learn_item (in_dialect Zk38 learner_with_proposals) (packet_item kinds.CommitAndActivate (zxid_at 1) None)
+      ≡ Ok (single_act act.Apply
+      (in_dialect Zk38 (learner_in_phase phase.Replay (zxid_at 1) (pos 0) (txn_at 1 ∷ []) (txn_at 2 ∷ []))))
+  pub configuration_passed :
+      learn_item learner_with_proposals (packet_item kinds.CommitAndActivate (zxid_at 1) None)
+      ≡ Ok (no_acts learner_with_proposals)
+  -- The data names no server: it has seven bytes.
+  pub no_server_named :
+      learn_item (in_dialect Zk38 learner_with_proposals)
+      (packet_item kinds.InformAndActivate (zxid_at 1) (Some (hex_bytes (codes "00000000000000")))) ≡ Err Short
+  pub activation_passed :
+      learn_item learner_with_proposals
+      (packet_item kinds.InformAndActivate (zxid_at 1) (Some (hex_bytes (codes "00000000000000"))))
+      ≡ Ok (no_acts learner_with_proposals)
   pub none_proposed : learn_item (record learner_with_proposals { proposals = [] })
       (packet_item kinds.Commit (zxid_at 2) None) ≡ Err CommitMismatch
   pub up_to_date :

@@ -9,16 +9,18 @@ ghost use Rattle.learner_sync.specs.Learn.{start_following, stop_following, chec
 use crate::act::Act;
 use crate::answers::{act_list, empty_act_list};
 use crate::phase::Phase;
-use settings::{Epochs, ServerId};
+use settings::{Dialect, Epochs, ServerId};
 use std::alloc::Global;
 use std::collections::VecDeque;
 use std::marker::Model;
 use txn_codec::Txn;
 use values::{Listed, NoMemory};
 
-/// How far a leader was followed: phase, epochs, last zxid, log and proposals. A learner has no tree.
+/// How far a leader was followed: phase, epochs, last zxid, log and proposals; and the dialect in which leaders speak,
+/// which stays. A learner has no tree.
 #[derive(Drop)]
 pub struct Learner {
+    pub(crate) dialect: Dialect,
     pub(crate) phase: Phase,
     pub(crate) accepted_epoch: i32,
     pub(crate) current_epoch: i32,
@@ -30,15 +32,17 @@ pub struct Learner {
 }
 
 impl Model for Learner {
+    ghost use Rattle.settings.specs.contracts.dialect.Dialect as of_dialect;
     ghost use Rattle.txn_codec.specs.contracts.txn.Txn as of_txn;
     ghost use Rattle.learner_sync.specs.contracts.phase.Phase as of_phase;
     ghost use Rattle.learner_sync.specs.Learner.{Learner as TheLearner, learner_code};
 
     ghost Value = { TheLearner };
 
-    ghost coded = { learner_code of_phase.the_row.coded of_txn.the_row.coded };
+    ghost coded = { learner_code of_dialect.the_row.coded of_phase.the_row.coded of_txn.the_row.coded };
 
     ghost view = { λ l. record {
+      dialect = l.dialect;
       phase = l.phase;
       accepted_epoch = l.accepted_epoch;
       current_epoch = l.current_epoch;
@@ -51,11 +55,12 @@ impl Model for Learner {
 }
 
 impl Learner {
-    /// A learner that hasn't followed a leader yet. Allocates nothing.
-    pub fn new(alloc: Global, epochs: Epochs) -> Learner
-        ensures { result ≡ new_learner epochs }
+    /// A learner that hasn't followed a leader yet; its leaders will speak this dialect. Allocates nothing.
+    pub fn new(alloc: Global, dialect: Dialect, epochs: Epochs) -> Learner
+        ensures { result ≡ new_learner dialect epochs }
     {
         Learner {
+            dialect,
             phase: Phase::Down,
             accepted_epoch: epochs.accepted(),
             current_epoch: epochs.current(),
@@ -67,11 +72,12 @@ impl Learner {
         }
     }
 
-    /// A learner that serves in epoch 1 and has no transaction yet. Allocates nothing.
-    pub fn primed(alloc: Global) -> Learner
-        ensures { result ≡ primed_learner }
+    /// A learner that serves in epoch 1 and has no transaction yet; its leaders speak this dialect. Allocates nothing.
+    pub fn primed(alloc: Global, dialect: Dialect) -> Learner
+        ensures { result ≡ primed_learner dialect }
     {
         Learner {
+            dialect,
             phase: Phase::Serving,
             accepted_epoch: 1,
             current_epoch: 1,

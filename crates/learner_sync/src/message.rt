@@ -5,6 +5,7 @@ ghost use Rattle.learner_sync.specs.Messages.{message_of_packet};
 
 use crate::zxid::epoch_of;
 use quorum_packet::{Packet, PacketKind};
+use settings::Dialect;
 use values::Bytes;
 
 /// What a leader's packet means to an observer. The data that the packet carries is lent and isn't decoded yet; null
@@ -25,6 +26,8 @@ pub enum Message<'a> {
     Commit(i64),
     /// The data is a transaction that is proposed and committed at once.
     Inform(Bytes<'a>),
+    /// The same, of a transaction that changes the configuration. In front of it the data names a server.
+    InformAndActivate(Bytes<'a>),
     /// The leader's epoch begins.
     NewLeader,
     /// The learner is up to date and may serve.
@@ -37,10 +40,11 @@ pub enum Message<'a> {
     Other,
 }
 
-/// Reads what a packet means; from here on nothing looks at its kind. Allocates nothing.
-pub(crate) fn message_of_packet(packet: Packet<'_>) -> Message<'_>
-    ensures { result ≡ message_of_packet packet.entry }
+/// Reads what a packet means in this dialect; from here on nothing looks at its kind. Allocates nothing.
+pub(crate) fn message_of_packet(dialect: Dialect, packet: Packet<'_>) -> Message<'_>
+    ensures { result ≡ message_of_packet dialect packet.entry }
 {
+    let has_reconfigs = dialect.reads().extended_types;
     match PacketKind::from_code(packet.kind()) {
         Some(PacketKind::LeaderInfo) => Message::LeaderInfo {
             epoch: epoch_of(packet.zxid()),
@@ -52,6 +56,10 @@ pub(crate) fn message_of_packet(packet: Packet<'_>) -> Message<'_>
         Some(PacketKind::Proposal) => Message::Proposal(packet.data()),
         Some(PacketKind::Commit) => Message::Commit(packet.zxid()),
         Some(PacketKind::Inform) => Message::Inform(packet.data()),
+        Some(PacketKind::CommitAndActivate) if has_reconfigs => Message::Commit(packet.zxid()),
+        Some(PacketKind::InformAndActivate) if has_reconfigs => {
+            Message::InformAndActivate(packet.data())
+        }
         Some(PacketKind::NewLeader) => Message::NewLeader,
         Some(PacketKind::UpToDate) => Message::UpToDate,
         Some(PacketKind::Ping) => Message::Ping(packet),
@@ -61,9 +69,11 @@ pub(crate) fn message_of_packet(packet: Packet<'_>) -> Message<'_>
             PacketKind::Request
             | PacketKind::Ack
             | PacketKind::Revalidate
+            | PacketKind::CommitAndActivate
             | PacketKind::FollowerInfo
             | PacketKind::ObserverInfo
-            | PacketKind::AckEpoch,
+            | PacketKind::AckEpoch
+            | PacketKind::InformAndActivate,
         ) => Message::Other,
     }
 }

@@ -1,15 +1,17 @@
 //! The messages that bring a learner up to date, and those that come while clients are served.
 
 ghost use Rattle.std.specs.Prelude.{◌≡◌, int_lt, Ok};
-ghost use Rattle.learner_sync.specs.Learn.{LearnsItem, zxid_floor, with_applied_zxid, learn_inform, learn_proposal, learn_commit, new_leader, up_to_date, message_in_replay, message_in_serving};
+ghost use Rattle.jute.specs.Reads.{ReadsOwnedWhole};
+ghost use Rattle.learner_sync.specs.Learn.{LearnsItem, zxid_floor, with_applied_zxid, carried_txn, learn_inform, learn_activation, learn_proposal, learn_commit, new_leader, up_to_date, message_in_replay, message_in_serving};
 
 use crate::act::Act;
 use crate::answers::{act_list, empty_act_list};
 use crate::learner::Learner;
 use crate::message::Message;
 use crate::phase::Phase;
+use jute::Reader;
 use std::alloc::Global;
-use txn_codec::{TxnHeader, decode_txn};
+use txn_codec::{Txn, TxnHeader, decode_txn_in};
 use values::{Fault, Listed, ReadError};
 
 impl Learner {
@@ -39,11 +41,17 @@ impl Learner {
         self.last_zxid = self.last_zxid.max(header.zxid);
     }
 
+    fn carried_txn(&self, alloc: Global, bytes: &[u8]) -> Result<Txn, ReadError>
+        ensures { ReadsOwnedWhole (carried_txn self.now bytes.now) result }
+    {
+        decode_txn_in(self.dialect, alloc, bytes)
+    }
+
     // Applies a transaction that is proposed and committed in one packet.
     fn inform(&mut self, alloc: Global, bytes: &[u8]) -> Result<Listed<Act>, ReadError>
         ensures { LearnsItem result (learn_inform self.old bytes.now) self.old self.new }
     {
-        let txn = decode_txn(alloc, bytes)?;
+        let txn = self.carried_txn(alloc, bytes)?;
         if !self.may_apply(&txn.header) {
             return Err(ReadError::Fault(Fault::OutOfOrder));
         }
@@ -54,11 +62,20 @@ impl Learner {
         Ok(acts)
     }
 
+    // Applies a change of the configuration, which comes after the id of a server.
+    fn activate(&mut self, alloc: Global, bytes: &[u8]) -> Result<Listed<Act>, ReadError>
+        ensures { LearnsItem result (learn_activation self.old bytes.now) self.old self.new }
+    {
+        let mut reader = Reader::new(bytes);
+        reader.read_long()?;
+        self.inform(alloc, reader.rest())
+    }
+
     // Keeps a transaction until its commit.
     fn propose(&mut self, alloc: Global, bytes: &[u8]) -> Result<Listed<Act>, ReadError>
         ensures { LearnsItem result (learn_proposal self.old bytes.now) self.old self.new }
     {
-        let txn = decode_txn(alloc, bytes)?;
+        let txn = self.carried_txn(alloc, bytes)?;
         self.proposals.push_back(txn)?;
         Ok(empty_act_list(alloc))
     }
@@ -123,6 +140,7 @@ impl Learner {
             Message::Proposal(bytes) => self.propose(alloc, bytes.as_slice()),
             Message::Commit(zxid) => self.commit(alloc, zxid),
             Message::Inform(bytes) => self.inform(alloc, bytes.as_slice()),
+            Message::InformAndActivate(bytes) => self.activate(alloc, bytes.as_slice()),
             Message::NewLeader => self.new_leader(alloc),
             Message::UpToDate => self.up_to_date(alloc),
             Message::Ping(_ping) => Ok(empty_act_list(alloc)),
@@ -150,6 +168,7 @@ impl Learner {
             )?),
             Message::Sync => Ok(act_list(alloc, Act::SettleSync)?),
             Message::Inform(bytes) => self.inform(alloc, bytes.as_slice()),
+            Message::InformAndActivate(bytes) => self.activate(alloc, bytes.as_slice()),
             Message::LeaderInfo { .. }
             | Message::Diff
             | Message::Trunc(_)

@@ -79,7 +79,9 @@ impl Learner {
         ensures { LearnsItem result (learn_item self.old (owned_item item.entry)) self.old self.new }
     {
         match item {
-            LentItem::Packet(packet) => self.step_message(alloc, message_of_packet(packet)),
+            LentItem::Packet(packet) => {
+                self.step_message(alloc, message_of_packet(self.dialect, packet))
+            }
             LentItem::Part(part) => self.step_part(alloc, part),
         }
     }

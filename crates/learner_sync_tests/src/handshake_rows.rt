@@ -4,7 +4,7 @@ use crate::steps::{Seen, at, come, does, follow, greeted, packet, sends, version
 use jute::{ReadRecord, Reader, WriteRecord};
 use learner_sync::{Learner, LearnerInfo, Phase};
 use quorum_packet::PacketKind;
-use settings::{Epochs, ServerId};
+use settings::{Dialect, Epochs, ServerId};
 use std::alloc::Global;
 use std::test::Fail;
 use values::{Blob, Fault};
@@ -14,14 +14,14 @@ fn waiting(alloc: Global) -> Result<Learner, Fail> {
     let Some(epochs) = Epochs::new(1, 1) else {
         return Err("no epochs".into());
     };
-    let mut learner = Learner::new(alloc, epochs);
+    let mut learner = Learner::new(alloc, Dialect::Zk34, epochs);
     come(alloc, &mut learner, ServerId::default())?;
     Ok(learner)
 }
 
 #[test]
 fn introduction(rt: HostRuntime) -> Result<(), Fail> {
-    let mut learner = Learner::new(rt.alloc(), Epochs::default());
+    let mut learner = Learner::new(rt.alloc(), Dialect::Zk34, Epochs::default());
     let Some(server_id) = ServerId::new(3) else {
         return Err("no server id".into());
     };

@@ -7,6 +7,8 @@ mod handshake_rows;
 #[cfg(test)]
 mod image_rows;
 #[cfg(test)]
+mod later_rows;
+#[cfg(test)]
 mod replay_rows;
 #[cfg(test)]
 mod request_rows;

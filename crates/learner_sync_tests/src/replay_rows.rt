@@ -5,14 +5,14 @@ use crate::steps::{
 };
 use learner_sync::Learner;
 use quorum_packet::PacketKind;
-use settings::ServerId;
+use settings::{Dialect, ServerId};
 use std::alloc::Global;
 use std::test::Fail;
 use values::Fault;
 
 // A learner that serves, with a base at 3, and 4 and 5 since.
 fn with_base(alloc: Global) -> Result<Learner, Fail> {
-    let mut learner = Learner::primed(alloc);
+    let mut learner = Learner::primed(alloc, Dialect::Zk34);
     follow(
         alloc,
         &mut learner,
@@ -85,7 +85,7 @@ fn commits(rt: HostRuntime) -> Result<(), Fail> {
 #[test]
 fn twice(rt: HostRuntime) -> Result<(), Fail> {
     let alloc = rt.alloc();
-    let mut learner = Learner::primed(alloc);
+    let mut learner = Learner::primed(alloc, Dialect::Zk34);
     let once = with_txn(alloc, PacketKind::Inform, at(1))?;
     assert!(rt; does(alloc, &mut learner, once, Seen::Apply)?);
     let twice = with_txn(alloc, PacketKind::Inform, at(1))?;

@@ -3,7 +3,7 @@
 use jute::{put_int, put_long};
 use learner_sync::{Act, Learner};
 use quorum_packet::{Item, LentItem, Packet, PacketKind, QuorumPacket};
-use settings::{Epochs, ServerId};
+use settings::{Dialect, Epochs, ServerId};
 use std::alloc::Global;
 use values::{Blob, Bytes, Fault, Listed, NoMemory, ReadError};
 
@@ -139,9 +139,14 @@ pub fn version(alloc: Global) -> Result<Option<Blob>, NoMemory> {
     Ok(Some(Blob::new(alloc, b"\0\x01\0\0")?))
 }
 
-/// A learner after the handshake with a leader of epoch 1.
+/// A learner after the handshake with a leader of epoch 1, in the dialect of ZooKeeper 3.4.
 pub fn greeted(alloc: Global) -> Result<Learner, ReadError> {
-    let mut learner = Learner::new(alloc, Epochs::default());
+    greeted_in(Dialect::Zk34, alloc)
+}
+
+/// The same, in this dialect.
+pub fn greeted_in(dialect: Dialect, alloc: Global) -> Result<Learner, ReadError> {
+    let mut learner = Learner::new(alloc, dialect, Epochs::default());
     come(alloc, &mut learner, ServerId::default())?;
     let info = packet(PacketKind::LeaderInfo, at(0), version(alloc)?);
     follow(alloc, &mut learner, info)?;

@@ -9,6 +9,7 @@ use anyhow::{Context, Result, ensure};
 use apply_workers::OpenGate;
 use batcher::{Limits, SpreadThreshold};
 use observer_core::{Config, Engine, Event, Output};
+use settings::Dialect;
 use std::alloc::Global;
 use std::mem;
 use std::rt::Clock;
@@ -110,6 +111,7 @@ impl Load {
             cxid: 1,
             zxid,
             time: 1000,
+            rules: Dialect::Zk34,
         };
         self.zxid = zxid;
         self.transactions = add_count(self.transactions, 1)?;

@@ -10,7 +10,7 @@ use jute::codes::open_list;
 use jute::{RequestHeader, WriteRecord, put_bytes};
 use quorum_packet::{PacketKind, QuorumPacket, write_packet};
 use std::alloc::Global;
-use txn_codec::{Body, Create, Operation, Path, SetData, Txn, encode_txn};
+use txn_codec::{Body, Create, Operation, Owner, Path, SetData, Txn, encode_txn};
 use values::{Blob, Str};
 
 /// The longest path here, in bytes.
@@ -82,7 +82,8 @@ pub fn create(alloc: Global, path: Path, content: &[u8]) -> Result<Body>
         path,
         bytes: Some(bytes),
         acl: Some(acl),
-        ephemeral: false,
+        owner: Owner::Nobody,
+        asks_stat: false,
         parent_cversion: -1,
     })))
 }

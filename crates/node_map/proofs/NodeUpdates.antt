@@ -1,6 +1,7 @@
 -- A node that was borrowed mutably.
 use Rattle.std.proofs.Common.{◌≡◌, Bool, true, false, cond, Option, Some, None, is_some, OnSome, refl, sym, ap, subst, ◌∙◌, if◌then◌else◌}
 use Rattle.std.specs.Borrow.{MutBor}
+use Rattle.std.specs.Option.{option_map}
 use Rattle.std.specs.Ordering.{eq_by_cmp, is_eq}
 use Rattle.std.proofs.lemmas.Map.Lookups.{exact_bytes}
 use Rattle.std.proofs.lemmas.Map.Views.{tells_apart}
@@ -8,7 +9,7 @@ use Rattle.std.specs.FinMap as finmap
 use Rattle.ephemerals.specs.Orders.{Bytes, path_cmp}
 use Rattle.node_map.specs.Nodes.{Nodes}
 use Rattle.node_map.specs.Updates.{update_node, update_found, with_name}
-use Rattle.node_map.specs.Children.{with_added_child, with_raised_stat, stat_after_create, without_added_child, without_name, added_child, with_new_node}
+use Rattle.node_map.specs.Children.{with_added_child, with_raised_stat, stat_with_child, without_added_child, without_name, added_child, with_new_node}
 use Rattle.std.specs.FinSet as set
 use Rattle.txn_codec.specs.declared.txn.TxnHeader.{TxnHeader}
 use Rattle.txn_codec.specs.declared.txn.Create.{Create}
@@ -61,21 +62,54 @@ get_inserted m path node =
     finmap.get-insert path_total m path node path
     ∙ ap (λ r. cond (is_eq r) (Some node) (finmap.get m path)) (tied_itself path_total path)
 
+-- An update leaves the nodes at other paths.
+pub updated_apart : (m : Nodes) (path : Bytes) (f : Node → Node) (q : Bytes) → eq_by_cmp path_cmp q path ≡ false
+    → finmap.get (update_node m path f) q ≡ finmap.get m q
+updated_apart m path f q apart = by (finmap.get m path)
+  where
+    by : (o : Option Node) → finmap.get (update_found m path f o) q ≡ finmap.get m q
+    by None = refl
+    by (Some node) = finmap.get-insert path_total m path (f node) q
+        ∙ ap (λ b. cond b (Some (f node)) (finmap.get m q)) apart
+
+pub updated_here : (m : Nodes) (path : Bytes) (f : Node → Node)
+    → finmap.get (update_node m path f) path ≡ option_map f (finmap.get m path)
+updated_here m path f = by (finmap.get m path) refl
+  where
+    by : (o : Option Node) → finmap.get m path ≡ o → finmap.get (update_found m path f o) path ≡ option_map f o
+    by None is = is
+    by (Some node) is = get_inserted m path (f node)
+
+-- What an update leaves at a path depends on the node there alone.
+pub updated_same : (m n : Nodes) (path : Bytes) (f : Node → Node) (q : Bytes) → finmap.get m q ≡ finmap.get n q
+    → finmap.get (update_node m path f) q ≡ finmap.get (update_node n path f) q
+updated_same m n path f q same = by (eq_by_cmp path_cmp q path) refl
+  where
+    by : (b : Bool) → eq_by_cmp path_cmp q path ≡ b
+        → finmap.get (update_node m path f) q ≡ finmap.get (update_node n path f) q
+    by true t =
+        let is : q ≡ path = tells_apart exact_bytes q path t in
+        ap (finmap.get (update_node m path f)) is ∙ updated_here m path f
+        ∙ ap (option_map f) (ap (finmap.get m) (sym is) ∙ same ∙ ap (finmap.get n) is)
+        ∙ sym (updated_here n path f)
+        ∙ ap (finmap.get (update_node n path f)) (sym is)
+    by false t = updated_apart m path f q t ∙ same ∙ sym (updated_apart n path f q t)
+
 -- A new name.
 pub added_child_new : (h : TxnHeader) (c : Create) (name : Bytes) (parent : Node)
     → set.contains parent.children name ≡ false
     → with_added_child h c name parent
-    ≡ record parent { children = set.insert parent.children name; stat = stat_after_create h c parent.stat }
+    ≡ record parent { children = set.insert parent.children name; stat = stat_with_child h c parent.stat }
 added_child_new h c name parent free =
     ap (λ b. if b then with_raised_stat h c parent
-    else record parent { children = set.insert parent.children name; stat = stat_after_create h c parent.stat }) free
+    else record parent { children = set.insert parent.children name; stat = stat_with_child h c parent.stat }) free
 
 -- A name that is taken.
 pub added_child_taken : (h : TxnHeader) (c : Create) (name : Bytes) (parent : Node)
     → set.contains parent.children name ≡ true → with_added_child h c name parent ≡ with_raised_stat h c parent
 added_child_taken h c name parent taken =
     ap (λ b. if b then with_raised_stat h c parent
-    else record parent { children = set.insert parent.children name; stat = stat_after_create h c parent.stat }) taken
+    else record parent { children = set.insert parent.children name; stat = stat_with_child h c parent.stat }) taken
 
 -- A name that was added, and removed again with the old stat.
 pub undone : (m : Nodes) (path name : Bytes) (h : TxnHeader) (c : Create) (parent : Node)

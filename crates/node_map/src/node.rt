@@ -2,14 +2,15 @@
 
 ghost use Rattle.std.specs.Prelude.{◌≡◌, OnOk, OnErr, IfOk, not, int_lt, if◌then◌else◌, string_bytes};
 ghost use Rattle.std.specs.FinSet as set;
-ghost use Rattle.node_map.specs.Children.{with_added_child, stat_after_create};
-ghost use Rattle.node_map.specs.Updates.{new_node, owner_of, next_cversion, with_data, with_acl, preset_node};
+ghost use Rattle.node_map.specs.Children.{with_added_child, stat_after_create, stat_after_delete};
+ghost use Rattle.node_map.specs.Updates.{new_node, owner_of, ttl_mark, mark_of, next_cversion, counts_by, pzxid_by, with_data, with_acl, with_missing_acl, preset_node};
 ghost use Rattle.node_map.specs.Stats.{stat_of, shown_stat, java_int, length_or_zero, shown_cversion};
 
 use ephemerals::TextSet;
 use jute::{Stat, StatPersisted};
+use settings::Dialect;
 use std::alloc::{AllocError, Global};
-use txn_codec::{AclList, Create, SetAcl, SetData, TxnHeader};
+use txn_codec::{AclList, Create, Owner, SetAcl, SetData, TxnHeader};
 use values::{Blob, NoMemory};
 
 /// A node: its data, which may be null, its access control list, its stat, and the names of its children.
@@ -18,6 +19,9 @@ pub struct Node {
     pub bytes: Option<Blob>,
     pub acl: AclList,
     pub stat: StatPersisted,
+    /// What images have as the owner of a container, or of a node with a time to live, which the leader deletes: no
+    /// session, and never shown; 0 for other nodes.
+    pub mark: i64,
     pub children: TextSet,
 }
 
@@ -29,6 +33,7 @@ impl Clone for Node {
             bytes: self.bytes.clone()?,
             acl: self.acl.clone()?,
             stat: self.stat,
+            mark: self.mark,
             children: self.children.clone()?,
         })
     }
@@ -64,20 +69,66 @@ fn higher_stat(before: StatPersisted, after: StatPersisted) -> StatPersisted
     before
 }
 
+// The stat of a parent before or after a create of a new child, whichever counts.
+fn stat_that_counts(rules: Dialect, before: StatPersisted, after: StatPersisted) -> StatPersisted
+    ensures { result ≡ (if counts_by rules before.cversion after.cversion then after else before) }
+{
+    match rules {
+        Dialect::Zk34 => after,
+        Dialect::Zk38 => higher_stat(before, after),
+    }
+}
+
+// The pzxid of a parent after a delete of a child.
+fn pzxid_after_delete(rules: Dialect, stored: i64, zxid: i64) -> i64
+    ensures { result ≡ pzxid_by rules stored zxid }
+{
+    match rules {
+        Dialect::Zk34 => zxid,
+        Dialect::Zk38 => {
+            if stored < zxid {
+                return zxid;
+            }
+            stored
+        }
+    }
+}
+
 /// A parent's stat after a delete of a child.
 pub(crate) fn stat_after_delete(before: StatPersisted, header: &TxnHeader) -> StatPersisted
-    ensures { result ≡ record before { pzxid = header.now.zxid } }
+    ensures { result ≡ stat_after_delete header.now before }
 {
     let mut numbers = before;
-    numbers.pzxid = header.zxid;
+    numbers.pzxid = pzxid_after_delete(header.rules, before.pzxid, header.zxid);
     numbers
 }
 
 /// The session that owns a created node, or 0 if the node isn't ephemeral.
-pub(crate) fn owner(header: &TxnHeader, ephemeral: bool) -> i64
-    ensures { result ≡ owner_of header.now ephemeral }
+pub(crate) fn owner(header: &TxnHeader, owner: Owner) -> i64
+    ensures { result ≡ owner_of header.now owner }
 {
-    if ephemeral { header.client_id } else { 0 }
+    match owner {
+        Owner::Client => header.client_id,
+        Owner::Nobody | Owner::Container | Owner::Ttl(_) => 0,
+    }
+}
+
+// The number of a time to live.
+fn ttl_mark(milliseconds: i64) -> i64
+    ensures { result ≡ ttl_mark milliseconds }
+{
+    (milliseconds.cast_unsigned() % (1 << 40)).cast_signed() - (1 << 56)
+}
+
+// The number of a created node that the leader deletes, or 0.
+fn mark(owner: Owner) -> i64
+    ensures { result ≡ mark_of owner }
+{
+    match owner {
+        Owner::Container => i64::MIN,
+        Owner::Ttl(milliseconds) => ttl_mark(milliseconds),
+        Owner::Nobody | Owner::Client => 0,
+    }
 }
 
 // The stat of a new node.
@@ -92,7 +143,7 @@ fn first_stat(header: &TxnHeader, create: &Create) -> StatPersisted
         version: 0,
         cversion: 0,
         aversion: 0,
-        ephemeral_owner: owner(header, create.ephemeral),
+        ephemeral_owner: owner(header, create.owner),
         pzxid: header.zxid,
     }
 }
@@ -158,6 +209,7 @@ fn make_preset_node(alloc: Global, children: TextSet) -> Result<Node, NoMemory>
         bytes: Some(Blob::new(alloc, &[])?),
         acl: AclList::open(),
         stat: preset_stat(),
+        mark: 0,
         children,
     })
 }
@@ -176,6 +228,7 @@ impl Node {
             bytes: None,
             acl: AclList::open(),
             stat: preset_stat(),
+            mark: 0,
             children: TextSet::new(alloc),
         }
     }
@@ -195,6 +248,7 @@ impl Node {
             bytes: create.bytes.clone()?,
             acl: AclList::of(&create.acl)?,
             stat: first_stat(header, create),
+            mark: mark(create.owner),
             children: TextSet::new(alloc),
         })
     }
@@ -215,7 +269,7 @@ impl Node {
         let after = stat_after_create(self.stat, header, create);
         let added = self.children.insert(name)?;
         if added {
-            self.stat = after;
+            self.stat = stat_that_counts(header.rules, self.stat, after);
             return Ok(true);
         }
         self.stat = higher_stat(self.stat, after);
@@ -241,6 +295,15 @@ impl Node {
         self.acl = acl;
         self.stat.aversion = body.version;
         Ok(())
+    }
+
+    /// Gives this access control list to a node that came without one.
+    pub(crate) fn mend_acl(&mut self, acl: AclList)
+        ensures { self.new ≡ with_missing_acl acl self.old }
+    {
+        if self.acl.is_empty() {
+            self.acl = acl;
+        }
     }
 
     /// The node's Stat, as clients see it.

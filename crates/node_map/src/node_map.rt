@@ -7,8 +7,8 @@ ghost use Rattle.std.specs.FinMap as finmap;
 ghost use Rattle.std.specs.Map.Iter.{ShowsInOrder, deref_pair};
 ghost use Rattle.node_map.specs.declared.node.Node.{Node as TheNode};
 ghost use Rattle.node_map.specs.Inner.NodeMapLends.{LendsNode};
-ghost use Rattle.node_map.specs.Updates.{with_entries, update_node, with_data, with_acl, with_name};
-ghost use Rattle.node_map.specs.Children.{with_added_child, added_child, without_added_child, without_child, without_name, with_new_node, HasItsChildren};
+ghost use Rattle.node_map.specs.Updates.{with_entries, update_node, with_data, with_acl, with_missing_acl, with_name};
+ghost use Rattle.node_map.specs.Children.{with_added_child, added_child, without_added_child, without_child, without_missing_child, without_name, with_new_node, HasItsChildren};
 ghost use Rattle.node_map.specs.Agreement.{has_node, has_parent, AreLinked, AreNamed, AreChildNames, AreOwned, is_child_name, is_listed_at};
 
 use crate::added_child::AddedChild;
@@ -19,7 +19,9 @@ use std::alloc::{AllocError, Global};
 use std::collections::BTreeMap;
 use std::collections::btree_map::Iter;
 use std::marker::Model;
-use txn_codec::{Create, SetAcl, SetData, TxnHeader, child_of, is_path, name_of, parent_of};
+use txn_codec::{
+    AclList, Create, SetAcl, SetData, TxnHeader, child_of, is_path, name_of, parent_of,
+};
 use values::{NoMemory, TextQuery};
 
 /// Nodes by path.
@@ -239,7 +241,7 @@ impl NodeMap {
     /// Removes the name of a deleted child from the node at the path, and returns whether there is such a node.
     pub fn remove_child(&mut self, path: &str, name: &str, header: &TxnHeader) -> bool
         ensures state { self.new ≡
-            update_node self.old path.now (without_child name.now header.now.zxid) }
+            update_node self.old path.now (without_child name.now header.now) }
         ensures found { result ≡ is_some (finmap.get self.old path.now) }
     {
         match self.get_mut(path) {
@@ -249,6 +251,26 @@ impl NodeMap {
                 node.stat = stat_after_delete(node.stat, header);
                 true
             }
+        }
+    }
+
+    /// Changes the stat of the node at the path, if there is one, as the delete of a child does that is there no more.
+    pub fn miss_child(&mut self, path: &str, header: &TxnHeader)
+        ensures { self.new ≡ update_node self.old path.now (without_missing_child header.now) }
+    {
+        match self.get_mut(path) {
+            None => return,
+            Some(node) => node.stat = stat_after_delete(node.stat, header),
+        }
+    }
+
+    /// Gives this access control list to the node at the path, if there is one and it came without a list.
+    pub fn mend_acl(&mut self, path: &str, acl: AclList)
+        ensures { self.new ≡ update_node self.old path.now (with_missing_acl acl) }
+    {
+        match self.get_mut(path) {
+            None => return,
+            Some(node) => node.mend_acl(acl),
         }
     }
 

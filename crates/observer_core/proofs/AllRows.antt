@@ -21,10 +21,10 @@ use Rattle.observer_core.specs.Machine.{Machine}
 use Rattle.world.specs.Steps.{StepResult, prepend_outputs}
 use Rattle.world.specs.Clients.{idle_connection, heard_in, heard_connection, with_connection}
 use Rattle.client_service.specs.Serve.{word_without_session, with_waiting_bytes, frames_of_client, tell_or_serve, take_client_bytes}
-use Rattle.observer_core.specs.Play.{is_serving_clients, play, new_machine, primed_machine}
+use Rattle.observer_core.specs.Play.{is_serving_clients, play, new_machine}
 use Rattle.observer_core.specs.Rows.{reply_of_create, set_data_inform_event, get_data_event, WorkedRows}
 use Rattle.world.proofs.NatMaps.{get-inserted}
-use Rattle.observer_core.proofs.Rows.{ReadAgain, NobodyTold, start, idle_at, heard, world_at, at_frames, in_hand, left_at, first_open}
+use Rattle.observer_core.proofs.Rows.{earlier_machine, in_earlier, ReadAgain, NobodyTold, start, idle_at, heard, world_at, at_frames, in_hand, left_at, first_open}
 use Rattle.observer_core.proofs.WatchRows.{create_get, set_get, cut_get, create_twice, closed_passes, watch_told, idle_is}
 use Rattle.observer_core.proofs.ForwardedRows.{create_answered, error_answered, sync_answers}
 use Rattle.observer_core.proofs.SessionRows.{session_is_created, first_is_told}
@@ -71,7 +71,7 @@ unfolding items_within frame_at judged_at
 letters_are_no_frame = refl
 
 letters_close : (settings : Settings)
-    → (play (primed_machine settings) (ClientBytes 1 (codes "ruok") ∷ [])).outputs ≡ CloseClient 1 ∷ []
+    → (play (earlier_machine settings) (ClientBytes 1 (codes "ruok") ∷ [])).outputs ≡ CloseClient 1 ∷ []
 letters_close settings =
     let w = world_at settings (pos 0) [] (start settings) set.empty [] in
     ap (λ (h : StepResult Machine). h.outputs ++ [])
@@ -84,23 +84,30 @@ letters_close settings =
 
 pub rows_hold : ReadAgain → NobodyTold → FiringRows → WorkedRows
 rows_hold again nobody rows = record {
-  create_then_get = λ settings. ap (λ (h : StepResult Machine). h.outputs) (create_get again nobody settings []);
-  set_then_get = λ settings. ap (λ (h : StepResult Machine). h.outputs)
+  create_then_get = λ settings is. in_earlier settings _ _ is
+      (ap (λ (h : StepResult Machine). h.outputs) (create_get again nobody settings []));
+  set_then_get = λ settings is. in_earlier settings _ _ is (ap (λ (h : StepResult Machine). h.outputs)
       (create_get again nobody settings (set_data_inform_event ∷ get_data_event ∷ [])
       ∙ ap (prepend_outputs (ToClient 1 reply_of_create ∷ []))
-      (set_get again nobody settings (heard settings set.empty)));
-  cut_request = λ settings. ap (λ (h : StepResult Machine). h.outputs) (cut_get again nobody settings);
-  same_zxid_twice = λ settings. ap (λ (h : StepResult Machine). h.outputs) (create_twice again nobody settings)
-      ∙ closed_passes settings;
-  watch_on_missing = λ settings. ap (λ (h : StepResult Machine). h.outputs) (watch_told again nobody rows settings);
-  forwarded_create = λ settings three begins. create_answered again nobody settings (three, begins);
-  failed_create = λ settings three begins. error_answered again nobody settings (three, begins);
-  forwarded_sync = λ settings three begins. sync_answers settings (three, begins);
-  new_session = λ settings three begins. session_is_created again nobody settings (three, begins);
-  heard_session = λ settings three begins. first_is_told settings (three, begins);
-  nothing = λ settings. refl;
+      (set_get again nobody settings (heard settings set.empty))));
+  cut_request = λ settings is. in_earlier settings _ _ is
+      (ap (λ (h : StepResult Machine). h.outputs) (cut_get again nobody settings));
+  same_zxid_twice = λ settings is. in_earlier settings _ _ is
+      (ap (λ (h : StepResult Machine). h.outputs) (create_twice again nobody settings) ∙ closed_passes settings);
+  watch_on_missing = λ settings is. in_earlier settings _ _ is
+      (ap (λ (h : StepResult Machine). h.outputs) (watch_told again nobody rows settings));
+  forwarded_create = λ settings is three begins. in_earlier settings _ _ is
+      (create_answered again nobody settings (three, begins));
+  failed_create = λ settings is three begins. in_earlier settings _ _ is
+      (error_answered again nobody settings (three, begins));
+  forwarded_sync = λ settings is three begins. in_earlier settings _ _ is (sync_answers settings (three, begins));
+  new_session = λ settings is three begins terms secretless. in_earlier settings _ _ is
+      (session_is_created again nobody settings (three, begins) terms secretless);
+  heard_session = λ settings is three begins terms secretless. in_earlier settings _ _ is
+      (first_is_told settings (three, begins) terms secretless);
+  nothing = λ settings is. refl;
   idle = λ settings. idle_is settings;
   ruok = λ settings. word_comes settings (codes "ruok");
   isro_not_serving = λ settings. word_comes settings (codes "isro");
-  word_with_a_session = letters_close;
+  word_with_a_session = λ settings is. in_earlier settings _ _ is (letters_close settings);
 }

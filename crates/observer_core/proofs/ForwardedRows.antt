@@ -26,6 +26,7 @@ use Rattle.quorum_packet.specs.declared.phase.Phase.TheVariants.{Packets}
 use Rattle.quorum_packet.specs.Kinds.{kind_of}
 use Rattle.quorum_packet.specs.Packet.{packet_format}
 use Rattle.quorum_packet.specs.Items.{items_shown_at}
+use Rattle.settings.specs.declared.dialect.Dialect.TheVariants.{Zk34}
 use Rattle.txn_codec.specs.declared.txn.TxnHeader.{TxnHeader}
 use Rattle.txn_codec.specs.declared.txn.Body.{Body}
 use Rattle.txn_codec.specs.declared.txn.Body.TheVariants as bodies
@@ -66,9 +67,9 @@ use Rattle.observer_core.specs.declared.event.Event.{Event}
 use Rattle.observer_core.specs.declared.event.Event.TheVariants.{LeaderBytes, ClientBytes}
 use Rattle.observer_core.specs.Machine.{Machine}
 use Rattle.observer_core.specs.Leader.{item_step, deliver_item, is_refused, part_reader, leader_at, with_leader_or_fault, place_after, with_leader, take_leader_bytes}
-use Rattle.observer_core.specs.Play.{play_event, play, primed_session, first_client, primed_machine}
+use Rattle.observer_core.specs.Play.{play_event, play, primed_session, first_client}
 use Rattle.observer_core.specs.Rows.{framed_create, request_of_create, inform_of_forwarded, reply_of_forwarded, inform_of_error, reply_of_error, sync_frame, request_of_sync, sync_packet, reply_of_sync}
-use Rattle.observer_core.proofs.Rows.{ReadAgain, NobodyTold, path_is_text, world_is_text, anyone_is_text, text_fits, create_body, root, root_there, name_free, start, packet_of, one_packet, one_frame, pending_at, heard, nobody_yet, clients_at, joined_first, no_ids_first, world_with, world_at, beginning, led, one_delivered, told, told_by, inform_comes, in_hand, frame_served, first_open, served_at}
+use Rattle.observer_core.proofs.Rows.{earlier_machine, ReadAgain, NobodyTold, path_is_text, world_is_text, anyone_is_text, text_fits, create_body, root, root_there, name_free, start, packet_of, one_packet, one_frame, pending_at, heard, nobody_yet, clients_at, joined_first, no_ids_first, world_with, world_at, beginning, led, one_delivered, told, told_by, inform_comes, in_hand, frame_served, first_open, served_at}
 
 -- ---- the session of connection 1
 
@@ -123,7 +124,7 @@ frame_comes : (settings : Settings) (bytes frame request : List ℕ) (pending : 
     → items_in frames_of_client (place_at tt bytes) ≡ one_frame frame
     → serve_frame true 1 (world_at settings (pos 0) [] (start settings) set.empty []) frame
     ≡ asking_leader request (waiting_world settings pending)
-    → play_event (primed_machine settings) (ClientBytes 1 bytes)
+    → play_event (earlier_machine settings) (ClientBytes 1 bytes)
     ≡ record { outputs = ToLeader request ∷ []; after = waiting_machine settings pending }
 frame_comes settings bytes frame request pending found served =
     in_hand settings (pos 0) [] (start settings) set.empty [] bytes
@@ -141,11 +142,11 @@ queue_is n r =
 -- The leader's event, after the client's.
 both_come : (settings : Settings) (bytes more : List ℕ) (request reply : List ℕ) (pending : PendingTable)
     (end : Machine)
-    → play_event (primed_machine settings) (ClientBytes 1 bytes)
+    → play_event (earlier_machine settings) (ClientBytes 1 bytes)
     ≡ record { outputs = ToLeader request ∷ []; after = waiting_machine settings pending }
     → play_event (waiting_machine settings pending) (LeaderBytes more)
     ≡ record { outputs = ToClient 1 reply ∷ []; after = end }
-    → (play (primed_machine settings) (ClientBytes 1 bytes ∷ LeaderBytes more ∷ [])).outputs
+    → (play (earlier_machine settings) (ClientBytes 1 bytes ∷ LeaderBytes more ∷ [])).outputs
     ≡ ToLeader request ∷ ToClient 1 reply ∷ []
 both_come settings bytes more request reply pending end first second =
     ap (λ (h : StepResult Machine). h.outputs ++ (play h.after (LeaderBytes more ∷ [])).outputs) first
@@ -154,7 +155,7 @@ both_come settings bytes more request reply pending end first second =
 -- ---- a create
 
 abbrev header : TxnHeader
-header = record { client_id = first_id; cxid = pos 4; zxid = pos 4294967297; time = pos 1000 }
+header = record { client_id = first_id; cxid = pos 4; zxid = pos 4294967297; time = pos 1000; rules = Zk34 }
 
 abbrev create_txn : Txn
 create_txn = record { header = header; body = bodies.Single (operations.Create create_body) }
@@ -168,7 +169,7 @@ create_fits =
     let path = text_fits (codes "/a") path_is_text (omega arith) in
     let world = text_fits (codes "world") world_is_text (omega arith) in
     let anyone = text_fits (codes "anyone") anyone_is_text (omega arith) in (
-      search rules,
+      (refl, search rules),
       (
         (refl, search rules),
         (
@@ -176,8 +177,17 @@ create_fits =
           (
             refl,
             (
-              (refl, path),
-              (omega arith, ((omega arith, ((search rules, ((refl, world), (refl, anyone))), tt)), (tt, search rules))),
+              refl,
+              (
+                (refl, path),
+                (
+                  omega arith,
+                  (
+                    (omega arith, ((search rules, ((refl, world), (refl, anyone))), tt)),
+                    (refl, (tt, search rules)),
+                  ),
+                ),
+              ),
             ),
           ),
         ),
@@ -185,7 +195,7 @@ create_fits =
     )
 
 error_fits : txn_format.Fits error_txn
-error_fits = (search rules, ((refl, search rules), (refl, (refl, search rules))))
+error_fits = ((refl, search rules), ((refl, search rules), (refl, (refl, search rules))))
 
 create_found : items_shown_at (place_at Packets inform_of_forwarded)
     ≡ one_packet (packet_of (pos 4294967297) (txn_format.written create_txn))
@@ -235,7 +245,7 @@ abbrev create_waits : Settings → PendingTable
 create_waits settings = push_write (once_heard settings) 1 (pos 4) writes.Create
 
 create_comes : (settings : Settings) → IsThird settings
-    → play_event (primed_machine settings) (ClientBytes 1 framed_create)
+    → play_event (earlier_machine settings) (ClientBytes 1 framed_create)
     ≡ record { outputs = ToLeader request_of_create ∷ []; after = waiting_machine settings (create_waits settings) }
 create_comes settings three =
     let w = world_at settings (pos 0) [] (start settings) set.empty [] in
@@ -314,7 +324,7 @@ unfolding reply_header number_bytes
 error_replied = refl
 
 pub create_answered : (again : ReadAgain) (nobody : NobodyTold) (settings : Settings) → IsThird settings
-    → (play (primed_machine settings) (ClientBytes 1 framed_create ∷ LeaderBytes inform_of_forwarded ∷ [])).outputs
+    → (play (earlier_machine settings) (ClientBytes 1 framed_create ∷ LeaderBytes inform_of_forwarded ∷ [])).outputs
     ≡ ToLeader request_of_create ∷ ToClient 1 reply_of_forwarded ∷ []
 create_answered again nobody settings three =
     let err = (answer_of (effect_of_txn (start settings) create_txn)).err in
@@ -330,7 +340,7 @@ create_answered again nobody settings three =
     (create_error settings) ∙ create_replied)))
 
 pub error_answered : (again : ReadAgain) (nobody : NobodyTold) (settings : Settings) → IsThird settings
-    → (play (primed_machine settings) (ClientBytes 1 framed_create ∷ LeaderBytes inform_of_error ∷ [])).outputs
+    → (play (earlier_machine settings) (ClientBytes 1 framed_create ∷ LeaderBytes inform_of_error ∷ [])).outputs
     ≡ ToLeader request_of_create ∷ ToClient 1 reply_of_error ∷ []
 error_answered again nobody settings three =
     both_come settings framed_create inform_of_error request_of_create reply_of_error (create_waits settings) _
@@ -380,7 +390,7 @@ abbrev sync_waits : Settings → PendingTable
 sync_waits settings = push_sync (once_heard settings) 1 (pos 5) (codes "/a")
 
 sync_comes : (settings : Settings) → IsThird settings
-    → play_event (primed_machine settings) (ClientBytes 1 sync_frame)
+    → play_event (earlier_machine settings) (ClientBytes 1 sync_frame)
     ≡ (record { outputs = ToLeader request_of_sync ∷ []; after = waiting_machine settings (sync_waits settings) })
 sync_comes settings three =
     let w = world_at settings (pos 0) [] (start settings) set.empty [] in
@@ -451,7 +461,7 @@ module _ (settings : Settings) where
           ∙ ap queue_in (get-removed (after_sync settled).queues 1)
 
 pub sync_answers : (settings : Settings) → IsThird settings
-    → (play (primed_machine settings) (ClientBytes 1 sync_frame ∷ LeaderBytes sync_packet ∷ [])).outputs
+    → (play (earlier_machine settings) (ClientBytes 1 sync_frame ∷ LeaderBytes sync_packet ∷ [])).outputs
     ≡ ToLeader request_of_sync ∷ ToClient 1 reply_of_sync ∷ []
 sync_answers settings three =
     both_come settings sync_frame sync_packet request_of_sync reply_of_sync (sync_waits settings) _

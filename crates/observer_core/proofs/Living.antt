@@ -12,9 +12,8 @@ use Rattle.std.proofs.lemmas.Map.Views.{tells_apart}
 use Rattle.std.specs.FinMap as finmap
 use mathlib.Core.Bool.{true≢false}
 use Rattle.values.specs.declared.fault.Fault.{Fault}
-use Rattle.jute.specs.Format.{◌>>=◌}
+use Rattle.jute.specs.Format.{long, ◌>>=◌}
 use Rattle.jute.specs.declared.owned.Id.{Id}
-use Rattle.txn_codec.specs.Spelling.{txn_format, value_of_whole}
 use Rattle.txn_codec.specs.declared.txn.Txn.{Txn}
 use Rattle.txn_codec.specs.declared.txn.TxnHeader.{TxnHeader}
 use Rattle.txn_codec.specs.declared.txn.Operation.{Operation}
@@ -22,16 +21,15 @@ use Rattle.txn_codec.specs.declared.txn.Body.{Body}
 use Rattle.txn_codec.specs.declared.txn.Body.TheVariants as bodies
 use Rattle.data_tree.specs.State.{State, SessionTimeouts}
 use Rattle.txn_codec.specs.Row.{has_error, session_change}
-use Rattle.data_tree.specs.Meaning.{Change, Put, Remove, Own, Disown, after_change, after_changes, effect_of, of_failed, of_parts, of_multi, of_close_session, effect_of_body, effect_of_txn, set_acl_at, delete_operations, state_without_session, fresh_state}
-use Rattle.ephemerals.specs.Orders.{sorted_names}
-use Rattle.ephemerals.specs.Pairs.{paths_of_session}
+use Rattle.data_tree.specs.Meaning.{Change, Put, Remove, Own, Disown, Mend, after_change, after_changes, effect_of, of_failed, of_parts, of_multi, of_close_session, effect_of_body, effect_of_txn, set_acl_at, delete_operations, ended_paths, state_without_session, fresh_state}
+use Rattle.ephemerals.specs.Orders.{Bytes, sorted_names}
 use Rattle.snapshot_codec.specs.Made.{Loading, with_loaded}
 use Rattle.snapshot_codec.specs.declared.part.ImagePart.{ImagePart}
 use Rattle.snapshot_codec.specs.declared.part.ImagePart.TheVariants as part
 use Rattle.quorum_packet.specs.declared.item.Item.{Item}
 use Rattle.quorum_packet.specs.declared.item.Item.TheVariants as item
 use Rattle.learner_sync.specs.Learner.{Learner}
-use Rattle.learner_sync.specs.Learn.{LearnerStep, message_in_phase, message_in_serving, part_in_phase, load_to_drop, learn_inform, apply_txn, with_applied, zxid_floor}
+use Rattle.learner_sync.specs.Learn.{LearnerStep, message_in_phase, message_in_serving, part_in_phase, load_to_drop, carried_txn, learn_inform, learn_activation, apply_txn, with_applied, zxid_floor}
 use Rattle.learner_sync.specs.Messages.{message_of_packet}
 use Rattle.learner_sync.specs.declared.act.Act.TheVariants as act
 use Rattle.learner_sync.specs.declared.message.Message.{Message}
@@ -81,6 +79,7 @@ changes_leave s (Put path node ∷ cs) = changes_leave (after_change s (Put path
 changes_leave s (Remove path ∷ cs) = changes_leave (after_change s (Remove path)) cs
 changes_leave s (Own session path ∷ cs) = changes_leave (after_change s (Own session path)) cs
 changes_leave s (Disown session path ∷ cs) = changes_leave (after_change s (Disown session path)) cs
+changes_leave s (Mend path acl ∷ cs) = changes_leave (after_change s (Mend path acl)) cs
 
 parts_leave : (header : TxnHeader) (parts : List Operation) (s : State)
     → (of_parts header parts s).state.sessions ≡ s.sessions
@@ -96,10 +95,10 @@ multi_leaves header parts s =
     (λ _. refl) (λ _. parts_leave header parts s)
 
 -- All sessions but the one that is closed stay.
-close_leaves : (header : TxnHeader) (s : State)
-    → (of_close_session header s).state.sessions ≡ finmap.remove s.sessions header.client_id
-close_leaves header s =
-    parts_leave header (delete_operations (sorted_names (paths_of_session header.client_id s.pairs)))
+close_leaves : (header : TxnHeader) (listed : List Bytes) (s : State)
+    → (of_close_session header listed s).state.sessions ≡ finmap.remove s.sessions header.client_id
+close_leaves header listed s =
+    parts_leave header (delete_operations (sorted_names (ended_paths header.client_id listed s)))
     (state_without_session header.client_id s)
 
 -- ---- what an item does to a tree that is served
@@ -146,10 +145,17 @@ module _ (loading : Loading) (r : Replica) where
       }))
 
   informed : (l : Learner) (bytes : List ℕ) → Serves r (carried (learn_inform l bytes))
-  informed l bytes = by (value_of_whole txn_format bytes)
+  informed l bytes = by (carried_txn l bytes)
     where
       by : (x : Result Txn Fault) → Serves r (carried (x >>= λ t. apply_txn l t))
       by (Ok txn) = applied l txn
+      by (Err e) = tt
+
+  activated : (l : Learner) (bytes : List ℕ) → Serves r (carried (learn_activation l bytes))
+  activated l bytes = by (long.read bytes)
+    where
+      by : (x : Result (ℤ × List ℕ) Fault) → Serves r (carried (x >>= λ named. learn_inform l named.1))
+      by (Ok named) = informed l named.1
       by (Err e) = tt
 
   -- Nothing is told.
@@ -159,7 +165,7 @@ module _ (loading : Loading) (r : Replica) where
   nothing : (l : Learner) → Serves r (carried (Ok (record { acts = []; after = l })))
   nothing l = inl (untold (no_effect loading (with_learner r (record { acts = []; after = l }))) refl refl)
 
-  -- Only an INFORM brings a transaction where clients are served.
+  -- Only an INFORM and an INFORMANDACTIVATE bring a transaction where clients are served.
   message_serves : (l : Learner) (m : Message) → Serves r (carried (message_in_serving l m))
   message_serves l (message.Ping p) = inl (record { tree = refl; none = λ place err e. true≢false (ap was_ping e) })
     where
@@ -176,6 +182,7 @@ module _ (loading : Loading) (r : Replica) where
       was_sync (Some (news.Applied place err)) = false
       was_sync (Some news.SyncSettled) = true
   message_serves l (message.Inform bytes) = informed l bytes
+  message_serves l (message.InformAndActivate bytes) = activated l bytes
   message_serves l (message.LeaderInfo epoch bytes) = nothing l
   message_serves l message.Diff = nothing l
   message_serves l (message.Trunc zxid) = nothing l
@@ -212,8 +219,9 @@ module _ (loading : Loading) (r : Replica) where
 
   item_serves : (i : Item) → is_serving r ≡ true → Serves r (take_item loading r i)
   item_serves (item.Packet p) s =
-      subst (λ (ph : Phase). Serves r (carried (message_in_phase ph r.learner (message_of_packet p))))
-      (sym (phase_is r.learner.phase s)) (message_serves r.learner (message_of_packet p))
+      let m = message_of_packet r.learner.dialect p in
+      subst (λ (ph : Phase). Serves r (carried (message_in_phase ph r.learner m)))
+      (sym (phase_is r.learner.phase s)) (message_serves r.learner m)
   item_serves (item.Part p) s =
       subst (λ (ph : Phase). Serves r (carried (part_in_phase ph r.learner p))) (sym (phase_is r.learner.phase s))
       (part_serves r.learner p)
@@ -455,9 +463,9 @@ module _ (stays : ServingStays) (laws : LowerLaws) where
           → SessionsLive (give_answer w t err (due_by w.clients t (session_change b))).after
       by (bodies.CreateSession time_out) is =
           created time_out is (connecting_to w.clients.pending session) refl
-      by bodies.CloseSession is =
+      by (bodies.CloseSession listed) is =
           ended_live w t err (connection_of w.clients.sessions session) refl a
-          (closed (is ∙ close_leaves t.header before))
+          (closed (is ∙ close_leaves t.header listed before))
       by (bodies.Single operation) is =
           replied_live w t err (connection_of w.clients.sessions session) a
           (same_live (is ∙ changes_leave before (effect_of t.header operation before.nodes).changes))

@@ -33,7 +33,9 @@ use Rattle.quorum_packet.specs.declared.phase.Phase.TheVariants.{Packets}
 use Rattle.quorum_packet.specs.Kinds.{kind_of}
 use Rattle.quorum_packet.specs.Packet.{packet_format}
 use Rattle.quorum_packet.specs.Items.{items_shown_at}
+use Rattle.settings.specs.declared.dialect.Dialect.TheVariants.{Zk34}
 use Rattle.txn_codec.specs.declared.txn.TxnHeader.{TxnHeader}
+use Rattle.txn_codec.specs.declared.txn.Owner.TheVariants.{Nobody}
 use Rattle.txn_codec.specs.declared.txn.Create.{Create}
 use Rattle.txn_codec.specs.declared.txn.SetData.{SetData}
 use Rattle.txn_codec.specs.declared.txn.Operation.{Operation}
@@ -57,6 +59,7 @@ use Rattle.watch_manager.specs.Watching.{WatchTables, no_watch}
 use Rattle.watch_manager.specs.Watches.{FireResult, fire}
 use Rattle.watch_manager.specs.Laws.{AllPass, AllLastingPass, OnlyWatchersAreTold, NoEventKeepsWatches}
 use Rattle.read_processor.specs.Watch.{watch_of}
+use Rattle.settings.specs.declared.dialect.Dialect.{Dialect}
 use Rattle.world.specs.declared.world.Settings.{Settings}
 use Rattle.client_frames.specs.declared.call.Call.{Call}
 use Rattle.client_frames.specs.declared.call.CallBody.TheVariants.{Local}
@@ -66,6 +69,7 @@ use Rattle.forwarding.specs.Queue.{RequestQueue, pending_limit, found_write}
 use Rattle.forwarding.specs.State.{TouchedSessions, PendingTable}
 use Rattle.forwarding.specs.Pending.{nothing_pending, queue_in, is_idle, hold_frame, touch_session}
 use Rattle.leader_answers.specs.Answering.{txn_number, reply_as, reply_of, is_due, lets_answer, answer_optional_txn, answer_applied_txn}
+use Rattle.observer_core.specs.declared.event.Event.{Event}
 use Rattle.world.specs.declared.output.Output.{Output}
 use Rattle.observer_core.proofs.Batches.{no_answer}
 use Rattle.observer_core.specs.declared.event.Event.TheVariants.{ClientBytes}
@@ -82,7 +86,7 @@ use Rattle.observer_core.specs.Machine.{Leader, Machine}
 use Rattle.client_frames.specs.Call.{call_in, call_after_header, call_body, read_as, read_with_flag, value_if_read}
 use Rattle.world.specs.Steps.{StepResult, prepend_outputs, no_output, and_then, fold_steps}
 use Rattle.world.specs.Clients.{heard_in, without_client, close_clients, no_clients, notices_of}
-use Rattle.replica.specs.Replica.{Replica}
+use Rattle.replica.specs.Replica.{Replica, primed_replica}
 use Rattle.replica.specs.Taking.{nothing_loaded, no_effect as unled, with_learner, carry_out_all, without_leader}
 use Rattle.learner_sync.specs.Learn.{LearnerStep, apply_txn}
 use Rattle.learner_sync.specs.declared.phase.Phase.TheVariants.{Serving}
@@ -91,7 +95,7 @@ use Rattle.four_letter.specs.Words.{word_of}
 use Rattle.four_letter.specs.declared.word.Word.{Word}
 use Rattle.world.specs.Sending.{close_client, send_or_close, send_reply, with_watches, with_pending}
 use Rattle.client_service.specs.Serve.{with_watch_if, handle_local, handle_or_hold, touched_as, serve_as, serve_by, header_len, is_refused_frame, serve_frame, word_without_session, is_unheard, with_waiting_bytes, wait_if_heard, wait_at, frames_of_client, serve_all, tell_or_serve, take_client_bytes}
-use Rattle.observer_core.specs.Play.{play_event, primed_session, first_client}
+use Rattle.observer_core.specs.Play.{play_event, play, initial_machine, primed_session, first_client, primed_machine}
 use Rattle.world.proofs.NatMaps.{get-inserted, insert-insert, insert-same, entries-empty}
 
 -- ---- texts
@@ -111,14 +115,15 @@ anyone_is_text = (codes "anyone", (refl, refl))
 -- ---- the transactions
 
 abbrev pub create_header : TxnHeader
-create_header = record { client_id = pos 7; cxid = pos 1; zxid = pos 4294967297; time = pos 1000 }
+create_header = record { client_id = pos 7; cxid = pos 1; zxid = pos 4294967297; time = pos 1000; rules = Zk34 }
 
 abbrev pub create_body : Create
 create_body = record {
   path = codes "/a";
   bytes = Some (codes "hi");
   acl = Some open_acl;
-  ephemeral = false;
+  owner = Nobody;
+  asks_stat = false;
   parent_cversion = pos 1;
 }
 
@@ -126,7 +131,7 @@ abbrev pub create_txn : Txn
 create_txn = record { header = create_header; body = bodies.Single (operations.Create create_body) }
 
 abbrev set_header : TxnHeader
-set_header = record { client_id = pos 7; cxid = pos 2; zxid = pos 4294967298; time = pos 2000 }
+set_header = record { client_id = pos 7; cxid = pos 2; zxid = pos 4294967298; time = pos 2000; rules = Zk34 }
 
 abbrev set_body : SetData
 set_body = record { path = codes "/a"; bytes = None; version = pos 1 }
@@ -143,7 +148,7 @@ create_fits =
     let path = text_fits (codes "/a") path_is_text (omega arith) in
     let world = text_fits (codes "world") world_is_text (omega arith) in
     let anyone = text_fits (codes "anyone") anyone_is_text (omega arith) in (
-      search rules,
+      (refl, search rules),
       (
         (refl, search rules),
         (
@@ -151,8 +156,17 @@ create_fits =
           (
             refl,
             (
-              (refl, path),
-              (omega arith, ((omega arith, ((search rules, ((refl, world), (refl, anyone))), tt)), (tt, search rules))),
+              refl,
+              (
+                (refl, path),
+                (
+                  omega arith,
+                  (
+                    (omega arith, ((search rules, ((refl, world), (refl, anyone))), tt)),
+                    (refl, (tt, search rules)),
+                  ),
+                ),
+              ),
             ),
           ),
         ),
@@ -162,7 +176,7 @@ create_fits =
 set_fits : txn_format.Fits set_txn
 set_fits =
     let path = text_fits (codes "/a") path_is_text (omega arith) in
-    (search rules, ((refl, search rules), (refl, (refl, ((refl, path), (tt, search rules))))))
+    ((refl, search rules), ((refl, search rules), (refl, (refl, ((refl, path), (tt, search rules))))))
 
 -- ---- the states
 
@@ -455,6 +469,7 @@ no_ids_first settings = ap ids_in (first_is settings)
 abbrev replica_at : Settings → ℤ → List Txn → State → Replica
 replica_at settings zxid log s = record {
   learner = record {
+    dialect = Zk34;
     phase = Serving;
     accepted_epoch = pos 1;
     current_epoch = pos 1;
@@ -479,6 +494,24 @@ world_at settings zxid log s touched rest = world_with settings zxid log s (clie
 -- A leader's stream without waiting bytes.
 abbrev pub beginning : Leader
 beginning = record { place = place_at Packets []; loading = nothing_loaded }
+
+-- The primed machine in this dialect.
+abbrev machine_in : Dialect → Settings → Machine
+machine_in dialect settings =
+    initial_machine settings
+    (primed_replica dialect (primed_session settings) settings.timeouts.greatest) (Some part_reader.opened)
+    (first_client settings)
+
+-- The primed machine in the dialect of ZooKeeper 3.4.
+abbrev pub earlier_machine : Settings → Machine
+earlier_machine settings = machine_in Zk34 settings
+
+-- It is the machine of settings that have this dialect.
+pub in_earlier : (settings : Settings) (events : List Event) (outputs : List Output) → settings.dialect ≡ Zk34
+    → (play (earlier_machine settings) events).outputs ≡ outputs
+    → (play (primed_machine settings) events).outputs ≡ outputs
+in_earlier settings events outputs is answers =
+    subst (λ (d : Dialect). (play (machine_in d settings) events).outputs ≡ outputs) (sym is) answers
 
 -- A machine that follows a leader, in this world.
 abbrev pub following : Settings → ℤ → List Txn → State → TouchedSessions → List ℕ → Machine

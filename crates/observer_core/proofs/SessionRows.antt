@@ -28,6 +28,7 @@ use Rattle.quorum_packet.specs.declared.phase.Phase.TheVariants.{Packets}
 use Rattle.quorum_packet.specs.Kinds.{kind_of}
 use Rattle.quorum_packet.specs.Packet.{packet_format}
 use Rattle.quorum_packet.specs.Items.{items_shown_at}
+use Rattle.settings.specs.declared.dialect.Dialect.TheVariants.{Zk34}
 use Rattle.txn_codec.specs.declared.txn.TxnHeader.{TxnHeader}
 use Rattle.txn_codec.specs.declared.txn.Body.TheVariants as bodies
 use Rattle.txn_codec.specs.declared.txn.Txn.{Txn}
@@ -72,9 +73,9 @@ use Rattle.observer_core.specs.declared.event.Event.{Event}
 use Rattle.observer_core.specs.declared.event.Event.TheVariants.{LeaderBytes, ClientUp, ClientBytes}
 use Rattle.observer_core.specs.Machine.{Machine}
 use Rattle.observer_core.specs.Leader.{item_step, part_reader, with_leader, take_leader_bytes}
-use Rattle.observer_core.specs.Play.{play_event, play, primed_session, first_client, primed_machine}
+use Rattle.observer_core.specs.Play.{play_event, play, primed_session, first_client}
 use Rattle.observer_core.specs.Rows.{client_ping, reply_of_ping, leader_ping, answer_with_first, answer_with_none, connect_frame, request_of_session, inform_of_session, response_of_session}
-use Rattle.observer_core.proofs.Rows.{ReadAgain, NobodyTold, start, one_packet, packet_of, one_frame, pending_at, idle_at, heard_in_world, served_at, handled_at, open_with, at_first, clients_at, heard, nobody_yet, joined_first, world_with, world_at, beginning, led, one_delivered, told, told_by, inform_comes, in_hand, with_connections, frame_served, first_open}
+use Rattle.observer_core.proofs.Rows.{earlier_machine, ReadAgain, NobodyTold, start, one_packet, packet_of, one_frame, pending_at, idle_at, heard_in_world, served_at, handled_at, open_with, at_first, clients_at, heard, nobody_yet, joined_first, world_with, world_at, beginning, led, one_delivered, told, told_by, inform_comes, in_hand, with_connections, frame_served, first_open}
 use Rattle.observer_core.proofs.ForwardedRows.{first_id, IsThird, id_is, waiting_world, waiting_machine, once_heard, queue_is, one_item_comes}
 
 -- ---- a client is heard, and the leader is told
@@ -104,7 +105,7 @@ unfolding reply_header number_bytes
 ping_replied = refl
 
 ping_comes : (settings : Settings)
-    → play_event (primed_machine settings) (ClientBytes 1 client_ping)
+    → play_event (earlier_machine settings) (ClientBytes 1 client_ping)
     ≡ record { outputs = ToClient 1 reply_of_ping ∷ []; after = waiting_machine settings (once_heard settings) }
 ping_comes settings =
     let w = world_at settings (pos 0) [] (start settings) set.empty [] in
@@ -149,7 +150,7 @@ ping_is_told settings pending =
 
 pings_are_told : (settings : Settings) →
     let once = told_of settings (once_heard settings) in
-    (play (primed_machine settings)
+    (play (earlier_machine settings)
     (ClientBytes 1 client_ping ∷ LeaderBytes leader_ping ∷ LeaderBytes leader_ping ∷ [])).outputs
     ≡ ToClient 1 reply_of_ping ∷ answer_with once.rows ∷ answer_with (told_of settings once.after).rows ∷ []
 pings_are_told settings =
@@ -213,7 +214,7 @@ with_none_written = refl
 
 pub first_is_told : (settings : Settings) → IsThird settings
     → settings.timeouts ≡ timeout_pair (pos 4000) (pos 40000) → settings.secret ≡ []
-    → (play (primed_machine settings)
+    → (play (earlier_machine settings)
     (ClientBytes 1 client_ping ∷ LeaderBytes leader_ping ∷ LeaderBytes leader_ping ∷ [])).outputs
     ≡ ToClient 1 reply_of_ping ∷ ToLeader answer_with_first ∷ ToLeader answer_with_none ∷ []
 first_is_told settings three terms secretless =
@@ -306,12 +307,12 @@ module _ (settings : Settings) where
   abbrev machine_of : SessionTable → PendingTable → Machine
   machine_of sessions pending = record { leader = Some beginning; world = world_of sessions pending }
 
-  second_comes : settings.first_counter ≡ 0 → play_event (primed_machine settings) (ClientUp 2)
+  second_comes : settings.first_counter ≡ 0 → play_event (earlier_machine settings) (ClientUp 2)
       ≡ no_output (machine_of (sessions_after 1) nothing_pending)
   second_comes begins =
       ap (λ (o : Option OpenConnection). no_output (record {
         leader = Some beginning;
-        world = cond (is_some o) (primed_machine settings).world
+        world = cond (is_some o) (earlier_machine settings).world
             (world_of (first_client settings).sessions nothing_pending);
       }))
       (finmap.get-insert nat_cmp_total finmap.empty 1 (open_with []) 2 ∙ finmap.get-empty nat_cmp 2)
@@ -411,13 +412,13 @@ module _ (settings : Settings) where
 -- ---- the leader creates the session
 
 abbrev session_header : TxnHeader
-session_header = record { client_id = second_session; cxid = pos 0; zxid = pos 4294967297; time = pos 1000 }
+session_header = record { client_id = second_session; cxid = pos 0; zxid = pos 4294967297; time = pos 1000; rules = Zk34 }
 
 abbrev session_txn : Txn
 session_txn = record { header = session_header; body = bodies.CreateSession (pos 10000) }
 
 session_fits : txn_format.Fits session_txn
-session_fits = (search rules, ((refl, search rules), (refl, search rules)))
+session_fits = ((refl, search rules), ((refl, search rules), (refl, search rules)))
 
 session_found : items_shown_at (place_at Packets inform_of_session)
     ≡ one_packet (packet_of (pos 4294967297) (txn_format.written session_txn))
@@ -523,7 +524,7 @@ module _ (settings : Settings) (three : IsThird settings)
       ∙ ap (λ (h : StepResult World). one_delivered before (told [] h)) connect_answered
 
   session_played : (again : ReadAgain) (nobody : NobodyTold)
-      → (play (primed_machine settings)
+      → (play (earlier_machine settings)
       (ClientUp 2 ∷ ClientBytes 2 connect_frame ∷ LeaderBytes inform_of_session ∷ [])).outputs
       ≡ ToLeader request_of_session ∷ ToClient 2 response_of_session ∷ []
   session_played again nobody =
@@ -536,7 +537,7 @@ module _ (settings : Settings) (three : IsThird settings)
 
 pub session_is_created : (again : ReadAgain) (nobody : NobodyTold) (settings : Settings) → IsThird settings
     → settings.timeouts ≡ timeout_pair (pos 4000) (pos 40000) → settings.secret ≡ []
-    → (play (primed_machine settings)
+    → (play (earlier_machine settings)
     (ClientUp 2 ∷ ClientBytes 2 connect_frame ∷ LeaderBytes inform_of_session ∷ [])).outputs
     ≡ ToLeader request_of_session ∷ ToClient 2 response_of_session ∷ []
 session_is_created again nobody settings three terms secretless =

@@ -52,9 +52,9 @@ use Rattle.world.specs.Clients.{heard_in, sent_to, notices_of}
 use Rattle.observer_core.specs.Leader.{with_leader}
 use Rattle.world.specs.Sending.{send_or_close, send_reply, with_watches}
 use Rattle.client_service.specs.Serve.{with_watch_if, serve_as, serve_frame, frames_of_client, take_client_bytes}
-use Rattle.observer_core.specs.Play.{play_event, play, primed_session, new_machine, primed_machine}
+use Rattle.observer_core.specs.Play.{play_event, play, primed_session, new_machine}
 use Rattle.world.proofs.NatMaps.{get-removed}
-use Rattle.observer_core.proofs.Rows.{path_is_text, create_header, create_body, create_txn, create_fits, root, root_there, name_free, start, made-is, create_found, one_frame, get_found, heard_in_world, served_at, handled_at, unasked, NobodyTold, ReadAgain, at_first, heard, joined_first, no_ids_first, world_at, beginning, following, one_delivered, inform_comes, after_create, after_set, told, told_by, meant_create, create_error, create_comes, set_comes, closed, refusing, create_comes_again, replying, in_hand, frame_served, first_open, front_comes, get_after_create, get_after_set}
+use Rattle.observer_core.proofs.Rows.{earlier_machine, path_is_text, create_header, create_body, create_txn, create_fits, root, root_there, name_free, start, made-is, create_found, one_frame, get_found, heard_in_world, served_at, handled_at, unasked, NobodyTold, ReadAgain, at_first, heard, joined_first, no_ids_first, world_at, beginning, following, one_delivered, inform_comes, after_create, after_set, told, told_by, meant_create, create_error, create_comes, set_comes, closed, refusing, create_comes_again, replying, in_hand, frame_served, first_open, front_comes, get_after_create, get_after_set}
 
 -- ---- a watch
 
@@ -133,7 +133,7 @@ abbrev awaiting : Settings → Machine
 awaiting settings = record { leader = Some beginning; world = waiting settings }
 
 exists_comes : (settings : Settings)
-    → play_event (primed_machine settings) exists_watch_event ≡ replying reply_of_missing (awaiting settings)
+    → play_event (earlier_machine settings) exists_watch_event ≡ replying reply_of_missing (awaiting settings)
 exists_comes settings =
     in_hand settings (pos 0) [] (start settings) set.empty [] exists_watch_frame
     ∙ frame_served 1 (world_at settings (pos 0) [] (start settings) set.empty []) (waiting settings) exists_watch_frame
@@ -183,12 +183,12 @@ step : (m : Machine) (e : Event) (events : List Event) (h : StepResult Machine) 
 step m e events h is = ap (λ (g : StepResult Machine). prepend_outputs g.outputs (play g.after events)) is
 
 pub create_get : (again : ReadAgain) (nobody : NobodyTold) (settings : Settings) (events : List Event)
-    → play (primed_machine settings) (create_inform_event ∷ get_data_event ∷ events)
+    → play (earlier_machine settings) (create_inform_event ∷ get_data_event ∷ events)
     ≡ prepend_outputs (ToClient 1 reply_of_create ∷ [])
     (play (after_create settings (heard settings set.empty) []) events)
 create_get again nobody settings events =
     let before = after_create settings set.empty [] in
-    step (primed_machine settings) create_inform_event (get_data_event ∷ events) (no_output before)
+    step (earlier_machine settings) create_inform_event (get_data_event ∷ events) (no_output before)
     (create_comes again nobody settings set.empty [])
     ∙ step before get_data_event events
     (replying reply_of_create (after_create settings (heard settings set.empty) []))
@@ -204,12 +204,12 @@ set_get again nobody settings touched =
     (replying reply_of_set_data (after_set settings (heard settings touched))) (get_after_set settings touched)
 
 pub cut_get : (again : ReadAgain) (nobody : NobodyTold) (settings : Settings)
-    → play (primed_machine settings)
+    → play (earlier_machine settings)
     (ClientBytes 1 get_data_frame_start ∷ create_inform_event ∷ ClientBytes 1 get_data_frame_end ∷ [])
     ≡ replying reply_of_create (after_create settings (heard settings set.empty) [])
 cut_get again nobody settings =
     let begun = following settings (pos 0) [] (start settings) set.empty get_data_frame_start in
-    step (primed_machine settings) (ClientBytes 1 get_data_frame_start)
+    step (earlier_machine settings) (ClientBytes 1 get_data_frame_start)
     (create_inform_event ∷ ClientBytes 1 get_data_frame_end ∷ [])
     (no_output begun) (front_comes settings)
     ∙ step begun create_inform_event (ClientBytes 1 get_data_frame_end ∷ [])
@@ -220,11 +220,11 @@ cut_get again nobody settings =
     (get_after_create settings set.empty get_data_frame_start get_data_frame_end get_found)
 
 pub create_twice : (again : ReadAgain) (nobody : NobodyTold) (settings : Settings)
-    → play (primed_machine settings)
+    → play (earlier_machine settings)
     (create_inform_event ∷ create_inform_event ∷ set_data_inform_event ∷ get_data_event ∷ []) ≡ prepend_outputs
     (CloseLeader OutOfOrder ∷ CloseClient 1 ∷ []) (play (closed settings) (set_data_inform_event ∷ get_data_event ∷ []))
 create_twice again nobody settings =
-    step (primed_machine settings) create_inform_event
+    step (earlier_machine settings) create_inform_event
     (create_inform_event ∷ set_data_inform_event ∷ get_data_event ∷ []) (no_output (after_create settings set.empty []))
     (create_comes again nobody settings set.empty [])
     ∙ step (after_create settings set.empty []) create_inform_event (set_data_inform_event ∷ get_data_event ∷ [])
@@ -232,14 +232,14 @@ create_twice again nobody settings =
     (create_comes_again again settings)
 
 pub watch_told : (again : ReadAgain) (nobody : NobodyTold) (rows : FiringRows) (settings : Settings)
-    → play (primed_machine settings) (exists_watch_event ∷ create_inform_event ∷ set_data_inform_event ∷ [])
+    → play (earlier_machine settings) (exists_watch_event ∷ create_inform_event ∷ set_data_inform_event ∷ [])
     ≡ (record {
       outputs = ToClient 1 reply_of_missing ∷ ToClient 1 event_of_create ∷ [];
       after = after_set settings (heard settings set.empty);
     })
 watch_told again nobody rows settings =
     let touched = heard settings set.empty in
-    step (primed_machine settings) exists_watch_event (create_inform_event ∷ set_data_inform_event ∷ [])
+    step (earlier_machine settings) exists_watch_event (create_inform_event ∷ set_data_inform_event ∷ [])
     (replying reply_of_missing (awaiting settings))
     (exists_comes settings)
     ∙ ap (prepend_outputs (ToClient 1 reply_of_missing ∷ []))

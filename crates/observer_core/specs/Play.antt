@@ -56,7 +56,7 @@ initial_machine settings replica leader clients =
 
 -- The configured epochs, no leader and no client.
 abbrev pub new_by : {L : Type 0} → StreamReader L → Settings → MachineBy L
-new_by side settings = initial_machine settings (new_replica settings.epochs) None (no_clients settings)
+new_by side settings = initial_machine settings (new_replica settings.dialect settings.epochs) None (no_clients settings)
 
 -- The id of the session that a primed machine begins with: the first that its server gives out.
 abbrev pub primed_session : Settings → ℤ
@@ -74,7 +74,8 @@ first_client settings =
 -- has it.
 abbrev pub primed_by : {L : Type 0} → StreamReader L → Settings → MachineBy L
 primed_by side settings =
-    initial_machine settings (primed_replica (primed_session settings) settings.timeouts.greatest) (Some side.opened)
+    initial_machine settings
+    (primed_replica settings.dialect (primed_session settings) settings.timeouts.greatest) (Some side.opened)
     (first_client settings)
 
 abbrev pub new_machine : Settings → Machine

@@ -3,6 +3,7 @@ use Rattle.std.specs.Prelude.{◌≡◌, ℕ, pos, List, [], ◌∷◌, ◌++◌
 use Rattle.values.specs.Hex.{hex_bytes}
 use Rattle.values.specs.declared.fault.Fault.TheVariants.{OutOfOrder}
 use Rattle.settings.specs.Settings.{timeout_pair}
+use Rattle.settings.specs.declared.dialect.Dialect.TheVariants.{Zk34}
 use Rattle.world.specs.declared.world.Settings.{Settings}
 use Rattle.observer_core.specs.declared.event.Event.{Event}
 use Rattle.observer_core.specs.declared.event.Event.TheVariants.{LeaderBytes, ClientUp, ClientBytes}
@@ -149,20 +150,21 @@ get_data_event = ClientBytes 1 (get_data_frame_start ++ get_data_frame_end)
 abbrev pub exists_watch_event : Event
 exists_watch_event = ClientBytes 1 exists_watch_frame
 
--- The outputs of a primed machine, with any settings.
+-- The outputs of a primed machine in the dialect of ZooKeeper 3.4, with any other settings.
 abbrev pub PrimedAnswers : List Event → List Output → Type 0
-PrimedAnswers events outputs = (settings : Settings) → (play (primed_machine settings) events).outputs ≡ outputs
+PrimedAnswers events outputs =
+    (settings : Settings) → settings.dialect ≡ Zk34 → (play (primed_machine settings) events).outputs ≡ outputs
 
 -- The outputs of a primed machine of server 3, whose session ids begin with the counter 1.
 abbrev pub ServerThreeAnswers : List Event → List Output → Type 0
 ServerThreeAnswers events outputs =
-    (settings : Settings) → settings.server_id ≡ pos 3 → settings.first_counter ≡ 0
+    (settings : Settings) → settings.dialect ≡ Zk34 → settings.server_id ≡ pos 3 → settings.first_counter ≡ 0
     → (play (primed_machine settings) events).outputs ≡ outputs
 
 -- The same, with timeouts from 4 to 40 seconds and an empty secret.
 abbrev pub SettledAnswers : List Event → List Output → Type 0
 SettledAnswers events outputs =
-    (settings : Settings) → settings.server_id ≡ pos 3 → settings.first_counter ≡ 0
+    (settings : Settings) → settings.dialect ≡ Zk34 → settings.server_id ≡ pos 3 → settings.first_counter ≡ 0
     → settings.timeouts ≡ timeout_pair (pos 4000) (pos 40000) → settings.secret ≡ []
     → (play (primed_machine settings) events).outputs ≡ outputs
 

@@ -2,11 +2,12 @@
 
 ghost use Rattle.std.specs.Prelude.{◌≡◌, ◌↔◌, IsOk, IsTrue, IfOk};
 ghost use Rattle.batcher.specs.Limits.{limit_numbers};
+ghost use Rattle.settings.specs.Dialects.{default_dialect};
 ghost use Rattle.settings.specs.Settings.{epoch_pair, timeout_pair};
 ghost use Rattle.settings.specs.Settings.{is_server_id, are_epochs, are_timeouts, is_secret, default_first_counter};
 
 use batcher::{Limits, SpreadThreshold};
-use settings::{Epochs, FirstCounter, Secret, ServerId, TimeoutBounds};
+use settings::{Dialect, Epochs, FirstCounter, Secret, ServerId, TimeoutBounds};
 use thiserror::Error;
 use values::Blob;
 use world::Settings;
@@ -37,7 +38,8 @@ pub fn default_limits() -> Limits
 
 impl Config {
     /// Checks each setting against its bounds. Timeouts are in milliseconds. Session ids begin with the counter 1; for
-    /// any other first counter see [`Config::from_settings`]. All work is spread, see [`Config::with_threshold`].
+    /// any other first counter see [`Config::from_settings`]. The dialect is that of ZooKeeper 3.4, see
+    /// [`Config::with_dialect`]. All work is spread, see [`Config::with_threshold`].
     ///
     /// Fails with [`BadConfig`] if a setting is outside its bounds; `settings` has the bounds.
     pub fn new(
@@ -59,6 +61,7 @@ impl Config {
         ensures timeouts { IfOk result (λ c. c.settings.timeouts ≡ timeout_pair min_timeout max_timeout) }
         ensures secret { IfOk result (λ c. c.settings.secret ≡ secret) }
         ensures counter { IfOk result (λ c. c.settings.first_counter ≡ default_first_counter) }
+        ensures dialect { IfOk result (λ c. c.settings.dialect ≡ default_dialect) }
         ensures limits { IfOk result (λ c. c.limits ≡ limits) }
         ensures threshold { IfOk result (λ c. c.threshold ≡ SpreadThreshold.ALWAYS) }
     {
@@ -80,6 +83,7 @@ impl Config {
             timeouts,
             secret,
             first_counter: FirstCounter::default(),
+            dialect: Dialect::default(),
         };
         Ok(Config::from_settings(settings, limits))
     }
@@ -95,6 +99,19 @@ impl Config {
             settings,
             limits,
             threshold: SpreadThreshold::ALWAYS,
+        }
+    }
+
+    /// The same, but leaders and clients speak this dialect.
+    pub fn with_dialect(self, dialect: Dialect) -> Config
+        ensures { result ≡ record self { settings = record self.settings { dialect = dialect } } }
+    {
+        Config {
+            settings: Settings {
+                dialect,
+                ..self.settings
+            },
+            ..self
         }
     }
 

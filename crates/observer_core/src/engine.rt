@@ -104,7 +104,7 @@ impl Engine {
         ensures { IfOk result (λ e. e ≡ Some (new_machine config.settings)) }
     {
         let settings = &config.settings;
-        let replica = Replica::new(alloc, settings.epochs)?;
+        let replica = Replica::new(alloc, settings.dialect, settings.epochs)?;
         let clients = Clients::new(alloc, settings)?;
         Ok(Engine::started(alloc, config, replica, None, clients))
     }
@@ -119,7 +119,8 @@ impl Engine {
         let settings = &config.settings;
         let mut clients = Clients::new(alloc, settings)?;
         let session = open_first(alloc, settings, &mut clients)?;
-        let replica = Replica::primed(alloc, session, settings.timeouts.greatest())?;
+        let time_out = settings.timeouts.greatest();
+        let replica = Replica::primed(alloc, settings.dialect, session, time_out)?;
         let leader = Leader {
             feed: PacketFeed::new(alloc),
             loader: Loader::new(alloc),

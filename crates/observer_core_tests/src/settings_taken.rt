@@ -1,7 +1,7 @@
 //! Numbers and bytes of settings: those at a bound, and those one beyond it.
 use super::*;
 use observer_core::Settings;
-use settings::{Epochs, FirstCounter, Secret, ServerId, TimeoutBounds};
+use settings::{Dialect, Epochs, FirstCounter, Secret, ServerId, TimeoutBounds};
 use std::test::*;
 
 // Whether they are accepted, and the settings hold them. The secret has this many bytes.
@@ -45,6 +45,16 @@ fn says(
         && settings.secret.as_slice() == secret
 }
 
+// The dialect of a configuration, and that after another one was set.
+fn dialects(alloc: Global) -> Result<(Dialect, Dialect), &'static str> {
+    let made = Config::new(3, 0, 0, 4000, 40_000, blob(alloc, b"")?, default_limits());
+    let Ok(config) = made else {
+        return Err("bounds");
+    };
+    let first = config.settings.dialect;
+    Ok((first, config.with_dialect(Dialect::Zk38).settings.dialect))
+}
+
 // The settings of values that are within their bounds.
 fn from_settings(alloc: Global) -> Result<Config, &'static str> {
     let settings = Settings {
@@ -53,6 +63,7 @@ fn from_settings(alloc: Global) -> Result<Config, &'static str> {
         timeouts: TimeoutBounds::new(5, 6).ok_or("timeouts")?,
         secret: Secret::new(blob(alloc, b"key")?).ok_or("secret")?,
         first_counter: FirstCounter::new(0x00ff_ffff_ffff_fffe).ok_or("counter")?,
+        dialect: Dialect::Zk38,
     };
     Ok(Config::from_settings(settings, default_limits()))
 }
@@ -63,7 +74,9 @@ fn within_bounds(rt: HostRuntime) -> Result<(), Fail> {
     assert!(rt; takes(alloc, 1, (0, 0), (1, 1), 0)?);
     assert!(rt; takes(alloc, 255, (i32::MAX, 0), (4000, 40_000), 64)?);
     assert!(rt; takes(alloc, 3, (0, i32::MAX), (1, i32::MAX), 1)?);
+    assert!(rt; dialects(alloc)? == (Dialect::Zk34, Dialect::Zk38));
     let settings = from_settings(alloc)?.settings;
+    assert!(rt; settings.dialect == Dialect::Zk38);
     assert!(rt; says(&settings, 255, (2, 1), (5, 6), b"key"));
     assert_eq!(rt; settings.first_counter.number(), 0x00ff_ffff_ffff_fffe);
     // 27 November 2026, 04:00 in UTC.

@@ -22,6 +22,8 @@ pub enum PacketKind {
     Sync = 7,
     /// A transaction is proposed and committed in one packet.
     Inform = 8,
+    /// A proposal that changes the configuration is committed (ZooKeeper 3.5 and later).
+    CommitAndActivate = 9,
     /// The leader's epoch begins.
     NewLeader = 10,
     /// A follower introduces itself.
@@ -40,6 +42,8 @@ pub enum PacketKind {
     LeaderInfo = 17,
     /// A server answers the leader's epoch.
     AckEpoch = 18,
+    /// A change of the configuration is proposed and committed in one packet (ZooKeeper 3.5 and later).
+    InformAndActivate = 19,
 }
 
 impl PacketKind {
@@ -57,6 +61,7 @@ impl PacketKind {
             6 => Some(PacketKind::Revalidate),
             7 => Some(PacketKind::Sync),
             8 => Some(PacketKind::Inform),
+            9 => Some(PacketKind::CommitAndActivate),
             10 => Some(PacketKind::NewLeader),
             11 => Some(PacketKind::FollowerInfo),
             12 => Some(PacketKind::UpToDate),
@@ -66,12 +71,12 @@ impl PacketKind {
             16 => Some(PacketKind::ObserverInfo),
             17 => Some(PacketKind::LeaderInfo),
             18 => Some(PacketKind::AckEpoch),
+            19 => Some(PacketKind::InformAndActivate),
             _ => None,
         }
     }
 
     /// The code of the kind.
-    #[tactic(auto, unfolding(crate::specs::Kinds::kind_of))]
     pub fn code(self) -> i32
         ensures code { result ≡ code_of self }
         ensures back { kind_of result ≡ Some self }

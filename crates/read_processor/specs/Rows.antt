@@ -38,6 +38,7 @@ readable_node = record {
     ephemeral_owner = pos 0;
     pzxid = pos 4294967297;
   };
+  mark = pos 0;
   children = set.empty;
 }
 

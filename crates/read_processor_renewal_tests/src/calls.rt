@@ -3,9 +3,10 @@
 use client_records::{Name, SetWatches};
 use data_tree::Tree;
 use read_processor::Watch;
+use settings::Dialect;
 use std::alloc::Global;
 use std::test::Fail;
-use txn_codec::{Body, Create, Operation, Path, Txn, TxnHeader};
+use txn_codec::{Body, Create, Operation, Owner, Path, Txn, TxnHeader};
 use values::{Listed, NoMemory};
 use watch_manager::WatchMode;
 
@@ -21,12 +22,14 @@ pub fn tree_with_a(alloc: Global, zxid: i64) -> Result<Tree, Fail> {
         cxid: 1,
         zxid,
         time: 1000,
+        rules: Dialect::Zk34,
     };
     let create = Create {
         path: Path::new(alloc, "/a").ok().ok_or("a path")?,
         bytes: None,
         acl: None,
-        ephemeral: false,
+        owner: Owner::Nobody,
+        asks_stat: false,
         parent_cversion: -1,
     };
     let body = Body::Single(Operation::Create(create));

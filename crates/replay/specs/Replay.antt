@@ -37,6 +37,7 @@ settings_of script = record {
   timeouts = script.timeouts;
   secret = script.secret;
   first_counter = script.first_counter;
+  dialect = script.dialect;
 }
 
 -- The observer at the start.

@@ -196,6 +196,7 @@ fn play_script<T: Threads + Sync, W: Write>(
         epochs,
         timeouts,
         secret,
+        dialect,
         primed,
         events,
     } = script;
@@ -206,6 +207,7 @@ fn play_script<T: Threads + Sync, W: Write>(
         timeouts,
         secret,
         first_counter,
+        dialect,
     };
     let engine = engine_of(alloc, primed, settings, limits)?;
     feed(rt, alloc, engine, events.as_slice(), writer)

@@ -5,6 +5,7 @@ use Rattle.std.specs.Option.{option_map}
 use Rattle.std.specs.Str.{bytes_eq, is_utf8}
 use Rattle.byteorder.specs.Endian.{big_number}
 use Rattle.settings.specs.Settings as settings
+use Rattle.settings.specs.declared.dialect.Dialect.TheVariants.{Zk34, Zk38}
 use Rattle.replay_script.specs.Cut.{cut_at}
 use Rattle.values.specs.Maybe.{◌>>=◌}
 use Rattle.replay_script.specs.Number.{number_up_to, int_of, ints_of}
@@ -12,7 +13,7 @@ use Rattle.values.specs.Hex.{bytes_of_hex}
 use Rattle.replay_script.specs.declared.event.ScriptEvent.{ScriptEvent}
 use Rattle.replay_script.specs.declared.event.ScriptEvent.TheVariants.{LeaderUp, LeaderBytes, LeaderEnd, ClientUp, ClientBytes, ClientEnd, Expire, Checkpoint}
 use Rattle.replay_script.specs.declared.event.Setting.{Setting}
-use Rattle.replay_script.specs.declared.event.Setting.TheVariants.{Server, Counter, Epochs, Timeouts, Secret, Primed}
+use Rattle.replay_script.specs.declared.event.Setting.TheVariants.{Server, Counter, Epochs, Timeouts, Secret, Dialect, Primed}
 use Rattle.replay_script.specs.declared.event.Line.{Line}
 use Rattle.replay_script.specs.declared.event.Line.TheVariants.{Blank, Header, Happening}
 use Rattle.replay_script.specs.declared.event.Keyword.{Keyword}
@@ -28,12 +29,13 @@ keyword_of word =
     else (if bytes_eq word (codes "epochs") then Some words.Epochs
     else (if bytes_eq word (codes "timeouts") then Some words.Timeouts
     else (if bytes_eq word (codes "secret") then Some words.Secret
+    else (if bytes_eq word (codes "dialect") then Some words.Dialect
     else (if bytes_eq word (codes "primed") then Some words.Primed
     else (if bytes_eq word (codes "leader") then Some words.Leader
     else (if bytes_eq word (codes "client") then Some words.Client
     else (if bytes_eq word (codes "expire") then Some words.Expire
     else (if bytes_eq word (codes "checkpoint") then Some words.Checkpoint
-    else None)))))))))
+    else None))))))))))
 
 -- The texts `up` and `end`, or the bytes that come.
 abbrev pub coming_of : List ℕ → Option Coming
@@ -92,6 +94,12 @@ secret_setting text = do
   bytes ← bytes_of_hex text
   option_map Secret (settings.secret_of bytes)
 
+-- A dialect is named by a release that speaks it.
+abbrev pub dialect_setting : List ℕ → Option Setting
+dialect_setting text =
+    if bytes_eq text (codes "3.4") then Some (Dialect Zk34)
+    else (if bytes_eq text (codes "3.8") then Some (Dialect Zk38) else None)
+
 -- The meaning of a word with nothing after it.
 abbrev pub line_of_keyword : Keyword → Option Line
 line_of_keyword words.Primed = Some (Header Primed)
@@ -101,6 +109,7 @@ line_of_keyword words.Counter = None
 line_of_keyword words.Epochs = None
 line_of_keyword words.Timeouts = None
 line_of_keyword words.Secret = None
+line_of_keyword words.Dialect = None
 line_of_keyword words.Leader = None
 line_of_keyword words.Client = None
 line_of_keyword words.Expire = None
@@ -112,6 +121,7 @@ line_with_text words.Counter text = option_map Header (counter_setting text)
 line_with_text words.Epochs text = option_map Header (epochs_setting text)
 line_with_text words.Timeouts text = option_map Header (timeouts_setting text)
 line_with_text words.Secret text = option_map Header (secret_setting text)
+line_with_text words.Dialect text = option_map Header (dialect_setting text)
 line_with_text words.Leader text = option_map (λ coming. Happening (leader_event coming)) (coming_of text)
 line_with_text words.Client text = option_map Happening (client_of text)
 line_with_text words.Expire text = option_map Happening (expire_of text)

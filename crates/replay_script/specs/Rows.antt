@@ -1,12 +1,14 @@
 -- Some lines and texts, and their meaning.
 use Rattle.std.specs.Prelude.{◌≡◌, ℕ, ℤ, pos, negsuc, false, List, [], ◌∷◌, ◌++◌, Some, None, Ok, Err, codes}
+use Rattle.settings.specs.Dialects.{default_dialect}
+use Rattle.settings.specs.declared.dialect.Dialect.TheVariants.{Zk34, Zk38}
 use Rattle.settings.specs.Settings.{epoch_pair, timeout_pair, default_first_counter, default_epochs, default_timeouts, default_secret}
 use Rattle.replay_script.specs.Line.{line_of}
 use Rattle.replay_script.specs.Script.{script_of}
 use Rattle.replay_script.specs.declared.event.ScriptEvent.{ScriptEvent}
 use Rattle.replay_script.specs.declared.event.ScriptEvent.TheVariants.{LeaderUp, LeaderBytes, ClientUp, ClientBytes, ClientEnd, Expire}
 use Rattle.replay_script.specs.declared.event.Setting.{Setting}
-use Rattle.replay_script.specs.declared.event.Setting.TheVariants.{Server, Counter, Epochs, Timeouts, Secret}
+use Rattle.replay_script.specs.declared.event.Setting.TheVariants.{Server, Counter, Epochs, Timeouts, Secret, Dialect}
 use Rattle.replay_script.specs.declared.event.Line.TheVariants.{Blank, Header, Happening}
 use Rattle.replay_script.specs.declared.script.Script.{Script}
 
@@ -28,6 +30,8 @@ pub record GoodLines : Type 0 where
   pub epochs : IsSettingLine (codes "epochs 2147483647 0") (Epochs (epoch_pair (pos 2147483647) (pos 0)))
   pub timeouts : IsSettingLine (codes "timeouts 7 7") (Timeouts (timeout_pair (pos 7) (pos 7)))
   pub secret : IsSettingLine (codes "secret aB ") (Secret (171 ∷ []))
+  pub dialect : IsSettingLine (codes "dialect 3.4") (Dialect Zk34)
+  pub later_dialect : IsSettingLine (codes "dialect 3.8") (Dialect Zk38)
   pub leader_up : IsEventLine (codes "leader up") LeaderUp
   pub leader_bytes : IsEventLine (codes "leader  0 0Ff") (LeaderBytes (0 ∷ 255 ∷ []))
   pub client_up : IsEventLine (codes "client 4294967295 up") (ClientUp 4294967295)
@@ -41,6 +45,8 @@ pub record BadLines : Type 0 where
   pub two_blanks : IsBadLine (codes "server  1")
   pub sign : IsBadLine (codes "client +1 up")
   pub large : IsBadLine (codes "client 4294967296 up")
+  pub release : IsBadLine (codes "dialect 3.5")
+  pub no_dialect : IsBadLine (codes "dialect")
   pub bounds : IsBadLine (codes "timeouts 2 1")
   pub blank_behind : IsBadLine (codes "primed ")
   pub nothing : IsBadLine (codes "leader ")
@@ -61,6 +67,7 @@ script_of_server id events = record {
   epochs = default_epochs;
   timeouts = default_timeouts;
   secret = default_secret;
+  dialect = default_dialect;
   primed = false;
   events = events;
 }

@@ -1,11 +1,12 @@
 -- The script of a text.
 use Rattle.std.specs.Prelude.{ℕ, ◌+◌, ◌==◌, ◌&&◌, not, Bool, true, false, List, [], ◌∷◌, ◌++◌, Option, Some, None, is_some, Result, Ok, Err, unwrap_or, if◌then◌else◌}
 use Rattle.std.specs.List.{slice_split}
+use Rattle.settings.specs.Dialects.{default_dialect}
 use Rattle.settings.specs.Settings.{default_server_id, default_first_counter, default_epochs, default_timeouts, default_secret}
 use Rattle.replay_script.specs.Line.{line_of}
 use Rattle.replay_script.specs.declared.event.ScriptEvent.{ScriptEvent}
 use Rattle.replay_script.specs.declared.event.Setting.{Setting}
-use Rattle.replay_script.specs.declared.event.Setting.TheVariants.{Server, Counter, Epochs, Timeouts, Secret, Primed}
+use Rattle.replay_script.specs.declared.event.Setting.TheVariants.{Server, Counter, Epochs, Timeouts, Secret, Dialect, Primed}
 use Rattle.replay_script.specs.declared.event.Line.{Line}
 use Rattle.replay_script.specs.declared.event.Line.TheVariants.{Blank, Header, Happening}
 use Rattle.replay_script.specs.declared.script.Script.{Script}
@@ -31,6 +32,7 @@ empty_script = record {
     epochs = None;
     timeouts = None;
     secret = None;
+    dialect = None;
     primed = false;
   };
   events = [];
@@ -42,6 +44,7 @@ is_set (Counter first) settings = is_some settings.counter
 is_set (Epochs epochs) settings = is_some settings.epochs
 is_set (Timeouts timeouts) settings = is_some settings.timeouts
 is_set (Secret bytes) settings = is_some settings.secret
+is_set (Dialect dialect) settings = is_some settings.dialect
 is_set Primed settings = settings.primed
 
 abbrev pub with_setting : Settings → Setting → Settings
@@ -50,6 +53,7 @@ with_setting settings (Counter first) = record settings { counter = Some first }
 with_setting settings (Epochs epochs) = record settings { epochs = Some epochs }
 with_setting settings (Timeouts timeouts) = record settings { timeouts = Some timeouts }
 with_setting settings (Secret bytes) = record settings { secret = Some bytes }
+with_setting settings (Dialect dialect) = record settings { dialect = Some dialect }
 with_setting settings Primed = record settings { primed = true }
 
 abbrev pub is_empty : {A : Type 0} → List A → Bool
@@ -85,6 +89,7 @@ script_with kept =
       epochs = unwrap_or settings.epochs default_epochs;
       timeouts = unwrap_or settings.timeouts default_timeouts;
       secret = unwrap_or settings.secret default_secret;
+      dialect = unwrap_or settings.dialect default_dialect;
       primed = settings.primed;
       events = kept.events;
     }

@@ -5,7 +5,7 @@ ghost use Rattle.std.specs.Prelude.{◌≡◌, Some, None, OnOk, IfOk, if◌then
 use crate::event::{Line, ScriptEvent, Setting};
 use crate::line::line_of;
 use crate::script::{Script, Settings};
-use settings::{Epochs, FirstCounter, Secret, ServerId, TimeoutBounds};
+use settings::{Dialect, Epochs, FirstCounter, Secret, ServerId, TimeoutBounds};
 use std::alloc::Global;
 use std::marker::Model;
 use values::{Listed, NoMemory};
@@ -38,6 +38,7 @@ impl Settings {
             Setting::Epochs(_) => self.epochs.is_some(),
             Setting::Timeouts(_) => self.timeouts.is_some(),
             Setting::Secret(_) => self.secret.is_some(),
+            Setting::Dialect(_) => self.dialect.is_some(),
             Setting::Primed => self.primed,
         }
     }
@@ -51,6 +52,7 @@ impl Settings {
             Setting::Epochs(epochs) => self.epochs = Some(epochs),
             Setting::Timeouts(timeouts) => self.timeouts = Some(timeouts),
             Setting::Secret(secret) => self.secret = Some(secret),
+            Setting::Dialect(dialect) => self.dialect = Some(dialect),
             Setting::Primed => self.primed = true,
         }
     }
@@ -71,6 +73,7 @@ impl Draft {
                 epochs: None,
                 timeouts: None,
                 secret: None,
+                dialect: None,
                 primed: false,
             },
             events: Vec::new(alloc),
@@ -126,6 +129,7 @@ impl Draft {
             epochs,
             timeouts,
             secret,
+            dialect,
             primed,
         } = settings;
         Script {
@@ -134,6 +138,7 @@ impl Draft {
             epochs: epochs.unwrap_or(Epochs::default()),
             timeouts: timeouts.unwrap_or(TimeoutBounds::default()),
             secret: secret.unwrap_or(Secret::empty(alloc)),
+            dialect: dialect.unwrap_or(Dialect::default()),
             primed,
             events: Listed::from_vec(events),
         }

@@ -1,6 +1,6 @@
 //! The lines of a script.
 
-use settings::{Epochs, FirstCounter, Secret, ServerId, TimeoutBounds};
+use settings::{Dialect, Epochs, FirstCounter, Secret, ServerId, TimeoutBounds};
 use values::Blob;
 
 /// An event of a script. A connection is named by its number.
@@ -37,6 +37,8 @@ pub enum Setting {
     Timeouts(TimeoutBounds),
     /// `secret HEX`
     Secret(Secret),
+    /// `dialect 3.4` or `dialect 3.8`: that of ZooKeeper 3.4, or of 3.5 to 3.9.
+    Dialect(Dialect),
     /// `primed`
     Primed,
 }
@@ -58,6 +60,7 @@ pub enum Keyword {
     Epochs,
     Timeouts,
     Secret,
+    Dialect,
     Primed,
     Leader,
     Client,

@@ -2,14 +2,14 @@
 
 ghost use Rattle.std.specs.Prelude.{◌≡◌, IfOk};
 ghost use Rattle.std.specs.Str.{is_utf8};
-ghost use Rattle.replay_script.specs.Line.{keyword_of, coming_of, leader_event, client_event, client_of, expire_of, server_setting, counter_setting, epochs_setting, timeouts_setting, secret_setting, line_of_keyword, line_with_text, line_of_words, line_of};
+ghost use Rattle.replay_script.specs.Line.{keyword_of, coming_of, leader_event, client_event, client_of, expire_of, server_setting, counter_setting, epochs_setting, timeouts_setting, secret_setting, dialect_setting, line_of_keyword, line_with_text, line_of_words, line_of};
 
 use crate::cut::cut_at;
 use crate::event::{Coming, Keyword, Line, ScriptEvent, Setting};
 use crate::hex::read_hex;
 use crate::number::{int_of, ints_of, number_up_to};
 use byteorder::{BigEndian, ByteOrder};
-use settings::{Epochs, FirstCounter, Secret, ServerId, TimeoutBounds};
+use settings::{Dialect, Epochs, FirstCounter, Secret, ServerId, TimeoutBounds};
 use std::alloc::Global;
 use values::NoMemory;
 
@@ -26,6 +26,8 @@ fn keyword_of(word: &[u8]) -> Option<Keyword>
         Some(Keyword::Timeouts)
     } else if word == b"secret".as_slice() {
         Some(Keyword::Secret)
+    } else if word == b"dialect".as_slice() {
+        Some(Keyword::Dialect)
     } else if word == b"primed".as_slice() {
         Some(Keyword::Primed)
     } else if word == b"leader".as_slice() {
@@ -143,6 +145,18 @@ fn secret_of(alloc: Global, text: &[u8]) -> Result<Option<Setting>, NoMemory>
     }
 }
 
+fn dialect_of(text: &[u8]) -> Option<Setting>
+    ensures { result ≡ dialect_setting text.now }
+{
+    if text == b"3.4".as_slice() {
+        return Some(Setting::Dialect(Dialect::Zk34));
+    }
+    if text == b"3.8".as_slice() {
+        return Some(Setting::Dialect(Dialect::Zk38));
+    }
+    None
+}
+
 fn alone(word: Keyword) -> Option<Line>
     ensures { result ≡ line_of_keyword word }
 {
@@ -154,6 +168,7 @@ fn alone(word: Keyword) -> Option<Line>
         | Keyword::Epochs
         | Keyword::Timeouts
         | Keyword::Secret
+        | Keyword::Dialect
         | Keyword::Leader
         | Keyword::Client
         | Keyword::Expire => None,
@@ -169,6 +184,7 @@ fn followed(alloc: Global, word: Keyword, text: &[u8]) -> Result<Option<Line>, N
         Keyword::Epochs => Ok(epochs_of(text).map(Line::Header)),
         Keyword::Timeouts => Ok(timeouts_of(text).map(Line::Header)),
         Keyword::Secret => Ok(secret_of(alloc, text)?.map(Line::Header)),
+        Keyword::Dialect => Ok(dialect_of(text).map(Line::Header)),
         Keyword::Leader => match coming_of(alloc, text)? {
             None => Ok(None),
             Some(coming) => Ok(Some(Line::Happening(leader_event(coming)))),

@@ -1,7 +1,7 @@
 //! Scripts as a whole.
 
 use crate::event::ScriptEvent;
-use settings::{Epochs, FirstCounter, Secret, ServerId, TimeoutBounds};
+use settings::{Dialect, Epochs, FirstCounter, Secret, ServerId, TimeoutBounds};
 use values::Listed;
 
 /// A script: the settings, and the events in order.
@@ -12,6 +12,7 @@ pub struct Script {
     pub epochs: Epochs,
     pub timeouts: TimeoutBounds,
     pub secret: Secret,
+    pub dialect: Dialect,
     /// Whether the observer serves from the start.
     pub primed: bool,
     pub events: Listed<ScriptEvent>,
@@ -25,5 +26,6 @@ pub struct Settings {
     pub epochs: Option<Epochs>,
     pub timeouts: Option<TimeoutBounds>,
     pub secret: Option<Secret>,
+    pub dialect: Option<Dialect>,
     pub primed: bool,
 }

@@ -1,9 +1,10 @@
 use crate::{put_digits, read};
 use replay_script::{ScriptError, ScriptEvent};
+use settings::Dialect;
 use std::test::*;
 
 const EVERY_LINE: &str =
-    "# \u{e9}\nserver 255\ncounter 072057594037927934\n\nepochs 2147483647 0\ntimeouts 1 2147483647\nsecret aB \nprimed\nleader up\nleader  00 Ff\nleader end\nclient 4294967295 up\nclient 007 0a0B\nclient 1 end\nexpire ff 00000000000001\ncheckpoint";
+    "# \u{e9}\nserver 255\ncounter 072057594037927934\n\nepochs 2147483647 0\ntimeouts 1 2147483647\nsecret aB \ndialect 3.8\nprimed\nleader up\nleader  00 Ff\nleader end\nclient 4294967295 up\nclient 007 0a0B\nclient 1 end\nexpire ff 00000000000001\ncheckpoint";
 
 #[test]
 fn every_line(rt: HostRuntime) -> Result<(), Fail> {
@@ -15,6 +16,7 @@ fn every_line(rt: HostRuntime) -> Result<(), Fail> {
     assert_eq!(rt; script.timeouts.least(), 1);
     assert_eq!(rt; script.timeouts.greatest(), i32::MAX);
     assert_eq!(rt; script.secret.as_slice(), [0xab].as_slice());
+    assert!(rt; script.dialect == Dialect::Zk38);
     assert!(rt; script.primed);
     let events = script.events.as_slice();
     assert_eq!(rt; events.len(), 8);
@@ -43,6 +45,7 @@ fn without_headers(rt: HostRuntime) -> Result<(), Fail> {
     assert_eq!(rt; script.timeouts.least(), 4000);
     assert_eq!(rt; script.timeouts.greatest(), 40000);
     assert!(rt; script.secret.as_slice().is_empty());
+    assert!(rt; script.dialect == Dialect::Zk34);
     assert!(rt; !script.primed);
     assert!(rt; script.events.as_slice().is_empty());
     Ok(())

@@ -132,8 +132,8 @@ module _ (learners : LearnersFollow) (tells : ActsAccountForLog) where
 
   pub logs-are-followed : LogsAreFollowed
   logs-are-followed = record {
-    made = λ epochs. record { tree = refl; learner = learners.made epochs };
-    primed = λ session time_out. record { tree = refl; learner = learners.primed };
+    made = λ dialect epochs. record { tree = refl; learner = learners.made dialect epochs };
+    primed = λ dialect session time_out. record { tree = refl; learner = learners.primed dialect };
     takes = λ loading r i t f e. subst Follows e (takes-follow loading r i f);
     begins = λ r server_id f. record {
       tree = f.tree ∙ ap (state_after r.base) (sym (begins-follow r.learner.phase r server_id f));

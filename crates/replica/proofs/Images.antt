@@ -15,6 +15,7 @@ use Rattle.quorum_packet.specs.declared.item.Item.TheVariants as item
 use Rattle.quorum_packet.specs.declared.kind.PacketKind.{PacketKind}
 use Rattle.quorum_packet.specs.declared.kind.PacketKind.TheVariants as kinds
 use Rattle.quorum_packet.specs.declared.packet.QuorumPacket.{QuorumPacket}
+use Rattle.settings.specs.Dialects.{reads_of}
 use Rattle.quorum_packet.specs.Kinds.{kind_of}
 use Rattle.learner_sync.specs.Learner.{Learner}
 use Rattle.learner_sync.specs.Learn.{LearnerStep, single_act, load_part, load_to_drop, await_image, at_phase, message_in_phase, part_in_phase, learn_item}
@@ -89,7 +90,8 @@ awaited loading r zxid = by (int_lt zxid (pos 0))
 snap-awaits : (loading : Loading) (r : Replica) (p : QuorumPacket) → kind_of p.kind ≡ Some kinds.Snap
     → Awaits (take_item loading r (item.Packet p))
 snap-awaits loading r p k =
-    let is : message_of_packet p ≡ message.Snap p.zxid = ap (λ (k : Option PacketKind). message_of_kind k p) k in
+    let is : message_of_packet r.learner.dialect p ≡ message.Snap p.zxid =
+    ap (λ (k : Option PacketKind). message_of_kind (reads_of r.learner.dialect) k p) k in
     subst (λ (m : Message). Awaits (carried loading r (message_in_phase r.learner.phase r.learner m))) (sym is)
     (by r.learner.phase refl)
   where

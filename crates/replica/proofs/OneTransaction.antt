@@ -6,8 +6,9 @@ use Rattle.std.proofs.lemmas.List.{append-nil}
 use Rattle.values.specs.declared.fault.Fault.{Fault}
 use Rattle.values.specs.declared.fault.Fault.TheVariants.{OutOfOrder, CommitMismatch}
 use Rattle.jute.specs.Format.{◌>>=◌}
-use Rattle.txn_codec.specs.Spelling.{txn_format, value_of_whole}
 use Rattle.txn_codec.specs.declared.txn.Txn.{Txn}
+use Rattle.settings.specs.Dialects.{reads_of}
+use Rattle.settings.specs.declared.dialect.Reads.{Reads}
 use Rattle.data_tree.specs.State.{State}
 use Rattle.snapshot_codec.specs.Made.{Loading}
 use Rattle.quorum_packet.specs.Kinds.{kind_of}
@@ -17,7 +18,7 @@ use Rattle.quorum_packet.specs.declared.kind.PacketKind.{PacketKind}
 use Rattle.quorum_packet.specs.declared.kind.PacketKind.TheVariants as kinds
 use Rattle.quorum_packet.specs.declared.packet.QuorumPacket.{QuorumPacket}
 use Rattle.learner_sync.specs.Learner.{Learner}
-use Rattle.learner_sync.specs.Learn.{LearnerStep, no_acts, single_act, zxid_floor, with_applied, apply_txn, learn_inform, learn_proposal, commit_of, message_in_hello, message_in_sync, message_in_replay, message_in_serving, message_in_phase, learn_item}
+use Rattle.learner_sync.specs.Learn.{LearnerStep, no_acts, single_act, zxid_floor, with_applied, apply_txn, carried_txn, learn_inform, learn_proposal, commit_of, message_in_hello, message_in_sync, message_in_replay, message_in_serving, message_in_phase, learn_item}
 use Rattle.quorum_packet.specs.Packet.{carried_bytes}
 use Rattle.learner_sync.specs.Messages.{message_of_kind, message_of_packet}
 use Rattle.learner_sync.specs.declared.act.Act.{Act}
@@ -57,14 +58,14 @@ apply-one l ts t = by (int_lt (zxid_floor l.phase l.last_zxid) t.header.zxid)
     by false = tt
 
 inform-one : (l : Learner) (bytes : List ℕ) → Holds l (learn_inform l bytes)
-inform-one l bytes = by (value_of_whole txn_format bytes)
+inform-one l bytes = by (carried_txn l bytes)
   where
     by : (r : Result Txn Fault) → Holds l (r >>= λ t. apply_txn l t)
     by (Ok t) = apply-one l l.proposals t
     by (Err e) = tt
 
 propose-one : (l : Learner) (bytes : List ℕ) → Holds l (learn_proposal l bytes)
-propose-one l bytes = by (value_of_whole txn_format bytes)
+propose-one l bytes = by (carried_txn l bytes)
   where
     by : (r : Result Txn Fault)
         → Holds l (r >>= λ t. Ok (no_acts (record l { proposals = l.proposals ++ t ∷ [] })))
@@ -81,39 +82,40 @@ commit-one l (t ∷ others) zxid = by (int_eq t.header.zxid zxid)
 
 -- ---- each kind, in each phase
 
-module _ (l : Learner) (p : QuorumPacket) where
-  replay-one : (k : Option PacketKind) → is_kind_of_txns k ≡ true → Holds l (message_in_replay l (message_of_kind k p))
+module _ (l : Learner) (p : QuorumPacket) (reads : Reads) where
+  replay-one : (k : Option PacketKind) → is_kind_of_txns k ≡ true → Holds l (message_in_replay l (message_of_kind reads k p))
   replay-one (Some kinds.Inform) b = inform-one l (carried_bytes p.bytes)
   replay-one (Some kinds.Proposal) b = propose-one l (carried_bytes p.bytes)
   replay-one (Some kinds.Commit) b = commit-one l l.proposals p.zxid
   replay-one k b = cc b
 
-  serving-one : (k : Option PacketKind) → is_kind_of_txns k ≡ true → Holds l (message_in_serving l (message_of_kind k p))
+  serving-one : (k : Option PacketKind) → is_kind_of_txns k ≡ true → Holds l (message_in_serving l (message_of_kind reads k p))
   serving-one (Some kinds.Inform) b = inform-one l (carried_bytes p.bytes)
   serving-one (Some kinds.Proposal) b = same l l refl
   serving-one (Some kinds.Commit) b = same l l refl
   serving-one k b = cc b
 
-  hello-one : (k : Option PacketKind) → is_kind_of_txns k ≡ true → Holds l (message_in_hello l (message_of_kind k p))
+  hello-one : (k : Option PacketKind) → is_kind_of_txns k ≡ true → Holds l (message_in_hello l (message_of_kind reads k p))
   hello-one (Some kinds.Inform) b = tt
   hello-one (Some kinds.Proposal) b = tt
   hello-one (Some kinds.Commit) b = tt
   hello-one k b = cc b
 
-  sync-one : (k : Option PacketKind) → is_kind_of_txns k ≡ true → Holds l (message_in_sync l (message_of_kind k p))
+  sync-one : (k : Option PacketKind) → is_kind_of_txns k ≡ true → Holds l (message_in_sync l (message_of_kind reads k p))
   sync-one (Some kinds.Inform) b = tt
   sync-one (Some kinds.Proposal) b = tt
   sync-one (Some kinds.Commit) b = tt
   sync-one k b = cc b
 
-  packet-one : (h : Phase) → is_kind_of_txns (kind_of p.kind) ≡ true → Holds l (message_in_phase h l (message_of_packet p))
-  packet-one phase.Down b = same l l refl
-  packet-one phase.Hello b = hello-one (kind_of p.kind) b
-  packet-one phase.Sync b = sync-one (kind_of p.kind) b
-  packet-one (phase.Image zxid) b = tt
-  packet-one (phase.ReplayOnImage z) b = replay-one (kind_of p.kind) b
-  packet-one phase.Replay b = replay-one (kind_of p.kind) b
-  packet-one phase.Serving b = serving-one (kind_of p.kind) b
+packet-one : (l : Learner) (p : QuorumPacket) (h : Phase) → is_kind_of_txns (kind_of p.kind) ≡ true
+    → Holds l (message_in_phase h l (message_of_packet l.dialect p))
+packet-one l p phase.Down b = same l l refl
+packet-one l p phase.Hello b = hello-one l p (reads_of l.dialect) (kind_of p.kind) b
+packet-one l p phase.Sync b = sync-one l p (reads_of l.dialect) (kind_of p.kind) b
+packet-one l p (phase.Image zxid) b = tt
+packet-one l p (phase.ReplayOnImage z) b = replay-one l p (reads_of l.dialect) (kind_of p.kind) b
+packet-one l p phase.Replay b = replay-one l p (reads_of l.dialect) (kind_of p.kind) b
+packet-one l p phase.Serving b = serving-one l p (reads_of l.dialect) (kind_of p.kind) b
 
 item-one : (l : Learner) (i : Item) → brings_txns i ≡ true → Holds l (learn_item l i)
 item-one l (item.Packet p) b = packet-one l p l.phase b

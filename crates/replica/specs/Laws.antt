@@ -1,6 +1,7 @@
 -- What holds for every replica, at the start and whatever its leader sends.
 use Rattle.std.specs.Prelude.{◌≡◌, ℤ, Bool, true, false, Some, Ok}
 use Rattle.settings.specs.Settings.{EpochPair}
+use Rattle.settings.specs.declared.dialect.Dialect.{Dialect}
 use Rattle.jute.specs.Format.{◌>>=◌}
 use Rattle.data_tree.specs.Meaning.{state_after}
 use Rattle.snapshot_codec.specs.Made.{Loading, with_loaded}
@@ -28,8 +29,8 @@ pub record FollowsItsLog (r : Replica) : Type 0 where
 
 -- This holds at the start, and nothing that a leader does ends it.
 pub record LogsAreFollowed : Type 0 where
-  pub made : (epochs : EpochPair) → FollowsItsLog (new_replica epochs)
-  pub primed : (session time_out : ℤ) → FollowsItsLog (primed_replica session time_out)
+  pub made : (dialect : Dialect) (epochs : EpochPair) → FollowsItsLog (new_replica dialect epochs)
+  pub primed : (dialect : Dialect) (session time_out : ℤ) → FollowsItsLog (primed_replica dialect session time_out)
   pub takes : (loading : Loading) (r : Replica) (i : Item) (t : ItemEffect) → FollowsItsLog r
       → take_item loading r i ≡ Ok t
       → FollowsItsLog t.replica

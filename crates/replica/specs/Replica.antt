@@ -2,6 +2,7 @@
 use Rattle.std.specs.Prelude.{ℤ, refl}
 use Rattle.std.specs.Coded.{Coded, code_by, coded×}
 use Rattle.settings.specs.Settings.{EpochPair}
+use Rattle.settings.specs.declared.dialect.Dialect.{Dialect}
 use Rattle.data_tree.specs.State.{State}
 use Rattle.data_tree.specs.Making.{with_session}
 use Rattle.data_tree.specs.Meaning.{fresh_state}
@@ -20,12 +21,13 @@ abbrev pub replica_at : Learner → State → Replica
 replica_at l s = record { learner = l; base = s; tree = s }
 
 -- Before any leader.
-abbrev pub new_replica : EpochPair → Replica
-new_replica epochs = replica_at (new_learner epochs) fresh_state
+abbrev pub new_replica : Dialect → EpochPair → Replica
+new_replica dialect epochs = replica_at (new_learner dialect epochs) fresh_state
 
 -- A replica that serves in epoch 1, with one session.
-abbrev pub primed_replica : ℤ → ℤ → Replica
-primed_replica session time_out = replica_at primed_learner (with_session fresh_state session time_out)
+abbrev pub primed_replica : Dialect → ℤ → ℤ → Replica
+primed_replica dialect session time_out =
+    replica_at (primed_learner dialect) (with_session fresh_state session time_out)
 
 -- ---- code
 

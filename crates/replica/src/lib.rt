@@ -11,7 +11,7 @@
 //! `apply_gathered` has a closure apply all that was gathered as one list.
 //!
 //! ```text
-//! let mut replica = Replica::new(alloc, epochs)?;
+//! let mut replica = Replica::new(alloc, dialect, epochs)?;
 //! send(replica.start(alloc, server_id)?);                              // a leader has connected
 //! let outcome = replica.take(alloc, &mut loader, item)?;               // outcome.replies, outcome.triggers
 //! replica.end();                                                       // it has left, or an item was refused

@@ -10,7 +10,7 @@ ghost use Rattle.replica.specs.Taking.{follow_leader, without_leader, checkpoint
 use data_tree::Tree;
 use learner_sync::{Act, Learner, Phase};
 use quorum_packet::QuorumPacket;
-use settings::{Epochs, ServerId};
+use settings::{Dialect, Epochs, ServerId};
 use std::alloc::Global;
 use std::marker::Model;
 use values::{Listed, NoMemory};
@@ -36,20 +36,25 @@ impl Model for Replica {
 }
 
 impl Replica {
-    /// A replica that hasn't followed a leader yet: the tree before any transaction. Fails only if an allocation is
-    /// refused.
-    pub fn new(alloc: Global, epochs: Epochs) -> Result<Replica, NoMemory>
-        ensures { IfOk result (λ r. r ≡ new_replica epochs) }
+    /// A replica that hasn't followed a leader yet: the tree before any transaction. Its leaders will speak this
+    /// dialect. Fails only if an allocation is refused.
+    pub fn new(alloc: Global, dialect: Dialect, epochs: Epochs) -> Result<Replica, NoMemory>
+        ensures { IfOk result (λ r. r ≡ new_replica dialect epochs) }
     {
-        Replica::fresh(alloc, Learner::new(alloc, epochs))
+        Replica::fresh(alloc, Learner::new(alloc, dialect, epochs))
     }
 
-    /// A replica that serves in epoch 1, and whose tree has one session with this timeout in milliseconds. Fails only
-    /// if an allocation is refused.
-    pub fn primed(alloc: Global, session: i64, time_out: i32) -> Result<Replica, NoMemory>
-        ensures { IfOk result (λ r. r ≡ primed_replica session time_out) }
+    /// A replica that serves in epoch 1, and whose tree has one session with this timeout in milliseconds. Its leaders
+    /// speak this dialect. Fails only if an allocation is refused.
+    pub fn primed(
+        alloc: Global,
+        dialect: Dialect,
+        session: i64,
+        time_out: i32,
+    ) -> Result<Replica, NoMemory>
+        ensures { IfOk result (λ r. r ≡ primed_replica dialect session time_out) }
     {
-        let mut replica = Replica::fresh(alloc, Learner::primed(alloc))?;
+        let mut replica = Replica::fresh(alloc, Learner::primed(alloc, dialect))?;
         replica.base.put_session(session, time_out)?;
         replica.tree.put_session(session, time_out)?;
         Ok(replica)

@@ -3,7 +3,7 @@
 use jute::{put_int, put_long};
 use quorum_packet::{Item, LentItem, Packet, PacketKind, QuorumPacket};
 use replica::{ItemOutcome, LeaderNews, Replica};
-use settings::{Epochs, ServerId};
+use settings::{Dialect, Epochs, ServerId};
 use snapshot_codec::{ImagePart, ImageSession, Loader};
 use std::alloc::Global;
 use values::{Blob, Bytes, Fault, NoMemory, ReadError};
@@ -25,6 +25,10 @@ pub enum Event {
     Session(i64, u32),
     /// An INFORM whose transaction sets the data of a node that isn't there, with this zxid.
     Missing(u32),
+    /// An INFORM whose transaction has this type, these bytes behind it, and this zxid.
+    Txn(i32, &'static [u8], u32),
+    /// The same transaction, in an INFORMANDACTIVATE that names server 1.
+    Activated(i32, &'static [u8], u32),
     /// A part of an image with this session.
     Part(i64),
     /// The end of an image.
@@ -36,6 +40,8 @@ pub enum Event {
 pub enum Start {
     New,
     Primed,
+    /// Primed, in the dialect of ZooKeeper 3.5 to 3.9.
+    LaterPrimed,
 }
 
 /// The view of a replica after some events.
@@ -119,6 +125,22 @@ fn data_comes(alloc: Global, zxid: i64) -> Result<Item, NoMemory> {
     Ok(packet(PacketKind::Inform, zxid, Some(Blob::from_vec(bytes))))
 }
 
+// A packet with a transaction of session 7, behind these bytes.
+fn txn_comes(
+    alloc: Global,
+    kind: PacketKind,
+    front: &[u8],
+    code: i32,
+    body: &[u8],
+    zxid: i64,
+) -> Result<Item, NoMemory> {
+    let mut bytes = Vec::new(alloc);
+    bytes.extend_from_slice(front)?;
+    bytes.extend_from_slice(&header(alloc, 7, zxid, code)?)?;
+    bytes.extend_from_slice(body)?;
+    Ok(packet(kind, zxid, Some(Blob::from_vec(bytes))))
+}
+
 // A leader of epoch 1 names its epoch and the version of the protocol.
 fn greeting(alloc: Global) -> Result<Item, NoMemory> {
     let version = Blob::new(alloc, b"\0\x01\0\0")?;
@@ -147,6 +169,13 @@ fn happen(
         Event::Packet(kind, counter) => packet(kind, at(counter), None),
         Event::Session(session, counter) => session_comes(alloc, session, at(counter))?,
         Event::Missing(counter) => data_comes(alloc, at(counter))?,
+        Event::Txn(code, body, counter) => {
+            txn_comes(alloc, PacketKind::Inform, b"", code, body, at(counter))?
+        }
+        Event::Activated(code, body, counter) => {
+            let kind = PacketKind::InformAndActivate;
+            txn_comes(alloc, kind, b"\0\0\0\0\0\0\0\x01", code, body, at(counter))?
+        }
         Event::Part(id) => Item::Part(ImagePart::Session(ImageSession { id, timeout: 5_000 })),
         Event::End => Item::Part(ImagePart::End),
     };
@@ -198,8 +227,9 @@ fn play(
 /// The view of a replica that starts like this, after these events.
 pub fn after(alloc: Global, start: Start, events: &[Event]) -> Result<Seen, NoMemory> {
     let mut replica = match start {
-        Start::New => Replica::new(alloc, Epochs::default())?,
-        Start::Primed => Replica::primed(alloc, 4, 10_000)?,
+        Start::New => Replica::new(alloc, Dialect::Zk34, Epochs::default())?,
+        Start::Primed => Replica::primed(alloc, Dialect::Zk34, 4, 10_000)?,
+        Start::LaterPrimed => Replica::primed(alloc, Dialect::Zk38, 4, 10_000)?,
     };
     let mut loader = Loader::new(alloc);
     play(alloc, &mut replica, &mut loader, events)

@@ -8,6 +8,7 @@ use data_tree::{Outcome, Tree};
 use jute::Stat;
 use quorum_packet::{LentItem, Packet, PacketKind};
 use replica::{Replica, brings_txns};
+use settings::Dialect;
 use std::alloc::Global;
 use std::test::Fail;
 use txn_codec::Txn;
@@ -100,7 +101,7 @@ fn view(alloc: Global, replica: &mut Replica) -> Result<GatheredView, NoMemory> 
 
 // The view of a primed replica.
 fn gathered(alloc: Global) -> Result<GatheredView, NoMemory> {
-    let mut replica = Replica::primed(alloc, 4, 10_000)?;
+    let mut replica = Replica::primed(alloc, Dialect::Zk34, 4, 10_000)?;
     view(alloc, &mut replica)
 }
 

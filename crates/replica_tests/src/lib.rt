@@ -10,3 +10,5 @@ mod following_rows;
 mod gathering_rows;
 #[cfg(test)]
 mod image_rows;
+#[cfg(test)]
+mod later_rows;

@@ -20,7 +20,7 @@ use serve_config::FileLines;
 use serve_failures::{Failure, Step, servers_of};
 use serve_journal::Journal;
 use serve_options::{Address, Options, Servers};
-use settings::{Epochs, FirstCounter, Secret, TimeoutBounds};
+use settings::{Dialect, Epochs, FirstCounter, Secret, TimeoutBounds};
 use std::alloc::Global;
 use std::io::Write;
 use std::net::{Net, TcpStream};
@@ -63,6 +63,7 @@ fn config_of(alloc: Global, options: &Options<'_>, first_counter: FirstCounter) 
         timeouts: TimeoutBounds::default(),
         secret: Secret::empty(alloc),
         first_counter,
+        dialect: Dialect::default(),
     };
     Config::from_settings(settings, options.limits).with_threshold(WORTH_THREADS)
 }

@@ -1,5 +1,5 @@
 -- The bytes of an image, section by section.
-use Rattle.std.proofs.Common.{◌≡◌, ℕ, suc, ℤ, true, false, cond, T, List, [], ◌∷◌, ◌++◌, map, length, Some, is_some, Result, Err, refl, sym, ap, subst, ◌∙◌, true≢false, append_assoc, append-nil}
+use Rattle.std.proofs.Common.{◌≡◌, ℕ, suc, ℤ, pos, true, false, cond, T, List, [], ◌∷◌, ◌++◌, map, length, Some, is_some, Result, Err, refl, sym, ap, subst, ◌∙◌, true≢false, append_assoc, append-nil}
 use Rattle.std.specs.FinMap as finmap
 use Rattle.std.specs.FinMap.{find, is_sorted}
 use Rattle.std.specs.FinMap.Entries.{below_all}
@@ -157,7 +157,7 @@ module _ (s : State) where
   PathFits e = text_format.Fits (Some e.0)
 
   abbrev BodyFits : Bytes × Node → Type 0
-  BodyFits e = node_body.Fits (e.1.bytes, (key_of table e.1.acl, e.1.stat))
+  BodyFits e = node_body.Fits (e.1.bytes, (key_of table e.1.acl, e.1.stat)) × (e.1.mark ≡ pos 0)
 
   pub fits_image : IsWhole s → FitSessions (finmap.entries s.sessions) → FitLists table
       → FitNodes table (walk_of s.nodes) → FitsImage s

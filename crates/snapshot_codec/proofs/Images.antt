@@ -250,11 +250,12 @@ one_node lists rows path None None None g h = refl
 one_node lists rows path (Some r) (Some a) (Some b) g h =
     let bytes = g.bytes ∙ sym h.bytes in
     let stat = g.stat ∙ sym h.stat in
+    let mark = g.mark ∙ sym h.mark in
     let listed : (let o : Option (List Acl) = Some a.acl in o ≡ Some b.acl) = sym g.acl ∙ h.acl in
     let acl : a.acl ≡ b.acl = cc in
     let names = set.same_set path_total exact_bytes a.children b.children
     (λ name. g.children name ∙ sym (h.children name)) in
-    λ i. Some (record { bytes = bytes i; acl = acl i; stat = stat i; children = names i })
+    λ i. Some (record { bytes = bytes i; acl = acl i; stat = stat i; mark = mark i; children = names i })
 one_node lists rows path None None (Some b) g h = absurd h
 one_node lists rows path None (Some a) b g h = absurd g
 one_node lists rows path (Some r) None b g h = absurd g

@@ -1,5 +1,5 @@
 -- Values within the limits fit the formats of their phases, and their bytes spell them.
-use Rattle.std.proofs.Common.{◌≡◌, ℕ, suc, ◌-◌, ◌≤◌, ℤ, Bool, true, false, cond, ◌==◌, T, List, [], ◌∷◌, ◌++◌, map, length, Some, is_some, Ok, Err, refl, sym, ap, subst, ◌∙◌, arith, true≢false}
+use Rattle.std.proofs.Common.{◌≡◌, ℕ, suc, ◌-◌, ◌≤◌, ℤ, pos, Bool, true, false, cond, ◌==◌, T, List, [], ◌∷◌, ◌++◌, map, length, Some, is_some, Ok, Err, refl, sym, ap, subst, ◌∙◌, arith, true≢false}
 use Rattle.std.specs.declared.cmp.Ordering.TheVariants.{Less}
 use Rattle.std.specs.FinMap as finmap
 use Rattle.std.specs.FinMap.{find, is_sorted}
@@ -118,7 +118,8 @@ module _ (lists : Lists) where
 
   abbrev Bodies : List (Bytes × Node) → Type 0
   Bodies es =
-      AllByRecursion (λ (e : Bytes × Node). node_body.Fits (e.1.bytes, (key_of lists e.1.acl, e.1.stat))) es
+      AllByRecursion (λ (e : Bytes × Node).
+      node_body.Fits (e.1.bytes, (key_of lists e.1.acl, e.1.stat)) × (e.1.mark ≡ pos 0)) es
 
   abbrev Others : List (Bytes × Node) → Type 0
   Others es = AllByRecursion (λ (e : Bytes × Node). (is_root e.0 ≡ false) × (is_path e.0 ≡ true)) es
@@ -129,7 +130,7 @@ module _ (lists : Lists) where
   nodes_fit : (es : List (Bytes × Node)) → Others es → Paths es → Bodies es → FitFrom Nodes (node_values lists es)
   nodes_fit [] o p b = ((refl, slash_text), ((refl, end_text), tt))
   nodes_fit (e ∷ es) o p b =
-      ((next_path e.0 o.0.0 o.0.1, p.0), ((refl, b.0), nodes_fit es o.1 p.1 b.1))
+      ((next_path e.0 o.0.0 o.0.1, p.0), ((refl, b.0.0), nodes_fit es o.1 p.1 b.1))
 
   first_fits : (p : Bytes) → is_root p ≡ true → (part_format Root).Fits (Path p)
   first_fits p root =
@@ -197,7 +198,7 @@ walk_fits lists (e ∷ es) h p some ps bs =
     let below : T (below_all walk_cmp root_path es) = subst (λ (q : Bytes). T (below_all walk_cmp q es)) (sym root)
     (first (below_all walk_cmp e.0 es) (is_sorted walk_cmp es) h) in (
       first_fits lists e.0 (ap is_root (sym root)),
-      ((refl, bs.0), nodes_fit lists es (others es below (behind_first e es p)) ps.1 bs.1),
+      ((refl, bs.0.0), nodes_fit lists es (others es below (behind_first e es p)) ps.1 bs.1),
     )
 
 pub values_fit : (s : State) → IsWhole s

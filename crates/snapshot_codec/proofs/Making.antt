@@ -116,6 +116,7 @@ still_at lists key list none rows path None None h = tt
 still_at lists key list none rows path (Some r) (Some n) h = record {
   bytes = h.bytes;
   stat = h.stat;
+  mark = h.mark;
   acl = named_more lists key list r.acl n.acl none h.acl;
   children = h.children;
 }
@@ -325,6 +326,7 @@ module _ (made : LoadedParts) (sessions : SessionEntries) (lists : Lists) (rows 
     root_node q true = record {
       bytes = refl;
       stat = refl;
+      mark = refl;
       acl = named;
       children = λ name. set.contains-empty path_cmp name ∙ sym (root_below q name);
     }
@@ -406,6 +408,7 @@ module _ (made : LoadedParts) (sessions : SessionEntries) (lists : Lists) (rows 
     parent_node q (Some r) e h = record {
       bytes = h.bytes;
       stat = h.stat;
+      mark = h.mark;
       acl = h.acl;
       children = λ name. set.contains-insert path_total above.0.children (name_of path) name
           ∙ ap (λ t. eq_by_cmp path_cmp name (name_of path) || t) (h.children name)
@@ -421,6 +424,7 @@ module _ (made : LoadedParts) (sessions : SessionEntries) (lists : Lists) (rows 
     same_node q (Some r) (Some n) e h = record {
       bytes = h.bytes;
       stat = h.stat;
+      mark = h.mark;
       acl = h.acl;
       children = λ name. h.children name ∙ sym (child_below q name
           ∙ ap (λ t. list_any (is_child q name) rows || ((t && eq_by_cmp path_cmp name (name_of path)) || false)) e
@@ -439,6 +443,7 @@ module _ (made : LoadedParts) (sessions : SessionEntries) (lists : Lists) (rows 
         record {
           bytes = refl;
           stat = refl;
+          mark = refl;
           acl = named;
           children = λ name. set.contains-empty path_cmp name
               ∙ sym (none_below q none name);

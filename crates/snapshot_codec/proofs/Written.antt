@@ -8,7 +8,7 @@ use Rattle.std.specs.FinMap as finmap
 use Rattle.std.specs.FinMap.{find, is_sorted}
 use Rattle.std.specs.FinMap.Entries.{below_all}
 use Rattle.std.specs.FinSet as set
-use Rattle.std.specs.List.{flat_map, list_any}
+use Rattle.std.specs.List.{flat_map, list_any, AllByRecursion}
 use Rattle.std.specs.Option.{unwrap_or}
 use Rattle.std.specs.Ordering.{is_eq, is_lt, eq_by_cmp, int_cmp, int_eq, ordering_reverse}
 use Rattle.std.specs.Str.{bytes_eq}
@@ -30,7 +30,7 @@ use Rattle.data_tree.specs.State.{State}
 use Rattle.data_tree.specs.Whole.{IsWhole}
 use Rattle.snapshot_codec.specs.Image.{SessionEntries, Rows, parts_in, sessions_in, lists_in, rows_in, list_named, HasPlace, IsAllowedAfter, AreAllowedAfter, is_child, AreAt, IsMadeOf, IsMadeOfParts, image_format}
 use Rattle.snapshot_codec.specs.Made.{image_load}
-use Rattle.snapshot_codec.specs.Parts.{Value, Part, is_end}
+use Rattle.snapshot_codec.specs.Parts.{Value, Part, node_body, is_end}
 use Rattle.snapshot_codec.specs.Written.{walk_cmp, walk_of, is_same_acl, is_same_list, Lists, key_in, with_list, lists_from, lists_of, key_of, session_part, list_part, image_node_of, node_values, counted_values, values_of}
 use Rattle.snapshot_codec.specs.declared.part.ImageNode.{ImageNode}
 use Rattle.snapshot_codec.specs.declared.part.ImagePart.{ImagePart}
@@ -361,6 +361,19 @@ keyed_at lists (x ∷ es) q n h e = by (keyed_at lists es q n h.1) (eq_by_cmp pa
     by later true k = subst (λ (m : Node). has_key lists m.acl ≡ true) (ap (λ (o : Option Node). unwrap_or o x.1) k) h.0
     by later false k = later k
 
+abbrev AreUnmarked : List (Bytes × Node) → Type 0
+AreUnmarked es = AllByRecursion (λ (e : Bytes × Node). e.1.mark ≡ pos 0) es
+
+unmarked_at : (es : List (Bytes × Node)) (q : Bytes) (n : Node) → AreUnmarked es → find path_cmp q es ≡ Some n
+    → n.mark ≡ pos 0
+unmarked_at [] q n h e = absurd (true≢false (sym (ap is_some e)))
+unmarked_at (x ∷ es) q n h e = by (unmarked_at es q n h.1) (eq_by_cmp path_cmp q x.0) e
+  where
+    by : (find path_cmp q es ≡ Some n → n.mark ≡ pos 0) → (b : Bool)
+        → cond b (Some x.1) (find path_cmp q es) ≡ Some n → n.mark ≡ pos 0
+    by later true k = subst (λ (m : Node). m.mark ≡ pos 0) (ap (λ (o : Option Node). unwrap_or o x.1) k) h.0
+    by later false k = later k
+
 keyed_in : (lists : Lists) (ahead : List (Bytes × Node)) (x : Bytes × Node) (bs : List (Bytes × Node))
     → AllKeyed lists (ahead ++ x ∷ bs) → has_key lists x.1.acl ≡ true
 unfolding AllKeyed
@@ -471,9 +484,9 @@ module _ (s : State) (w : IsWhole s) where
       let f = child_at table path name es e in
       (λ i. is_listed_at nodes (f.3 i) (f.4 i)) ∙ listed_at f.0 (sym (ap is_some (walk_find nodes f.0)) ∙ f.1) f.2
 
-  at : (path : Bytes) → AreAt table rows path (find path_cmp path rows) (finmap.get nodes path)
+  at : AreUnmarked es → (path : Bytes) → AreAt table rows path (find path_cmp path rows) (finmap.get nodes path)
   unfolding Alike
-  at path = by (find path_cmp path rows) (finmap.get nodes path) refl (alike path)
+  at unmarked path = by (find path_cmp path rows) (finmap.get nodes path) refl (alike path)
     where
       children : (n : Node) → finmap.get nodes path ≡ Some n → (name : Bytes)
           → set.contains n.children name ≡ list_any (is_child path name) rows
@@ -488,6 +501,7 @@ module _ (s : State) (w : IsWhole s) where
       by (Some r) (Some n) e h = record {
         bytes = sym h.0;
         stat = sym h.1;
+        mark = unmarked_at es path n unmarked (walk_find nodes path ∙ e);
         acl = ap (list_named table) h.2
             ∙ named table n.acl numbered (keyed_at table es path n keyed (walk_find nodes path ∙ e));
         children = children n e;
@@ -495,8 +509,9 @@ module _ (s : State) (w : IsWhole s) where
       by None (Some n) e h = absurd h
       by (Some r) None e h = absurd h
 
-  made : IsMadeOf s ids table rows
-  made = record { timeouts = λ id. finmap.get-entries s.sessions id; nodes = at; owners = w.owners }
+  made : AreUnmarked es → IsMadeOf s ids table rows
+  made unmarked =
+      record { timeouts = λ id. finmap.get-entries s.sessions id; nodes = at unmarked; owners = w.owners }
 
   -- ---- in order
 
@@ -635,8 +650,8 @@ module _ (s : State) (w : IsWhole s) where
       (each_append list_parts (map (node_part table) es ++ part.End ∷ []) session_parts lists_go
       (each_append (map (node_part table) es) (part.End ∷ []) front nodes_go (tt, tt)))
 
-  made_of_parts : IsMadeOfParts s whole_parts
-  made_of_parts =
+  made_of_parts : AreUnmarked es → IsMadeOfParts s whole_parts
+  made_of_parts unmarked =
       subst (λ (ps : List ImagePart). IsMadeOfParts s ps) (sym turned) (moved
       (gone sessions_in refl ∙ sessions_before es)
       (gone lists_in refl ∙ lists_before es)
@@ -653,12 +668,19 @@ module _ (s : State) (w : IsWhole s) where
       moved : {t : SessionEntries} {l : Lists} {r : Rows} → t ≡ ids → l ≡ table → r ≡ rows → IsMadeOf s t l r
       moved {t} {l} {r} e f g =
           subst (λ (x : SessionEntries). IsMadeOf s x l r) (sym e) (subst (λ (x : Lists). IsMadeOf s ids x r) (sym f)
-          (subst (λ (x : Rows). IsMadeOf s ids table x) (sym g) made))
+          (subst (λ (x : Rows). IsMadeOf s ids table x) (sym g) (made unmarked)))
 
   ends_once : EndsOnce image_load (values_of s)
   ends_once =
       part_ends session_part (λ x. refl) ids (counted_values list_part table ++ node_values table es)
       (part_ends list_part (λ x. refl) table (node_values table es) (node_ends table es))
+
+unmarked : (lists : Lists) (es : List (Bytes × Node))
+    → AllByRecursion (λ (e : Bytes × Node).
+    node_body.Fits (e.1.bytes, (key_of lists e.1.acl, e.1.stat)) × (e.1.mark ≡ pos 0)) es
+    → AreUnmarked es
+unmarked lists [] h = tt
+unmarked lists (e ∷ es) h = (h.0.1, unmarked lists es h.1)
 
 pub image_written : WritesSpellings image_format
 image_written s fits =
@@ -669,5 +691,6 @@ image_written s fits =
       stand = st.1;
       ends = ends_once s fits.0;
       order = subst (AreAllowedAfter []) (sym (parts_are s fits.0)) (order s fits.0);
-      made = subst (IsMadeOfParts s) (sym (parts_are s fits.0)) (made_of_parts s fits.0);
+      made = subst (IsMadeOfParts s) (sym (parts_are s fits.0)) (made_of_parts s fits.0
+          (unmarked (lists_of s.nodes) (walk_of s.nodes) fits.1.nodes));
     }

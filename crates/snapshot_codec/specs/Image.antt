@@ -1,5 +1,5 @@
 -- The relation between a state and the bytes of its image.
-use Rattle.std.specs.Prelude.{◌≡◌, ℕ, ℤ, negsuc, Bool, true, false, not, ◌&&◌, List, [], ◌∷◌, ◌++◌, Option, Some, None, is_some, Result, Ok, ◌⊎◌, if◌then◌else◌}
+use Rattle.std.specs.Prelude.{◌≡◌, ℕ, ℤ, pos, negsuc, Bool, true, false, not, ◌&&◌, List, [], ◌∷◌, ◌++◌, Option, Some, None, is_some, Result, Ok, ◌⊎◌, if◌then◌else◌}
 use Rattle.std.specs.FinMap as finmap
 use Rattle.std.specs.FinMap.{find}
 use Rattle.std.specs.FinSet as set
@@ -91,6 +91,7 @@ is_child path name row =
 pub record IsNodeOf (lists : Lists) (rows : Rows) (path : Bytes) (row : ImageNode) (node : Node) : Type 0 where
   pub bytes : node.bytes ≡ row.bytes
   pub stat : node.stat ≡ row.stat
+  pub mark : node.mark ≡ pos 0
   pub acl : list_named lists row.acl ≡ Some node.acl
   pub children : (name : Bytes) → set.contains node.children name ≡ list_any (is_child path name) rows
 

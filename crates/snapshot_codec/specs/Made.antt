@@ -1,5 +1,5 @@
 -- The state that the parts of an image make, one by one. A part is refused if it doesn't fit the parts before it.
-use Rattle.std.specs.Prelude.{refl, ℤ, negsuc, Bool, List, Option, Some, None, is_some, Result, Ok, Err, if◌then◌else◌}
+use Rattle.std.specs.Prelude.{refl, ℤ, pos, negsuc, Bool, List, Option, Some, None, is_some, Result, Ok, Err, if◌then◌else◌}
 use Rattle.std.specs.Coded.{Coded, code_by, coded×, coded_bool}
 use Rattle.std.specs.FinMap as finmap
 use Rattle.std.specs.FinSet as set
@@ -34,7 +34,8 @@ abbrev pub list_at_key : AclLists → ℤ → Option (List Acl)
 list_at_key lists key = if int_eq key (negsuc 0) then Some open_acl else finmap.get lists key
 
 abbrev pub node_with : ImageNode → List Acl → Node
-node_with node acl = record { bytes = node.bytes; acl = acl; stat = node.stat; children = set.empty }
+node_with node acl =
+    record { bytes = node.bytes; acl = acl; stat = node.stat; mark = pos 0; children = set.empty }
 
 abbrev pub with_listed_node : LoadedParts → ImageNode → Option (List Acl) → Result LoadedParts Fault
 with_listed_node made node None = Err BadImage

@@ -1,5 +1,5 @@
 -- The contracts of the functions that write an image.
-use Rattle.std.specs.Prelude.{◌≡◌, ◌≢◌, ℕ, ℤ, List, [], ◌++◌, map, length, Some, Result, Ok, Err, if◌then◌else◌}
+use Rattle.std.specs.Prelude.{◌≡◌, ◌≢◌, ℕ, ℤ, pos, List, [], ◌++◌, map, length, Some, Result, Ok, Err, if◌then◌else◌}
 use Rattle.std.specs.Borrow.{Bor}
 use Rattle.std.specs.BTreeMap as tree
 use Rattle.std.specs.BTreeMap.{btree_map_len}
@@ -93,7 +93,8 @@ abbrev pub shown_rows : List (WalkPath × Bor Node) → List (Bytes × Node)
 shown_rows rows = map (λ e. (e.0.text.now, e.1.now)) rows
 
 abbrev pub FitsNode : Bytes → Node → ℤ → Type 0
-FitsNode path node key = text_format.Fits (Some path) × node_body.Fits (node.bytes, (key, node.stat))
+FitsNode path node key =
+    text_format.Fits (Some path) × (node_body.Fits (node.bytes, (key, node.stat)) × (node.mark ≡ pos 0))
 
 -- The root's path is written as the empty path.
 abbrev pub node_bytes : Bytes → Node → ℤ → List ℕ

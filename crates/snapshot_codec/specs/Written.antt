@@ -1,6 +1,6 @@
 -- The image that is written for a state: its sessions in ascending order of their ids; the ACL lists of its nodes
 -- except the open one, each under a key; the nodes in the order of a walk; and the end.
-use Rattle.std.specs.Prelude.{ℕ, suc, ℤ, pos, negsuc, Bool, ◌&&◌, ◌||◌, ◌==◌, List, [], ◌∷◌, ◌++◌, map, length, Option, Some, None, is_some, if◌then◌else◌}
+use Rattle.std.specs.Prelude.{◌≡◌, ℕ, suc, ℤ, pos, negsuc, Bool, ◌&&◌, ◌||◌, ◌==◌, List, [], ◌∷◌, ◌++◌, map, length, Option, Some, None, is_some, if◌then◌else◌}
 use Rattle.std.specs.Cmp.Lexicographic.{pointwise, slice_cmp}
 use Rattle.std.specs.FinMap as finmap
 use Rattle.std.specs.List.{AllByRecursion}
@@ -107,14 +107,15 @@ image_bytes s = bytes_from SessionCount (values_of s)
 
 -- ---- the limits
 
--- No count, session, list, path or node exceeds a limit of its format.
+-- No count, session, list, path or node exceeds a limit of its format. The leader deletes none of the nodes by itself.
 pub record IsWithinLimits (ids : List (ℤ × ℤ)) (keyed : Lists) (walked : List (Bytes × Node)) : Type 0 where
   pub session_count : (count_format count_limit).Fits (Some (length ids))
   pub sessions : AllByRecursion (pair_of long int).Fits ids
   pub list_count : (count_format count_limit).Fits (Some (length keyed))
   pub lists : AllByRecursion (λ (l : ℤ × List Acl). (pair_of long (vector_of acl_format)).Fits (l.0, Some l.1)) keyed
   pub paths : AllByRecursion (λ (e : Bytes × Node). text_format.Fits (Some e.0)) walked
-  pub nodes : AllByRecursion (λ (e : Bytes × Node). node_body.Fits (e.1.bytes, (key_of keyed e.1.acl, e.1.stat))) walked
+  pub nodes : AllByRecursion (λ (e : Bytes × Node).
+      node_body.Fits (e.1.bytes, (key_of keyed e.1.acl, e.1.stat)) × (e.1.mark ≡ pos 0)) walked
 
 -- The tree is whole, and exceeds no limit.
 abbrev pub FitsImage : State → Type 0

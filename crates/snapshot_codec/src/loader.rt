@@ -75,6 +75,7 @@ impl Loader {
                     bytes: node.bytes,
                     acl,
                     stat: node.stat,
+                    mark: 0,
                     children: TextSet::new(alloc),
                 };
                 if !self.tree.put_node(alloc, &node.path, placed)? {

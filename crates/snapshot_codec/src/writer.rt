@@ -69,7 +69,7 @@ fn put_node(out: &mut Vec<u8>, path: &str, node: &Node, key: &i64) -> Result<(),
     ensures { WritesBytes result (node_bytes path.now node.now key.now) out.old.items out.new.items
         (FitsNode path.now node.now key.now) }
 {
-    if !fits_text(path) || !fits_bytes(&node.bytes) {
+    if !fits_text(path) || !fits_bytes(&node.bytes) || node.mark != 0 {
         return Err(WriteError::NotWhole);
     }
     put_string(out, written_path(path))?;
@@ -101,9 +101,9 @@ fn put_nodes(
 /// one, whose keys count from 1 in the order of their first use; the nodes in depth-first order, children in ascending
 /// order of their bytes; and the end.
 ///
-/// Fails with `NotWhole` exactly if the tree isn't whole, or exceeds a limit of the format: 1,048,576 sessions, ACL
-/// lists, or entries of a list; 4,194,304 bytes of a text, or of a node's data. Fails with `NoMemory` if an allocation
-/// is refused. Besides the image it allocates a path's and a node's address for each node, and each list once.
+/// Fails with `NotWhole` exactly if the tree isn't whole, has a node that the leader deletes by itself, which an image of
+/// ZooKeeper 3.4 can't have, or exceeds a limit of the format: 1,048,576 sessions, ACL lists, or entries of a list;
+/// 4,194,304 bytes of a text, or of a node's data. Fails with `NoMemory` if an allocation is refused. Besides the image it allocates a path's and a node's address for each node, and each list once.
 pub fn write_image(alloc: Global, tree: &Tree) -> Result<Vec<u8>, WriteError>
     ensures written { IfOk result (λ bytes. bytes.items ≡ image_bytes tree.now) }
     ensures fits { OnOk result (FitsImage tree.now) }

@@ -137,8 +137,8 @@ fn longest(alloc: Global) -> Result<Vec<u8>, Fail> {
     Ok(bytes)
 }
 
-// A tree with only a root, which has the data.
-fn root_of(alloc: Global, bytes: &[u8]) -> Result<Tree, Fail> {
+// A tree with only a root, which has the data and the mark.
+fn root_of(alloc: Global, bytes: &[u8], mark: i64) -> Result<Tree, Fail> {
     let stat = StatPersisted {
         czxid: 0,
         mzxid: 0,
@@ -154,6 +154,7 @@ fn root_of(alloc: Global, bytes: &[u8]) -> Result<Tree, Fail> {
         bytes: Some(Blob::new(alloc, bytes)?),
         acl: AclList::open(),
         stat,
+        mark,
         children: TextSet::new(alloc),
     };
     let mut tree = Tree::empty(alloc);
@@ -167,8 +168,9 @@ fn trees_without_an_image(rt: HostRuntime) -> Result<(), Fail> {
     let alloc = rt.alloc();
     assert!(rt; is_not_whole(alloc, &Tree::empty(alloc)));
     let mut bytes = longest(alloc)?;
-    assert_eq!(rt; image_of(alloc, &root_of(alloc, &bytes)?)?.len(), 4_194_407);
+    assert_eq!(rt; image_of(alloc, &root_of(alloc, &bytes, 0)?)?.len(), 4_194_407);
     bytes.push(b'x')?;
-    assert!(rt; is_not_whole(alloc, &root_of(alloc, &bytes)?));
+    assert!(rt; is_not_whole(alloc, &root_of(alloc, &bytes, 0)?));
+    assert!(rt; is_not_whole(alloc, &root_of(alloc, b"", i64::MIN)?));
     Ok(())
 }

@@ -1,26 +1,41 @@
 -- Operations, parts, bodies and transactions are sound.
-use Rattle.std.proofs.Common.{◌≡◌, ℕ, List, refl, sym, ap, ◌∙◌}
-use Rattle.std.specs.Prelude.{ℤ}
+use Rattle.std.proofs.Common.{◌≡◌, ℕ, Bool, true, false, ◌&&◌, List, refl, sym, ap, ◌∙◌}
+use Rattle.std.specs.Prelude.{ℤ, not}
 use Rattle.values.specs.declared.fault.Fault.TheVariants.{BadTxnType}
+use Rattle.settings.specs.Dialects.{reads_of}
+use Rattle.settings.specs.declared.dialect.Dialect.{Dialect}
+use Rattle.settings.specs.declared.dialect.Reads.{Reads}
 use Rattle.jute.specs.Format.{Format, int}
 use Rattle.jute.specs.Laws.{IsSound, IsSoundAtEnd}
-use Rattle.jute.specs.Sums.{empty_format, held_in_buffer}
-use Rattle.jute.proofs.Public.{ok_is, sound_at_end, int_sound, both_at_end, mapped_at_end, case_sound, case_at_end, refusal_sound, held_sound, tagged_sound, tagged_at_end, empty_at_end, null_vector_sound}
+use Rattle.jute.proofs.Public.{ok_is, sound_at_end, int_sound, both_at_end, mapped_at_end, case_sound, case_at_end, refusal_sound, tagged_sound, tagged_at_end, null_vector_sound}
 use Rattle.txn_codec.specs.declared.kind.TxnKind.{TxnKind}
 use Rattle.txn_codec.specs.declared.kind.TxnKind.TheVariants as kinds
+use Rattle.txn_codec.specs.declared.place.Place.TheVariants.{Alone}
+use Rattle.txn_codec.specs.declared.txn.Owner.{Owner}
+use Rattle.txn_codec.specs.declared.txn.Create.{Create}
 use Rattle.txn_codec.specs.declared.txn.Operation.{Operation}
 use Rattle.txn_codec.specs.declared.txn.Operation.TheVariants as operations
 use Rattle.txn_codec.specs.declared.txn.Body.{Body}
 use Rattle.txn_codec.specs.declared.txn.Body.TheVariants as bodies
-use Rattle.txn_codec.specs.Kinds.{operation_kind, body_kind}
+use Rattle.txn_codec.specs.Kinds.{create_kind, operation_kind, body_kind}
 use Rattle.txn_codec.specs.Paths.{is_child_path}
-use Rattle.txn_codec.specs.Spelling.{child_path, int_or_end, kind_format, part_kind, create_with, create_format, set_data, set_acl, check_format, txn_header, as_create, as_delete, as_set_data, as_check, as_error, operation_format, multi_part, multi_parts, as_single, as_set_acl, as_multi, as_session, as_close, body_content, body_format, txn_format}
-use Rattle.txn_codec.proofs.Spelled.{path_sound, kind_sound, part_kind_sound, create_sound, create_at_end, set_data_sound, set_acl_sound, check_sound, header_sound}
+use Rattle.txn_codec.specs.Endings.{with_trailer_if, closing_if}
+use Rattle.txn_codec.specs.Fields.{child_path}
+use Rattle.txn_codec.specs.Spelling.{last_field, kind_format_in, part_kind_in, owner_if, owner_format, shows_stat, create_with, set_data, set_acl, check_format, header_in, as_create, as_delete, as_set_data, as_check, as_error, created_operation, operation_format, is_lenient, part_content, part_format_in, parts_format_in, as_single, as_set_acl, as_multi, as_session, as_close, has_own_end, body_fields, body_content, body_in, txn_in}
+use Rattle.txn_codec.proofs.Closing.{closing_if_sound}
+use Rattle.txn_codec.proofs.Endings.{trailer_if_sound, in_buffer_sound, before_trailer, buffered}
+use Rattle.txn_codec.proofs.Spelled.{path_sound, last_sound, kind_sound, part_kind_sound, create_sound, create_at_end, set_data_sound, set_acl_sound, check_sound, header_sound}
 
 -- ---- operations
 
+created_sound : (k : TxnKind) → IsSound (created_operation int k)
+created_sound k = case_sound operations.Create as_create (create_with int k) (λ c. refl) (create_sound k)
+
 pub operation_sound : (k : TxnKind) → IsSound (operation_format int k)
-operation_sound kinds.Create = case_sound operations.Create as_create create_format (λ c. refl) create_sound
+operation_sound kinds.Create = created_sound kinds.Create
+operation_sound kinds.Create2 = created_sound kinds.Create2
+operation_sound kinds.CreateContainer = created_sound kinds.CreateContainer
+operation_sound kinds.CreateTtl = created_sound kinds.CreateTtl
 operation_sound kinds.Delete = case_sound operations.Delete as_delete child_path (λ p. refl) (path_sound is_child_path)
 operation_sound kinds.SetData = case_sound operations.SetData as_set_data set_data (λ s. refl) set_data_sound
 operation_sound kinds.Check = case_sound operations.Check as_check check_format (λ c. refl) check_sound
@@ -30,23 +45,48 @@ operation_sound kinds.Multi = refusal_sound BadTxnType
 operation_sound kinds.CreateSession = refusal_sound BadTxnType
 operation_sound kinds.CloseSession = refusal_sound BadTxnType
 
-operation_at_end : (k : TxnKind) → IsSoundAtEnd (operation_format int_or_end k)
-operation_at_end kinds.Create =
-    case_at_end operations.Create as_create (create_with int_or_end) (λ c. refl) create_at_end
-operation_at_end kinds.Delete = sound_at_end _ (operation_sound kinds.Delete)
-operation_at_end kinds.SetData = sound_at_end _ (operation_sound kinds.SetData)
-operation_at_end kinds.Check = sound_at_end _ (operation_sound kinds.Check)
-operation_at_end kinds.Error = sound_at_end _ (operation_sound kinds.Error)
-operation_at_end kinds.SetAcl = sound_at_end _ (operation_sound kinds.SetAcl)
-operation_at_end kinds.Multi = sound_at_end _ (operation_sound kinds.Multi)
-operation_at_end kinds.CreateSession = sound_at_end _ (operation_sound kinds.CreateSession)
-operation_at_end kinds.CloseSession = sound_at_end _ (operation_sound kinds.CloseSession)
+flag_tells : (b : Bool) → create_kind (owner_if b) false ≡ kinds.Create
+flag_tells true = refl
+flag_tells false = refl
+
+flag_tells_later : (b : Bool) → create_kind (owner_if b) true ≡ kinds.Create2
+flag_tells_later true = refl
+flag_tells_later false = refl
+
+-- The owner that is spelled after a type is one of that type.
+owner_tells : (last : Format ℤ) (k : TxnKind) (v : Owner × ℤ) (text : List ℕ) → (owner_format last k).Spells v text
+    → create_kind v.0 (shows_stat k) ≡ k
+owner_tells last kinds.Create v text s =
+    ap (λ (w : Owner × ℤ). create_kind w.0 false) (sym (ok_is (owner_if s.0.0, s.0.1) v s.1)) ∙ flag_tells s.0.0
+owner_tells last kinds.Create2 v text s =
+    ap (λ (w : Owner × ℤ). create_kind w.0 true) (sym (ok_is (owner_if s.0.0, s.0.1) v s.1)) ∙ flag_tells_later s.0.0
+owner_tells last kinds.CreateContainer v text s =
+    ap (λ (w : Owner × ℤ). create_kind w.0 true) (sym (ok_is _ v s.1))
+owner_tells last kinds.CreateTtl v text s = ap (λ (w : Owner × ℤ). create_kind w.0 true) (sym (ok_is _ v s.1))
+owner_tells last kinds.Delete v text s = absurd s
+owner_tells last kinds.SetData v text s = absurd s
+owner_tells last kinds.SetAcl v text s = absurd s
+owner_tells last kinds.Check v text s = absurd s
+owner_tells last kinds.Multi v text s = absurd s
+owner_tells last kinds.CreateSession v text s = absurd s
+owner_tells last kinds.CloseSession v text s = absurd s
+owner_tells last kinds.Error v text s = absurd s
+
+created_tells : (last : Format ℤ) (k : TxnKind) (o : Operation) (text : List ℕ) → (created_operation last k).Spells o text
+    → operation_kind o ≡ k
+created_tells last k o text s =
+    ap operation_kind (sym (ok_is (operations.Create s.0) o s.1))
+    ∙ ap (λ (c : Create). create_kind c.owner c.asks_stat) (sym (ok_is _ s.0 s.2.1))
+    ∙ owner_tells last k s.2.0.1.1.1 s.2.2.4.4.1 s.2.2.4.4.4
 
 -- An operation that is spelled after a type is of that type.
 operation_tells : (last : Format ℤ) (k : TxnKind) (o : Operation) (text : List ℕ)
     → (operation_format last k).Spells o text
     → operation_kind o ≡ k
-operation_tells last kinds.Create o text s = ap operation_kind (sym (ok_is (operations.Create s.0) o s.1))
+operation_tells last kinds.Create o text s = created_tells last kinds.Create o text s
+operation_tells last kinds.Create2 o text s = created_tells last kinds.Create2 o text s
+operation_tells last kinds.CreateContainer o text s = created_tells last kinds.CreateContainer o text s
+operation_tells last kinds.CreateTtl o text s = created_tells last kinds.CreateTtl o text s
 operation_tells last kinds.Delete o text s = ap operation_kind (sym (ok_is (operations.Delete s.0) o s.1))
 operation_tells last kinds.SetData o text s = ap operation_kind (sym (ok_is (operations.SetData s.0) o s.1))
 operation_tells last kinds.Check o text s = ap operation_kind (sym (ok_is (operations.Check s.0) o s.1))
@@ -58,59 +98,111 @@ operation_tells last kinds.CloseSession o text s = absurd s
 
 -- ---- parts
 
-pub part_sound : IsSound multi_part
-part_sound =
-    tagged_sound part_kind operation_kind (λ k. held_in_buffer (operation_format int k))
-    (λ k o text s. operation_tells int k o s.0 s.1)
-    part_kind_sound
-    (λ k. held_sound (operation_format int k) (operation_sound k))
+part_tells : (reads : Reads) (k : TxnKind) (o : Operation) (text : List ℕ) → (part_content reads k).Spells o text
+    → operation_kind o ≡ k
+part_tells reads k o text s =
+    let held = buffered (is_lenient reads k) (operation_format int k) o text s in
+    operation_tells int k o held.0 held.1
 
-pub parts_sound : IsSound multi_parts
-parts_sound = null_vector_sound multi_part part_sound
+pub part_sound : (reads : Reads) → IsSound (part_format_in reads)
+part_sound reads =
+    tagged_sound (part_kind_in reads) operation_kind (part_content reads) (part_tells reads) (part_kind_sound reads)
+    (λ k. in_buffer_sound (operation_format int k) (operation_sound k) (is_lenient reads k))
+
+pub parts_sound : (reads : Reads) → IsSound (parts_format_in reads)
+parts_sound reads = null_vector_sound (part_format_in reads) (part_sound reads)
 
 -- ---- bodies
 
-content_at_end : (k : TxnKind) → IsSoundAtEnd (body_content k)
-content_at_end kinds.Create =
-    case_at_end bodies.Single as_single (operation_format int_or_end kinds.Create) (λ o. refl)
-    (operation_at_end kinds.Create)
-content_at_end kinds.Delete =
-    case_at_end bodies.Single as_single (operation_format int_or_end kinds.Delete) (λ o. refl)
-    (operation_at_end kinds.Delete)
-content_at_end kinds.SetData = case_at_end bodies.Single as_single (operation_format int_or_end kinds.SetData)
-    (λ o. refl)
-    (operation_at_end kinds.SetData)
-content_at_end kinds.Check =
-    case_at_end bodies.Single as_single (operation_format int_or_end kinds.Check) (λ o. refl)
-    (operation_at_end kinds.Check)
-content_at_end kinds.Error =
-    case_at_end bodies.Single as_single (operation_format int_or_end kinds.Error) (λ o. refl)
-    (operation_at_end kinds.Error)
-content_at_end kinds.SetAcl = sound_at_end _ (case_sound bodies.SetAcl as_set_acl set_acl (λ s. refl) set_acl_sound)
-content_at_end kinds.Multi = sound_at_end _ (case_sound bodies.Multi as_multi multi_parts (λ ps. refl) parts_sound)
-content_at_end kinds.CreateSession =
-    sound_at_end _ (case_sound bodies.CreateSession as_session int (λ z. refl) int_sound)
-content_at_end kinds.CloseSession =
-    case_at_end (λ none. bodies.CloseSession) as_close empty_format (λ none. refl) empty_at_end
+module _ (reads : Reads) where
+  trailed : (are_read : Bool) (f : Format Body) → IsSound f → IsSoundAtEnd (with_trailer_if (are_read && true) f)
+  trailed true f s = trailer_if_sound f s true
+  trailed false f s = sound_at_end f s
 
-single_tells : (k : TxnKind) (o : Operation) (b : Body) (text : List ℕ) → bodies.Single o ≡ b
-    → (operation_format int_or_end k).Spells o text → body_kind b ≡ k
-single_tells k o b text is s = ap body_kind (sym is) ∙ operation_tells int_or_end k o text s
+  untrailed : (are_read : Bool) (f : Format Body) → IsSoundAtEnd f
+      → IsSoundAtEnd (with_trailer_if (are_read && false) f)
+  untrailed true f s = s
+  untrailed false f s = s
 
--- A body that is spelled after a type is of that type.
-content_tells : (k : TxnKind) (b : Body) (text : List ℕ) → (body_content k).Spells b text → body_kind b ≡ k
-content_tells kinds.Create b text s = single_tells kinds.Create s.0 b text (ok_is (bodies.Single s.0) b s.1) s.2
-content_tells kinds.Delete b text s = single_tells kinds.Delete s.0 b text (ok_is (bodies.Single s.0) b s.1) s.2
-content_tells kinds.SetData b text s = single_tells kinds.SetData s.0 b text (ok_is (bodies.Single s.0) b s.1) s.2
-content_tells kinds.Check b text s = single_tells kinds.Check s.0 b text (ok_is (bodies.Single s.0) b s.1) s.2
-content_tells kinds.Error b text s = single_tells kinds.Error s.0 b text (ok_is (bodies.Single s.0) b s.1) s.2
-content_tells kinds.SetAcl b text s = ap body_kind (sym (ok_is (bodies.SetAcl s.0) b s.1))
-content_tells kinds.Multi b text s = ap body_kind (sym (ok_is (bodies.Multi s.0) b s.1))
-content_tells kinds.CreateSession b text s = ap body_kind (sym (ok_is (bodies.CreateSession s.0) b s.1))
-content_tells kinds.CloseSession b text s = ap body_kind (sym (ok_is bodies.CloseSession b s.1))
+  content_at_end : (k : TxnKind) → IsSoundAtEnd (body_content reads k)
+  content_at_end kinds.Create =
+      untrailed reads.trailer (body_fields reads kinds.Create)
+      (case_at_end bodies.Single as_single (operation_format (last_field reads Alone) kinds.Create) (λ o. refl)
+      (case_at_end operations.Create as_create (create_with (last_field reads Alone) kinds.Create) (λ c. refl)
+      (create_at_end (last_field reads Alone) (last_sound reads.trailer))))
+  content_at_end kinds.Create2 =
+      trailed reads.trailer (body_fields reads kinds.Create2)
+      (case_sound bodies.Single as_single (operation_format (last_field reads Alone) kinds.Create2) (λ o. refl)
+      (operation_sound kinds.Create2))
+  content_at_end kinds.CreateContainer =
+      trailed reads.trailer (body_fields reads kinds.CreateContainer)
+      (case_sound bodies.Single as_single (operation_format (last_field reads Alone) kinds.CreateContainer) (λ o. refl)
+      (operation_sound kinds.CreateContainer))
+  content_at_end kinds.CreateTtl =
+      trailed reads.trailer (body_fields reads kinds.CreateTtl)
+      (case_sound bodies.Single as_single (operation_format (last_field reads Alone) kinds.CreateTtl) (λ o. refl)
+      (operation_sound kinds.CreateTtl))
+  content_at_end kinds.Delete =
+      trailed reads.trailer (body_fields reads kinds.Delete)
+      (case_sound bodies.Single as_single (operation_format (last_field reads Alone) kinds.Delete) (λ o. refl)
+      (operation_sound kinds.Delete))
+  content_at_end kinds.SetData =
+      trailed reads.trailer (body_fields reads kinds.SetData)
+      (case_sound bodies.Single as_single (operation_format (last_field reads Alone) kinds.SetData) (λ o. refl)
+      (operation_sound kinds.SetData))
+  content_at_end kinds.Check =
+      trailed reads.trailer (body_fields reads kinds.Check)
+      (case_sound bodies.Single as_single (operation_format (last_field reads Alone) kinds.Check) (λ o. refl)
+      (operation_sound kinds.Check))
+  content_at_end kinds.Error =
+      trailed reads.trailer (body_fields reads kinds.Error)
+      (case_sound bodies.Single as_single (operation_format (last_field reads Alone) kinds.Error) (λ o. refl)
+      (operation_sound kinds.Error))
+  content_at_end kinds.SetAcl =
+      trailed reads.trailer (body_fields reads kinds.SetAcl)
+      (case_sound bodies.SetAcl as_set_acl set_acl (λ s. refl) set_acl_sound)
+  content_at_end kinds.Multi =
+      trailed reads.trailer (body_fields reads kinds.Multi)
+      (case_sound bodies.Multi as_multi (parts_format_in reads) (λ ps. refl) (parts_sound reads))
+  content_at_end kinds.CreateSession =
+      trailed reads.trailer (body_fields reads kinds.CreateSession)
+      (case_sound bodies.CreateSession as_session int (λ z. refl) int_sound)
+  content_at_end kinds.CloseSession =
+      untrailed reads.trailer (body_fields reads kinds.CloseSession)
+      (case_at_end bodies.CloseSession as_close (closing_if reads.lists_paths) (λ listed. refl)
+      (closing_if_sound reads.lists_paths))
 
-pub body_at_end : IsSoundAtEnd body_format
-body_at_end = tagged_at_end kind_format body_kind body_content content_tells kind_sound content_at_end
+  single_tells : (k : TxnKind) (o : Operation) (b : Body) (text : List ℕ) → bodies.Single o ≡ b
+      → (operation_format (last_field reads Alone) k).Spells o text → body_kind b ≡ k
+  single_tells k o b text is s = ap body_kind (sym is) ∙ operation_tells (last_field reads Alone) k o text s
 
-pub txn_at_end : IsSoundAtEnd txn_format
-txn_at_end = mapped_at_end _ _ _ (λ v. refl) (λ t. refl) (both_at_end txn_header body_format header_sound body_at_end)
+  fields_tell : (k : TxnKind) (b : Body) (text : List ℕ) → (body_fields reads k).Spells b text → body_kind b ≡ k
+  fields_tell kinds.Create b text s = single_tells kinds.Create s.0 b text (ok_is (bodies.Single s.0) b s.1) s.2
+  fields_tell kinds.Create2 b text s = single_tells kinds.Create2 s.0 b text (ok_is (bodies.Single s.0) b s.1) s.2
+  fields_tell kinds.CreateContainer b text s =
+      single_tells kinds.CreateContainer s.0 b text (ok_is (bodies.Single s.0) b s.1) s.2
+  fields_tell kinds.CreateTtl b text s = single_tells kinds.CreateTtl s.0 b text (ok_is (bodies.Single s.0) b s.1) s.2
+  fields_tell kinds.Delete b text s = single_tells kinds.Delete s.0 b text (ok_is (bodies.Single s.0) b s.1) s.2
+  fields_tell kinds.SetData b text s = single_tells kinds.SetData s.0 b text (ok_is (bodies.Single s.0) b s.1) s.2
+  fields_tell kinds.Check b text s = single_tells kinds.Check s.0 b text (ok_is (bodies.Single s.0) b s.1) s.2
+  fields_tell kinds.Error b text s = single_tells kinds.Error s.0 b text (ok_is (bodies.Single s.0) b s.1) s.2
+  fields_tell kinds.SetAcl b text s = ap body_kind (sym (ok_is (bodies.SetAcl s.0) b s.1))
+  fields_tell kinds.Multi b text s = ap body_kind (sym (ok_is (bodies.Multi s.0) b s.1))
+  fields_tell kinds.CreateSession b text s = ap body_kind (sym (ok_is (bodies.CreateSession s.0) b s.1))
+  fields_tell kinds.CloseSession b text s = ap body_kind (sym (ok_is (bodies.CloseSession s.0) b s.1))
+
+  -- A body that is spelled after a type is of that type.
+  content_tells : (k : TxnKind) (b : Body) (text : List ℕ) → (body_content reads k).Spells b text → body_kind b ≡ k
+  content_tells k b text s =
+      let fields = before_trailer (reads.trailer && not (has_own_end k)) (body_fields reads k) b text s in
+      fields_tell k b fields.0 fields.1
+
+  pub body_at_end : IsSoundAtEnd (body_in reads)
+  body_at_end =
+      tagged_at_end (kind_format_in reads Alone) body_kind (body_content reads) content_tells (kind_sound reads Alone)
+      content_at_end
+
+pub txn_at_end : (dialect : Dialect) → IsSoundAtEnd (txn_in dialect)
+txn_at_end dialect = mapped_at_end _ _ _ (λ v. refl) (λ t. refl)
+    (both_at_end (header_in dialect) (body_in (reads_of dialect)) (header_sound dialect)
+    (body_at_end (reads_of dialect)))

@@ -1,19 +1,26 @@
 -- The fields and records of transactions are sound.
-use Rattle.std.proofs.Common.{◌≡◌, ℕ, Bool, true, false, cond, List, [], ◌∷◌, Option, Some, None, Ok, Err, refl, sym, ap, subst, ◌∙◌, arith, inl, inr}
+use Rattle.std.proofs.Common.{◌≡◌, ℕ, ◌≤◌, Bool, true, false, cond, List, [], ◌∷◌, length, Option, Some, None, Ok, Err, refl, sym, ap, subst, ◌∙◌, arith}
 use Rattle.std.specs.Prelude.{ℤ, negsuc, find}
 use Rattle.std.specs.Option.{ok_or}
 use Rattle.std.specs.Ordering.{int_eq}
 use Rattle.std.proofs.lemmas.Bool.Decides.{Decides-int_eq}
-use Rattle.values.specs.declared.fault.Fault.{Fault}
-use Rattle.values.specs.declared.fault.Fault.TheVariants.{BadPath, BadTxnType}
-use Rattle.jute.specs.Format.{int, long, boolean, buffer, text_format, vector_of, number_bytes}
-use Rattle.jute.specs.Laws.{IsBytes, TakesSpelling, IsSound, IsSoundAtEnd}
+use Rattle.values.specs.declared.fault.Fault.TheVariants.{Short, BadPath, BadTxnType}
+use Rattle.settings.specs.declared.dialect.Dialect.{Dialect}
+use Rattle.settings.specs.declared.dialect.Reads.{Reads}
+use Rattle.jute.specs.Format.{Format, int, long, boolean, buffer, text_format, vector_of, pair_of}
+use Rattle.jute.specs.Laws.{IsSound, IsSoundAtEnd}
 use Rattle.jute.specs.Owned.{acl_format}
-use Rattle.jute.proofs.Public.{ok_is, guard_ended, not_refused, sound_at_end, int_sound, long_sound, boolean_sound, buffer_sound, text_sound, acl_sound, both_sound, both_at_end, mapped_sound, mapped_at_end, judged_sound, vector_sound}
+use Rattle.jute.proofs.Public.{guard_ended, int_sound, long_sound, boolean_sound, buffer_sound, text_sound, acl_sound, both_sound, both_at_end, mapped_sound, case_sound, case_at_end, refusal_sound, judged_sound, judged_back_sound, vector_sound}
 use Rattle.txn_codec.specs.declared.kind.TxnKind.{TxnKind}
-use Rattle.txn_codec.specs.Kinds.{txn_kinds, kind_of, code_of, is_part_kind, part_kind_of}
+use Rattle.txn_codec.specs.declared.kind.TxnKind.TheVariants as kinds
+use Rattle.txn_codec.specs.declared.place.Place.{Place}
+use Rattle.txn_codec.specs.declared.place.Place.TheVariants.{Alone, Part}
+use Rattle.txn_codec.specs.Kinds.{txn_kinds, kind_of, later_kind_of, kind_at, code_of, is_part_kind, part_kind_of}
+use Rattle.txn_codec.specs.Endings.{or_end, with_trailer_if}
 use Rattle.txn_codec.specs.Paths.{is_path, is_child_path}
-use Rattle.txn_codec.specs.Spelling.{tested_text, path_by, path_format, child_path, last_at, int_or_end, kind_format, part_kind, create_with, create_format, set_data, set_acl, check_format, txn_header}
+use Rattle.txn_codec.specs.Fields.{tested_text, path_by, path_format, child_path}
+use Rattle.txn_codec.specs.Spelling.{kind_format_in, part_kind_in, owner_if, with_flag, flagged_owner, owner_format, fields_of, create_with, set_data, set_acl, check_format, header_of, header_numbers, header_in}
+use Rattle.txn_codec.proofs.Endings.{number_long, trailer_if_sound, last_at_end}
 
 -- ---- paths
 
@@ -30,42 +37,20 @@ path_sound test = judged_sound (tested_text test) (λ p. Some (Some p)) text_for
 
 -- ---- a number that may be missing
 
-last_takes : (bytes : List ℕ) (z : ℤ) (rest : List ℕ) → IsBytes bytes → last_at bytes ≡ Ok (z, rest)
-    → TakesSpelling int_or_end bytes z rest
-last_takes [] z rest fits e =
-    let made : TakesSpelling int_or_end [] (negsuc 0) [] =
-    record { text = []; parts = refl; spells = inr (refl, refl); rest_fits = fits } in
-    subst (λ (y : ℤ × List ℕ). TakesSpelling int_or_end [] y.0 y.1) (ok_is (negsuc 0, []) (z, rest) e) made
-last_takes (b ∷ bytes) z rest fits e =
-    let t = int_sound.lawful.takes (b ∷ bytes) z rest fits e in
-    record { text = t.text; parts = t.parts; spells = inl t.spells; rest_fits = t.rest_fits }
+minus_fits : int.Fits (negsuc 0)
+minus_fits = record { sfits = omega arith }
 
-last_again : (z : ℤ) (bytes : List ℕ) → int_or_end.Spells z bytes → last_at bytes ≡ Ok (z, [])
-unfolding number_bytes
-last_again z bytes (inl s) = ap last_at s.1 ∙ (sound_at_end int int_sound).again z (int.written z) (s.0, refl)
-last_again z bytes (inr s) = ap last_at s.1 ∙ rw s.0 refl
+short : (are_read : Bool) → (with_trailer_if are_read int).read [] ≡ Err Short
+short false = refl
+short true = refl
 
-last_refused : (bytes : List ℕ) (e : Fault) → IsBytes bytes → last_at bytes ≡ Err e → int_or_end.against e bytes
-last_refused [] e fits h = absurd (not_refused (negsuc 0, []) e h)
-last_refused (b ∷ bytes) e fits h = (int_sound.named.names (b ∷ bytes) e fits h, λ same. cc)
+trailed_fits : (are_read : Bool) → (with_trailer_if are_read int).Fits (negsuc 0)
+trailed_fits false = minus_fits
+trailed_fits true = minus_fits
 
-last_refuses : (bytes : List ℕ) (e : Fault) → int_or_end.against e bytes → last_at bytes ≡ Err e
-last_refuses [] e h = absurd (h.1 refl)
-last_refuses (b ∷ bytes) e h = int_sound.named.answers (b ∷ bytes) e h.0
-
-last_fits : (z : ℤ) (bytes : List ℕ) → int_or_end.Spells z bytes → int.Fits z
-last_fits z bytes (inl s) = s.0
-last_fits z bytes (inr s) = subst (λ (z : ℤ). int.Fits z) (sym s.0) (record { sfits = omega arith })
-
-pub last_at_end : IsSoundAtEnd int_or_end
-last_at_end = record {
-  takes = last_takes;
-  again = last_again;
-  writes = λ z h. inl (int_sound.lawful.writes z h);
-  named = record { names = last_refused; answers = last_refuses };
-  limited = last_fits;
-  writable = λ z h. tt;
-}
+pub last_sound : (are_read : Bool) → IsSoundAtEnd (or_end (with_trailer_if are_read int))
+last_sound are_read = last_at_end (with_trailer_if are_read int) (trailer_if_sound int int_sound are_read)
+    (trailed_fits are_read) (short are_read)
 
 -- ---- types
 
@@ -84,38 +69,112 @@ code_found z (j ∷ ks) k e =
     code_step (int_eq z (code_of j)) z j k (find (λ i. int_eq z (code_of i)) ks) (Decides-int_eq z (code_of j)).0
     (code_found z ks k) e
 
-pub kind_sound : IsSound kind_format
-kind_sound = judged_sound kind_of (λ k. Some (code_of k)) int
-    (λ z k e. ap (λ (c : ℤ). Some c) (sym (code_found z txn_kinds k e))) int_sound
+code_fits : (k : TxnKind) → int.Fits (code_of k)
+code_fits kinds.Create = record { sfits = omega arith }
+code_fits kinds.Delete = record { sfits = omega arith }
+code_fits kinds.SetData = record { sfits = omega arith }
+code_fits kinds.SetAcl = record { sfits = omega arith }
+code_fits kinds.Check = record { sfits = omega arith }
+code_fits kinds.Multi = record { sfits = omega arith }
+code_fits kinds.Create2 = record { sfits = omega arith }
+code_fits kinds.CreateContainer = record { sfits = omega arith }
+code_fits kinds.CreateTtl = record { sfits = omega arith }
+code_fits kinds.CreateSession = record { sfits = omega arith }
+code_fits kinds.CloseSession = record { sfits = omega arith }
+code_fits kinds.Error = record { sfits = omega arith }
+
+-- A type is read again from its code.
+later_again : (place : Place) (k : TxnKind) → later_kind_of place (code_of k) ≡ Ok k
+later_again Alone kinds.Create = refl
+later_again Alone kinds.Delete = refl
+later_again Alone kinds.SetData = refl
+later_again Alone kinds.SetAcl = refl
+later_again Alone kinds.Check = refl
+later_again Alone kinds.Multi = refl
+later_again Alone kinds.Create2 = refl
+later_again Alone kinds.CreateContainer = refl
+later_again Alone kinds.CreateTtl = refl
+later_again Alone kinds.CreateSession = refl
+later_again Alone kinds.CloseSession = refl
+later_again Alone kinds.Error = refl
+later_again Part kinds.Create = refl
+later_again Part kinds.Delete = refl
+later_again Part kinds.SetData = refl
+later_again Part kinds.SetAcl = refl
+later_again Part kinds.Check = refl
+later_again Part kinds.Multi = refl
+later_again Part kinds.Create2 = refl
+later_again Part kinds.CreateContainer = refl
+later_again Part kinds.CreateTtl = refl
+later_again Part kinds.CreateSession = refl
+later_again Part kinds.CloseSession = refl
+later_again Part kinds.Error = refl
+
+kind_again : (are_extended : Bool) (place : Place) (z : ℤ) (k : TxnKind)
+    → cond are_extended (later_kind_of place z) (kind_of z) ≡ Ok k
+    → cond are_extended (later_kind_of place (code_of k)) (kind_of (code_of k)) ≡ Ok k
+kind_again true place z k e = later_again place k
+kind_again false place z k e = subst (λ (c : ℤ). kind_of c ≡ Ok k) (code_found z txn_kinds k e) e
+
+same_length : (y z : ℤ) → length (int.written y) ≤ length (int.written z)
+same_length y z = omega (arith, number_long y, number_long z)
+
+pub kind_sound : (reads : Reads) (place : Place) → IsSound (kind_format_in reads place)
+kind_sound reads place = judged_back_sound (kind_at reads place) (λ k. Some (code_of k)) int
+    (λ z k e. (kind_again reads.extended_types place z k e, λ h. code_fits k, same_length (code_of k) z)) int_sound
 
 part_is : (k j : TxnKind) → part_kind_of k ≡ Ok j → k ≡ j
 part_is k j e = (guard_ended (is_part_kind k) BadTxnType k j e).1
 
-pub part_kind_sound : IsSound part_kind
-part_kind_sound =
-    judged_sound part_kind_of (λ k. Some k) kind_format (λ k j e. ap (λ (x : TxnKind). Some x) (sym (part_is k j e)))
-    kind_sound
+pub part_kind_sound : (reads : Reads) → IsSound (part_kind_in reads)
+part_kind_sound reads =
+    judged_sound part_kind_of (λ k. Some k) (kind_format_in reads Part)
+    (λ k j e. ap (λ (x : TxnKind). Some x) (sym (part_is k j e))) (kind_sound reads Part)
 
 -- ---- records
 
 acls_sound : IsSound (vector_of acl_format)
 acls_sound = vector_sound acl_format acl_sound
 
-pub create_sound : IsSound create_format
-create_sound =
-    mapped_sound _ _ _ (λ v. refl) (λ c. refl)
+flag_back : (b : Bool) (z : ℤ) → with_flag (owner_if b) z ≡ Some (b, z)
+flag_back true z = refl
+flag_back false z = refl
+
+flagged_sound : IsSound (flagged_owner int)
+flagged_sound = case_sound _ _ (pair_of boolean int) (λ v. flag_back v.0 v.1)
+    (both_sound boolean int boolean_sound int_sound)
+
+flagged_at_end : (last : Format ℤ) → IsSoundAtEnd last → IsSoundAtEnd (flagged_owner last)
+flagged_at_end last s = case_at_end _ _ (pair_of boolean last) (λ v. flag_back v.0 v.1)
+    (both_at_end boolean last boolean_sound s)
+
+owner_sound : (k : TxnKind) → IsSound (owner_format int k)
+owner_sound kinds.Create = flagged_sound
+owner_sound kinds.Delete = refusal_sound BadTxnType
+owner_sound kinds.SetData = refusal_sound BadTxnType
+owner_sound kinds.SetAcl = refusal_sound BadTxnType
+owner_sound kinds.Check = refusal_sound BadTxnType
+owner_sound kinds.Multi = refusal_sound BadTxnType
+owner_sound kinds.Create2 = flagged_sound
+owner_sound kinds.CreateContainer = case_sound _ _ int (λ z. refl) int_sound
+owner_sound kinds.CreateTtl = case_sound _ _ (pair_of int long) (λ v. refl) (both_sound int long int_sound long_sound)
+owner_sound kinds.CreateSession = refusal_sound BadTxnType
+owner_sound kinds.CloseSession = refusal_sound BadTxnType
+owner_sound kinds.Error = refusal_sound BadTxnType
+
+pub create_sound : (k : TxnKind) → IsSound (create_with int k)
+create_sound k =
+    case_sound _ fields_of _ (λ v. refl)
     (both_sound child_path _ (path_sound is_child_path)
     (both_sound buffer _ buffer_sound
-    (both_sound (vector_of acl_format) _ acls_sound
-    (both_sound boolean int boolean_sound int_sound))))
+    (both_sound (vector_of acl_format) (owner_format int k) acls_sound (owner_sound k))))
 
-pub create_at_end : IsSoundAtEnd (create_with int_or_end)
-create_at_end =
-    mapped_at_end _ _ _ (λ v. refl) (λ c. refl)
+pub create_at_end : (last : Format ℤ) → IsSoundAtEnd last → IsSoundAtEnd (create_with last kinds.Create)
+create_at_end last s =
+    case_at_end _ fields_of _ (λ v. refl)
     (both_at_end child_path _ (path_sound is_child_path)
     (both_at_end buffer _ buffer_sound
-    (both_at_end (vector_of acl_format) _ acls_sound
-    (both_at_end boolean int_or_end boolean_sound last_at_end))))
+    (both_at_end (vector_of acl_format) (flagged_owner last) acls_sound (flagged_at_end last s))))
 
 pub set_data_sound : IsSound set_data
 set_data_sound = mapped_sound _ _ _ (λ v. refl) (λ s. refl)
@@ -128,6 +187,6 @@ set_acl_sound = mapped_sound _ _ _ (λ v. refl) (λ s. refl)
 pub check_sound : IsSound check_format
 check_sound = mapped_sound _ _ _ (λ v. refl) (λ c. refl) (both_sound path_format int (path_sound is_path) int_sound)
 
-pub header_sound : IsSound txn_header
-header_sound = mapped_sound _ _ _ (λ v. refl) (λ h. refl)
+pub header_sound : (rules : Dialect) → IsSound (header_in rules)
+header_sound rules = case_sound (header_of rules) header_numbers _ (λ v. refl)
     (both_sound long _ long_sound (both_sound int _ int_sound (both_sound long long long_sound long_sound)))

@@ -1,11 +1,16 @@
 -- The codes of the types of transactions (the operation codes of ZooDefs.OpCode).
-use Rattle.std.specs.Prelude.{ℤ, pos, negsuc, Bool, true, false, List, [], ◌∷◌, Result, Ok, Err, find, if◌then◌else◌}
+use Rattle.std.specs.Prelude.{ℤ, pos, negsuc, Bool, true, false, List, [], ◌∷◌, Option, Some, None, Result, Ok, Err, find, if◌then◌else◌}
 use Rattle.std.specs.Option.{ok_or}
 use Rattle.std.specs.Ordering.{int_eq}
 use Rattle.values.specs.declared.fault.Fault.{Fault}
 use Rattle.values.specs.declared.fault.Fault.TheVariants.{BadTxnType}
+use Rattle.settings.specs.declared.dialect.Reads.{Reads}
 use Rattle.txn_codec.specs.declared.kind.TxnKind.{TxnKind}
 use Rattle.txn_codec.specs.declared.kind.TxnKind.TheVariants as kinds
+use Rattle.txn_codec.specs.declared.place.Place.{Place}
+use Rattle.txn_codec.specs.declared.place.Place.TheVariants.{Alone, Part}
+use Rattle.txn_codec.specs.declared.txn.Owner.{Owner}
+use Rattle.txn_codec.specs.declared.txn.Owner.TheVariants.{Nobody, Client, Container, Ttl}
 use Rattle.txn_codec.specs.declared.txn.Operation.{Operation}
 use Rattle.txn_codec.specs.declared.txn.Operation.TheVariants as operations
 use Rattle.txn_codec.specs.declared.txn.Body.{Body}
@@ -18,10 +23,14 @@ code_of kinds.SetData = pos 5
 code_of kinds.SetAcl = pos 7
 code_of kinds.Check = pos 13
 code_of kinds.Multi = pos 14
+code_of kinds.Create2 = pos 15
+code_of kinds.CreateContainer = pos 19
+code_of kinds.CreateTtl = pos 21
 code_of kinds.CreateSession = negsuc 9
 code_of kinds.CloseSession = negsuc 10
 code_of kinds.Error = negsuc 0
 
+-- Those of ZooKeeper 3.4.
 abbrev pub txn_kinds : List TxnKind
 txn_kinds = kinds.Create ∷ kinds.Delete ∷ kinds.SetData ∷ kinds.SetAcl ∷ kinds.Check ∷ kinds.Multi ∷ kinds.CreateSession
     ∷ kinds.CloseSession ∷ kinds.Error ∷ []
@@ -30,8 +39,36 @@ txn_kinds = kinds.Create ∷ kinds.Delete ∷ kinds.SetData ∷ kinds.SetAcl ∷
 abbrev pub kind_of : ℤ → Result TxnKind Fault
 kind_of code = ok_or (find (λ k. int_eq code (code_of k)) txn_kinds) BadTxnType
 
+-- What later releases have besides, each by its code: the leader deletes a container, and a node whose time is over.
+abbrev pub later_kinds : List (ℤ × TxnKind)
+later_kinds = (pos 15, kinds.Create2) ∷ (pos 19, kinds.CreateContainer) ∷ (pos 20, kinds.Delete)
+    ∷ (pos 21, kinds.CreateTtl) ∷ []
+
+-- A reconfig sets the data of the configuration's node. No part of a multi is one.
+abbrev pub kinds_at : Place → List (ℤ × TxnKind)
+kinds_at Alone = (pos 16, kinds.SetData) ∷ later_kinds
+kinds_at Part = later_kinds
+
+abbrev pub found_or_earlier : ℤ → Option (ℤ × TxnKind) → Result TxnKind Fault
+found_or_earlier code None = kind_of code
+found_or_earlier code (Some found) = Ok found.1
+
+abbrev pub later_kind_of : Place → ℤ → Result TxnKind Fault
+later_kind_of place code = found_or_earlier code (find (λ p. int_eq code p.0) (kinds_at place))
+
+-- The type with this code at this place, where these are read.
+abbrev pub kind_at : Reads → Place → ℤ → Result TxnKind Fault
+kind_at reads place code = if reads.extended_types then later_kind_of place code else kind_of code
+
+-- The type of a create, by the node's owner and by whether its reply shows the node's Stat.
+abbrev pub create_kind : Owner → Bool → TxnKind
+create_kind Nobody asks_stat = if asks_stat then kinds.Create2 else kinds.Create
+create_kind Client asks_stat = if asks_stat then kinds.Create2 else kinds.Create
+create_kind Container asks_stat = kinds.CreateContainer
+create_kind (Ttl milliseconds) asks_stat = kinds.CreateTtl
+
 abbrev pub operation_kind : Operation → TxnKind
-operation_kind (operations.Create c) = kinds.Create
+operation_kind (operations.Create c) = create_kind c.owner c.asks_stat
 operation_kind (operations.Delete p) = kinds.Delete
 operation_kind (operations.SetData s) = kinds.SetData
 operation_kind (operations.Check c) = kinds.Check
@@ -42,7 +79,7 @@ body_kind (bodies.Single o) = operation_kind o
 body_kind (bodies.SetAcl s) = kinds.SetAcl
 body_kind (bodies.Multi ps) = kinds.Multi
 body_kind (bodies.CreateSession timeout) = kinds.CreateSession
-body_kind bodies.CloseSession = kinds.CloseSession
+body_kind (bodies.CloseSession listed) = kinds.CloseSession
 
 -- Whether a part of a multi may have this type.
 abbrev pub is_part_kind : TxnKind → Bool
@@ -51,6 +88,9 @@ is_part_kind kinds.Delete = true
 is_part_kind kinds.SetData = true
 is_part_kind kinds.Check = true
 is_part_kind kinds.Error = true
+is_part_kind kinds.Create2 = true
+is_part_kind kinds.CreateContainer = true
+is_part_kind kinds.CreateTtl = true
 is_part_kind kinds.SetAcl = false
 is_part_kind kinds.Multi = false
 is_part_kind kinds.CreateSession = false

@@ -1,7 +1,10 @@
 pub mod Acls
 pub mod Paths
 pub mod Kinds
+pub mod Fields
+pub mod Endings
 pub mod Spelling
 pub mod Parents
 pub mod Row
 pub mod Refusals
+pub mod Inner

@@ -20,4 +20,4 @@ HaveParents (bodies.Single o) = HasParent o
 HaveParents (bodies.SetAcl s) = Unit {0}
 HaveParents (bodies.Multi ps) = All HasParent ps
 HaveParents (bodies.CreateSession timeout) = Unit {0}
-HaveParents bodies.CloseSession = Unit {0}
+HaveParents (bodies.CloseSession listed) = All (λ path. IsTrue (is_child_path path)) listed

@@ -43,7 +43,7 @@ footprint_of_body (bodies.Single operation) = footprint_of_operation operation
 footprint_of_body (bodies.SetAcl s) = s.path ∷ []
 footprint_of_body (bodies.Multi parts) = if has_error parts then [] else footprint_of_parts parts
 footprint_of_body (bodies.CreateSession timeout) = []
-footprint_of_body bodies.CloseSession = []
+footprint_of_body (bodies.CloseSession listed) = []
 
 -- ---- the data that it brings, in bytes
 
@@ -63,7 +63,7 @@ data_len_of_body (bodies.Single operation) = data_len_of_operation operation
 data_len_of_body (bodies.SetAcl s) = 0
 data_len_of_body (bodies.Multi parts) = data_len_of_parts parts
 data_len_of_body (bodies.CreateSession timeout) = 0
-data_len_of_body bodies.CloseSession = 0
+data_len_of_body (bodies.CloseSession listed) = 0
 
 -- ---- the path that its reply shows, or whose node it shows
 
@@ -79,14 +79,14 @@ shown_path_of_body (bodies.Single operation) = shown_path_of_operation operation
 shown_path_of_body (bodies.SetAcl s) = Some s.path
 shown_path_of_body (bodies.Multi parts) = None
 shown_path_of_body (bodies.CreateSession timeout) = None
-shown_path_of_body bodies.CloseSession = None
+shown_path_of_body (bodies.CloseSession listed) = None
 
 -- ---- what it does to sessions
 
 -- What becomes of the session of its header.
 abbrev pub session_change : Body → SessionChange
 session_change (bodies.CreateSession timeout) = Begins timeout
-session_change bodies.CloseSession = Ends
+session_change (bodies.CloseSession listed) = Ends
 session_change (bodies.Single operation) = Nothing
 session_change (bodies.SetAcl s) = Nothing
 session_change (bodies.Multi parts) = Nothing

@@ -1,6 +1,6 @@
 //! Access control lists.
 
-ghost use Rattle.std.specs.Prelude.{◌≡◌, ◌≢◌, ◌↔◌, IfOk, IfSome, IfNone, IsTrue, codes};
+ghost use Rattle.std.specs.Prelude.{◌≡◌, ◌≢◌, ◌↔◌, ◌==◌, length, IfOk, IfSome, IfNone, IsTrue, codes};
 ghost use Rattle.jute.specs.Codes.{open_acl};
 ghost use Rattle.txn_codec.specs.Acls.{acl_or_open};
 
@@ -92,6 +92,16 @@ impl AclList {
         Ok(AclList {
             entries: Some(entries.clone()?),
         })
+    }
+
+    /// Whether it has no entry, and grants nothing.
+    pub fn is_empty(&self) -> bool
+        ensures { result ≡ (length self.now == 0) }
+    {
+        match &self.entries {
+            None => return false,
+            Some(entries) => entries.as_slice().is_empty(),
+        }
     }
 
     /// The entries, unless the list is the open one.

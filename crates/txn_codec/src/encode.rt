@@ -1,12 +1,18 @@
 //! Writing transactions.
 
-ghost use Rattle.std.specs.Prelude.{◌≡◌, ◌<◌, ◌^◌, length};
+ghost use Rattle.std.specs.Prelude.{◌≡◌, ◌<◌, ◌^◌, length, Some};
 ghost use Rattle.values.specs.Gains.{Puts};
+ghost use Rattle.jute.specs.Format.{buffer, vector_of};
+ghost use Rattle.jute.specs.Owned.{acl_format};
 ghost use Rattle.jute.specs.Sums.{held_in_buffer};
+ghost use Rattle.txn_codec.specs.Fields.{child_path};
+ghost use Rattle.txn_codec.specs.Endings.{closing_bytes};
+ghost use Rattle.txn_codec.specs.Inner.{owner_bytes, create_bytes};
 ghost use Rattle.txn_codec.specs.Spelling.{create_format, set_data as set_data_format, set_acl as set_acl_format, check_format, txn_header as header_format, kind_format, format_of_operation, multi_part as part_format, multi_parts as parts_format, format_of_body, txn_format};
 
 use crate::kind::TxnKind;
-use crate::txn::{Body, Check, Create, Operation, SetAcl, SetData, Txn, TxnHeader};
+use crate::path::Path;
+use crate::txn::{Body, Check, Create, Operation, Owner, SetAcl, SetData, Txn, TxnHeader};
 use jute::{
     WriteRecord, blob_len, items_len, put_blob, put_bool, put_int, put_items, put_string,
     put_vector, vector_len,
@@ -29,20 +35,79 @@ impl WriteRecord for TxnHeader {
     }
 }
 
+// The length in bytes of what a create has after its list.
+#[tactic(auto, unfolding(jute::specs::Format::number_bytes))]
+fn owner_len(create: &Create) -> usize
+    ensures { result ≡ length (owner_bytes create.now.owner create.now.parent_cversion) }
+{
+    match create.owner {
+        Owner::Nobody | Owner::Client => 5,
+        Owner::Container => 4,
+        Owner::Ttl(_) => 12,
+    }
+}
+
+// Appends what a create has after its list.
+fn put_owner(out: &mut Vec<u8>, create: &Create) -> Result<(), NoMemory>
+    ensures { Puts result out.old.items (owner_bytes create.now.owner create.now.parent_cversion) out.new.items }
+{
+    match create.owner {
+        Owner::Nobody => {
+            put_bool(out, false)?;
+            create.parent_cversion.write(out)
+        }
+        Owner::Client => {
+            put_bool(out, true)?;
+            create.parent_cversion.write(out)
+        }
+        Owner::Container => create.parent_cversion.write(out),
+        Owner::Ttl(milliseconds) => {
+            create.parent_cversion.write(out)?;
+            milliseconds.write(out)
+        }
+    }
+}
+
+// The length in bytes of a create.
+#[tactic(auto, unfolding(jute::specs::Format::number_bytes))]
+fn create_len(create: &Create) -> usize
+    requires path { length create.now.path < 2 ^ 31 }
+    requires data { buffer.Writable create.now.bytes }
+    requires list { (vector_of acl_format).Writable create.now.acl }
+    requires small { length (create_bytes create.now) < 2 ^ 63 }
+    ensures { result ≡ length (create_bytes create.now) }
+{
+    create.path.as_str().len()
+        + blob_len(&create.bytes)
+        + vector_len(&create.acl)
+        + 4
+        + owner_len(create)
+}
+
+// Appends a create.
+fn put_create(out: &mut Vec<u8>, create: &Create) -> Result<(), NoMemory>
+    requires path { length create.now.path < 2 ^ 31 }
+    requires data { buffer.Writable create.now.bytes }
+    requires list { (vector_of acl_format).Writable create.now.acl }
+    ensures { Puts result out.old.items (create_bytes create.now) out.new.items }
+{
+    put_string(out, create.path.as_str())?;
+    put_blob(out, &create.bytes)?;
+    put_vector(out, &create.acl)?;
+    put_owner(out, create)
+}
+
 impl WriteRecord for Create {
     ghost format = { create_format };
 
-    #[tactic(auto, unfolding(jute::specs::Format::number_bytes))]
+    #[tactic(auto, using(crate::proofs::Written::create_written))]
     fn written_len(&self) -> usize {
-        self.path.as_str().len() + blob_len(&self.bytes) + vector_len(&self.acl) + 9
+        create_len(self)
     }
 
+    #[tactic(auto, using(crate::proofs::Written::create_written))]
     fn write(&self, out: &mut Vec<u8>) -> Result<(), NoMemory> {
-        put_string(out, self.path.as_str())?;
-        put_blob(out, &self.bytes)?;
-        put_vector(out, &self.acl)?;
-        put_bool(out, self.ephemeral)?;
-        self.parent_cversion.write(out)
+        put_create(out, self)
     }
 }
 
@@ -91,14 +156,14 @@ impl WriteRecord for Check {
 }
 
 // The length in bytes of an operation after its type, or in a part's buffer.
-#[tactic(auto, unfolding(jute::specs::Format::number_bytes))]
+#[tactic(auto, using(crate::proofs::Written::created_written, crate::proofs::Written::created_writable), unfolding(jute::specs::Format::number_bytes))]
 fn operation_len(operation: &Operation) -> usize
     requires writable { (format_of_operation operation.now).Writable operation.now }
     requires small { length ((format_of_operation operation.now).written operation.now) < 2 ^ 63 }
     ensures { result ≡ length ((format_of_operation operation.now).written operation.now) }
 {
     match operation {
-        Operation::Create(create) => create.written_len(),
+        Operation::Create(create) => create_len(create),
         Operation::Delete(path) => path.as_str().len() + 4,
         Operation::SetData(set_data) => set_data.written_len(),
         Operation::Check(check) => check.written_len(),
@@ -107,13 +172,14 @@ fn operation_len(operation: &Operation) -> usize
 }
 
 // Appends an operation without its type.
+#[tactic(auto, using(crate::proofs::Written::created_written, crate::proofs::Written::created_writable))]
 fn put_operation(out: &mut Vec<u8>, operation: &Operation) -> Result<(), NoMemory>
     requires { (format_of_operation operation.now).Writable operation.now }
     ensures { Puts result out.old.items
         ((format_of_operation operation.now).written operation.now) out.new.items }
 {
     match operation {
-        Operation::Create(create) => create.write(out),
+        Operation::Create(create) => put_create(out, create),
         Operation::Delete(path) => put_string(out, path.as_str()),
         Operation::SetData(set_data) => set_data.write(out),
         Operation::Check(check) => check.write(out),
@@ -152,6 +218,46 @@ impl WriteRecord for Operation {
     }
 }
 
+impl WriteRecord for Path {
+    ghost format = { child_path };
+
+    #[tactic(auto, unfolding(jute::specs::Format::number_bytes))]
+    fn written_len(&self) -> usize {
+        4 + self.as_str().len()
+    }
+
+    fn write(&self, out: &mut Vec<u8>) -> Result<(), NoMemory> {
+        put_string(out, self.as_str())
+    }
+}
+
+// The length in bytes of the paths at the end of a session.
+#[tactic(auto, unfolding(jute::specs::Format::number_bytes))]
+fn closing_len(listed: &Listed<Path>) -> usize
+    requires writable { (vector_of child_path).Writable (Some listed.now) }
+    requires small { length (closing_bytes listed.now) < 2 ^ 63 }
+    ensures { result ≡ length (closing_bytes listed.now) }
+{
+    match listed.as_slice() {
+        [] => 0,
+        paths => 4 + items_len(paths),
+    }
+}
+
+// Appends the paths at the end of a session; nothing if there is none.
+fn put_closing(out: &mut Vec<u8>, listed: &Listed<Path>) -> Result<(), NoMemory>
+    requires { (vector_of child_path).Writable (Some listed.now) }
+    ensures { Puts result out.old.items (closing_bytes listed.now) out.new.items }
+{
+    match listed.as_slice() {
+        [] => return Ok(()),
+        paths => {
+            put_int(out, paths.len() as i32)?;
+            put_items(out, paths)
+        }
+    }
+}
+
 // The length in bytes of a transaction after its type.
 #[tactic(auto, unfolding(jute::specs::Format::number_bytes))]
 fn content_len(body: &Body) -> usize
@@ -164,7 +270,7 @@ fn content_len(body: &Body) -> usize
         Body::SetAcl(set_acl) => set_acl.written_len(),
         Body::Multi(parts) => 4 + items_len(parts.as_slice()),
         Body::CreateSession(_) => 4,
-        Body::CloseSession => 0,
+        Body::CloseSession(listed) => closing_len(listed),
     }
 }
 
@@ -187,7 +293,7 @@ fn put_content(out: &mut Vec<u8>, body: &Body) -> Result<(), NoMemory>
         Body::SetAcl(set_acl) => set_acl.write(out),
         Body::Multi(parts) => put_parts(out, parts),
         Body::CreateSession(timeout) => timeout.write(out),
-        Body::CloseSession => Ok(()),
+        Body::CloseSession(listed) => put_closing(out, listed),
     }
 }
 

@@ -1,6 +1,6 @@
 //! Checked paths.
 
-ghost use Rattle.std.specs.Prelude.{◌≡◌, List, ℕ, string_bytes, IsTrue, IfOk};
+ghost use Rattle.std.specs.Prelude.{◌≡◌, List, ℕ, string_bytes, IsTrue, IfOk, Some, None, if◌then◌else◌};
 ghost use Rattle.jute.specs.Reads.{ReadsOwnedWhole};
 ghost use Rattle.txn_codec.specs.Paths.{are_names, is_path, is_child_path, checked_path, checked_child_path, parent_of, name_of, child_of};
 
@@ -114,6 +114,18 @@ impl Path {
         Ok(Path {
             text: String::from_str(alloc, text)?,
         })
+    }
+
+    // The path, if the text is one other than "/".
+    pub(crate) fn if_child(alloc: Global, text: &str) -> Result<Option<Path>, NoMemory>
+        ensures { IfOk result (λ path. path ≡ (if is_child_path text.now then Some text.now else None)) }
+    {
+        if is_child_path(text.as_bytes()) {
+            return Ok(Some(Path {
+                text: String::from_str(alloc, text)?,
+            }));
+        }
+        Ok(None)
     }
 
     /// The whole path.

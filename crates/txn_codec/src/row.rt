@@ -138,7 +138,7 @@ impl Body {
                 }
                 add_parts(parts.as_slice(), paths)
             }
-            Body::CreateSession(_) | Body::CloseSession => Ok(()),
+            Body::CreateSession(_) | Body::CloseSession(_) => Ok(()),
         }
     }
 
@@ -149,7 +149,7 @@ impl Body {
         match self {
             Body::Single(operation) => operation.data_len(),
             Body::Multi(parts) => parts_len(parts.as_slice()),
-            Body::SetAcl(_) | Body::CreateSession(_) | Body::CloseSession => 0,
+            Body::SetAcl(_) | Body::CreateSession(_) | Body::CloseSession(_) => 0,
         }
     }
 
@@ -160,7 +160,7 @@ impl Body {
         match self {
             Body::Single(operation) => operation.shown_path(),
             Body::SetAcl(set_acl) => Some(set_acl.path.as_str()),
-            Body::Multi(_) | Body::CreateSession(_) | Body::CloseSession => None,
+            Body::Multi(_) | Body::CreateSession(_) | Body::CloseSession(_) => None,
         }
     }
 
@@ -170,7 +170,7 @@ impl Body {
     {
         match self {
             Body::CreateSession(timeout) => SessionChange::Begins(*timeout),
-            Body::CloseSession => SessionChange::Ends,
+            Body::CloseSession(_) => SessionChange::Ends,
             Body::Single(_) | Body::SetAcl(_) | Body::Multi(_) => SessionChange::Nothing,
         }
     }

@@ -1,11 +1,12 @@
 //! Transactions (the records of zookeeper.jute).
 
 ghost use Rattle.std.specs.Prelude.{◌≡◌};
-ghost use Rattle.txn_codec.specs.Kinds.{operation_kind, body_kind};
+ghost use Rattle.txn_codec.specs.Kinds.{create_kind, operation_kind, body_kind};
 
 use crate::kind::TxnKind;
 use crate::path::Path;
 use jute::Acl;
+use settings::Dialect;
 use std::alloc::AllocError;
 use values::{Blob, Listed};
 
@@ -20,16 +21,32 @@ pub struct TxnHeader {
     pub zxid: i64,
     /// The time at which the leader took the request, in milliseconds since 1970.
     pub time: i64,
+    /// The rules by which it is applied: those of the leader's dialect. No byte shows them.
+    pub rules: Dialect,
 }
 
-/// A node is created (CreateTxn; a CreateTxnV0 has no `parent_cversion`, which means -1).
+/// The owner of a created node.
+#[derive(Clone, Copy, Debug, PartialEq, Eq)]
+pub enum Owner {
+    Nobody,
+    /// The session of the transaction: the node is deleted with it.
+    Client,
+    /// The leader deletes the node once it has no children any more.
+    Container,
+    /// The leader deletes the node if it has no children and hasn't changed for so many milliseconds.
+    Ttl(i64),
+}
+
+/// A node is created (CreateTxn, CreateContainerTxn, CreateTTLTxn; a CreateTxnV0 has no `parent_cversion`, which means
+/// -1).
 #[derive(Clone, Debug, Drop)]
 pub struct Create {
     pub path: Path,
     pub bytes: Option<Blob>,
     pub acl: Option<Listed<Acl>>,
-    /// The node is deleted with the session that created it.
-    pub ephemeral: bool,
+    pub owner: Owner,
+    /// The reply shows the node's Stat. It does for a container and for a node with a time to live.
+    pub asks_stat: bool,
     /// The parent's cversion after the create; -1 counts it up by one.
     pub parent_cversion: i32,
 }
@@ -80,8 +97,8 @@ pub enum Body {
     Multi(Listed<Operation>),
     /// A session begins, with this timeout in milliseconds (CreateSessionTxn).
     CreateSession(i32),
-    /// The session of the header ends.
-    CloseSession,
+    /// The session of the header ends. Later leaders list the paths of its ephemeral nodes.
+    CloseSession(Listed<Path>),
 }
 
 /// A transaction: its header and its body.
@@ -91,13 +108,32 @@ pub struct Txn {
     pub body: Body,
 }
 
+impl Create {
+    /// Its type.
+    pub fn kind(&self) -> TxnKind
+        ensures { result ≡ create_kind self.now.owner self.now.asks_stat }
+    {
+        match self.owner {
+            Owner::Container => TxnKind::CreateContainer,
+            Owner::Ttl(_) => TxnKind::CreateTtl,
+            Owner::Nobody | Owner::Client => {
+                if self.asks_stat {
+                    TxnKind::Create2
+                } else {
+                    TxnKind::Create
+                }
+            }
+        }
+    }
+}
+
 impl Operation {
     /// Its type.
     pub fn kind(&self) -> TxnKind
         ensures { result ≡ operation_kind self.now }
     {
         match self {
-            Operation::Create(_) => TxnKind::Create,
+            Operation::Create(create) => create.kind(),
             Operation::Delete(_) => TxnKind::Delete,
             Operation::SetData(_) => TxnKind::SetData,
             Operation::Check(_) => TxnKind::Check,
@@ -116,7 +152,7 @@ impl Body {
             Body::SetAcl(_) => TxnKind::SetAcl,
             Body::Multi(_) => TxnKind::Multi,
             Body::CreateSession(_) => TxnKind::CreateSession,
-            Body::CloseSession => TxnKind::CloseSession,
+            Body::CloseSession(_) => TxnKind::CloseSession,
         }
     }
 }
@@ -144,7 +180,7 @@ impl Clone for Body {
             Body::SetAcl(set_acl) => Body::SetAcl(set_acl.clone()?),
             Body::Multi(parts) => Body::Multi(parts.clone()?),
             Body::CreateSession(timeout) => Body::CreateSession(*timeout),
-            Body::CloseSession => Body::CloseSession,
+            Body::CloseSession(listed) => Body::CloseSession(listed.clone()?),
         })
     }
 }

@@ -3,6 +3,8 @@
 #![tactic(auto)]
 
 #[cfg(test)]
+mod later_rows;
+#[cfg(test)]
 mod part_rows;
 #[cfg(test)]
 mod path_rows;

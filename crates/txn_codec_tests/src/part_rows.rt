@@ -6,7 +6,7 @@ use jute::codes::open_list;
 use jute::{Acl, ReadRecord, Reader, WriteRecord};
 use std::alloc::Global;
 use std::test::Fail;
-use txn_codec::{Check, Create, Path, SetAcl, SetData};
+use txn_codec::{Check, Create, Owner, Path, SetAcl, SetData};
 use values::{Blob, Listed, NoMemory, ReadError};
 
 // The version 4 of /a is compared.
@@ -100,7 +100,7 @@ fn set_acl_written(alloc: Global) -> Result<Vec<u8>, Fail> {
 fn is_create(alloc: Global, bytes: &[u8]) -> Result<bool, ReadError> {
     let mut reader = Reader::new(bytes);
     let create = Create::read(alloc, &mut reader)?;
-    let is_of_session = create.ephemeral && create.parent_cversion == 3;
+    let is_of_session = create.owner == Owner::Client && create.parent_cversion == 3;
     let is_whole = create.path.as_str() == "/a" && reader.rest().is_empty();
     let holds = is_x(alloc, &create.bytes)? && is_open(alloc, &create.acl)?;
     Ok(is_of_session && is_whole && holds)
@@ -112,7 +112,8 @@ fn create_written(alloc: Global) -> Result<Vec<u8>, Fail> {
         path: a_path(alloc)?,
         bytes: Some(Blob::new(alloc, b"x")?),
         acl: Some(open_list(alloc)?),
-        ephemeral: true,
+        owner: Owner::Client,
+        asks_stat: false,
         parent_cversion: 3,
     };
     let mut out = Vec::new(alloc);

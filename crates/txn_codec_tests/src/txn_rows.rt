@@ -1,10 +1,11 @@
 //! Transactions. A row has its name, the bytes, and what is expected of them; bytes are hexadecimal.
 
 use crate::rows::{bytes_of, row_of};
-use jute::{ReadRecord, Reader, WriteRecord};
+use jute::WriteRecord;
+use settings::Dialect;
 use std::alloc::Global;
 use std::test::Fail;
-use txn_codec::{Body, Operation, Txn, TxnHeader, TxnKind, decode_txn, encode_txn};
+use txn_codec::{Body, Operation, Owner, Txn, TxnHeader, TxnKind, decode_txn, encode_txn};
 use values::{Fault, ReadError};
 
 // Session 7, its request 1, zxid 0x100000001, at 1000.
@@ -126,19 +127,18 @@ fn txn_of(alloc: Global, bytes: &[u8]) -> Result<Txn, Fail> {
     Ok(decode_txn(alloc, bytes)?)
 }
 
-// The bytes written for the header at the front.
+// The bytes written for the header of a transaction.
 fn header_written_again(alloc: Global, bytes: &[u8]) -> Result<Vec<u8>, Fail> {
-    let mut reader = Reader::new(bytes);
-    let header = TxnHeader::read(alloc, &mut reader)?;
+    let txn = txn_of(alloc, bytes)?;
     let mut out = Vec::new(alloc);
-    header.write(&mut out)?;
+    txn.header.write(&mut out)?;
     Ok(out)
 }
 
 #[test]
 fn header_is_read_and_written(rt: HostRuntime) -> Result<(), Fail> {
     let bytes = bytes_of(rt.alloc(), HEADER)?;
-    let written = header_written_again(rt.alloc(), &bytes)?;
+    let written = header_written_again(rt.alloc(), &create_bytes(rt.alloc())?)?;
     assert_eq!(rt; written.as_slice(), bytes.as_slice());
     Ok(())
 }
@@ -148,7 +148,7 @@ fn makes_a(txn: &Txn) -> bool {
     let Body::Single(Operation::Create(create)) = &txn.body else {
         return false;
     };
-    create.path.as_str() == "/a" && create.parent_cversion == 1 && !create.ephemeral
+    create.path.as_str() == "/a" && create.parent_cversion == 1 && create.owner == Owner::Nobody
 }
 
 // The data of a create.
@@ -168,6 +168,7 @@ fn create_has_its_fields(rt: HostRuntime) -> Result<(), Fail> {
         cxid: 1,
         zxid: 0x1_0000_0001,
         time: 1000,
+        rules: Dialect::Zk34,
     };
     assert!(rt; txn.header == header);
     assert_eq!(rt; txn.body.kind().code(), 1);

@@ -2,8 +2,7 @@
 
 ghost use Rattle.std.specs.Prelude.{◌≡◌, ◌∷◌, is_some, OnOk, IfSome, IfNone};
 ghost use Rattle.std.specs.FinMap as finmap;
-ghost use Rattle.world.specs.Clients.{heard_in, idle_connection};
-ghost use Rattle.world.specs.Clients.{rest_at, with_rest, with_leaver};
+ghost use Rattle.world.specs.Clients.{heard_in, idle_connection, rest_at, with_rest, with_leaver};
 
 use std::alloc::Global;
 use std::collections::BTreeMap;

@@ -6,8 +6,8 @@
 //!
 //! What happens to a world is defined by steps (specs/Steps), each of which gives outputs and the world after it. A
 //! [`Stage`] is a world with the outputs so far, and a function that makes a step takes one: specs/Results states what
-//! it leaves, refused allocations included. A function that fails because an allocation is refused has appended a prefix
-//! of its step's outputs. specs/Sending has the steps that send and close.
+//! it leaves, refused allocations included. A function that fails because an allocation is refused has appended a
+//! prefix of its step's outputs. specs/Sending has the steps that send and close.
 //!
 //! ```text
 //! let clients = Clients::new(alloc, &settings)?;                       // no connection, and no session yet

@@ -2,7 +2,7 @@
 
 use crate::clients::Clients;
 use replica::Replica;
-use settings::{Epochs, FirstCounter, Secret, ServerId, TimeoutBounds};
+use settings::{Dialect, Epochs, FirstCounter, Secret, ServerId, TimeoutBounds};
 use std::marker::Model;
 
 /// The settings of an observer: the part of its configuration that its answers depend on.
@@ -13,6 +13,7 @@ pub struct Settings {
     pub timeouts: TimeoutBounds,
     pub secret: Secret,
     pub first_counter: FirstCounter,
+    pub dialect: Dialect,
 }
 
 /// Everything but the state of the leader's stream.

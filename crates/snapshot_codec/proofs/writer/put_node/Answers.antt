@@ -25,11 +25,14 @@ returns c =
       (
         c.fits_text.ensures.0 (search rules),
         (
-          c.fits_bytes.ensures.0 (search rules),
           (
-            search rules,
-            c.numbers.ensures.fit,
+            c.fits_bytes.ensures.0 (search rules),
+            (
+              search rules,
+              c.numbers.ensures.fit,
+            ),
           ),
+          search rules,
         ),
       ),
     )

@@ -66,7 +66,7 @@ returns c =
     ∙ (λ i. is_some (finmap.get (c.in-Some.ensures.removed i) (c.parent_of-2.ensures i))))
     (c.if-not-remove_child.ensures.state
     ∙ (λ i. update_node (c.in-Some.ensures.removed i) (c.parent_of-2.ensures i)
-    (without_child (c.name_of.ensures i) c.args.header.now.zxid)))
+    (without_child (c.name_of.ensures i) c.args.header.now)))
     (c.remove-2.ensures
     ∙ (λ i. without_pair c.self.inside.ephemerals (to_z-of_z w64 c.in-Some.node.stat.ephemeral_owner fits i)
     c.args.path.now))

@@ -1,6 +1,6 @@
 use Rattle.values.proofs.Gaining.{puts_behind, gains_behind, gains_first}
 use Rattle.jute.proofs.Writing.{fails}
-use Rattle.txn_codec.proofs.encode.CreateWriteRecord.write.Goals as goal
+use Rattle.txn_codec.proofs.encode.put_create.Goals as goal
 
 pub returns-in_err-put_vector : goal.returns-in_err-put_vector
 returns-in_err-put_vector c =
@@ -9,17 +9,8 @@ returns-in_err-put_vector c =
     (gains_behind _ _ c.in_ok-put_blob.ensures
     (gains_first _ c.in_err-put_vector.ensures)))
 
-pub returns-in_err-put_bool : goal.returns-in_err-put_bool
-returns-in_err-put_bool c =
-    fails _ c.from_residual-in_err-put_bool.ensures.0
-    (gains_behind _ _ (rw c.as_str.ensures.text at c.in_ok-put_string.ensures)
-    (gains_behind _ _ c.in_ok-put_blob.ensures
-    (gains_behind _ _ c.in_ok-put_vector.ensures
-    (gains_first _ c.in_err-put_bool.ensures))))
-
 pub returns : goal.returns
 returns c =
     puts_behind _ _ _ _ _ _ (rw c.as_str.ensures.text at c.in_ok-put_string.ensures)
     (puts_behind _ _ _ _ _ _ c.in_ok-put_blob.ensures
-    (puts_behind _ _ _ _ _ _ c.in_ok-put_vector.ensures
-    (puts_behind _ _ _ _ _ _ c.in_ok-put_bool.ensures c.write.ensures)))
+    (puts_behind _ _ _ _ _ _ c.in_ok-put_vector.ensures c.put_owner.ensures))

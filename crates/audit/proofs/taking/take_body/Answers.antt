@@ -4,7 +4,7 @@ use Rattle.txn_codec.specs.declared.txn.Body.TheVariants as body
 use Rattle.data_tree.specs.Meaning.{TxnEffect, effect_of_body}
 use Rattle.audit.specs.Count.{count_after_triggers}
 use Rattle.audit.proofs.Parts.{multi_ok}
-use Rattle.audit.proofs.taking.take.Goals as goal
+use Rattle.audit.proofs.taking.take_body.Goals as goal
 
 pub returns-in-Multi-clause-state : goal.returns-in-Multi-clause-state
 returns-in-Multi-clause-state c =

@@ -1,0 +1,49 @@
+//! The dialect that a leader and its clients speak.
+
+ghost use Rattle.std.specs.Prelude.{◌≡◌};
+ghost use Rattle.settings.specs.Dialects.{reads_of, default_dialect};
+
+/// The dialect that a leader and its clients speak.
+#[derive(Clone, Copy, Debug, PartialEq, Eq)]
+pub enum Dialect {
+    /// That of ZooKeeper 3.4.
+    Zk34,
+    /// That of ZooKeeper 3.5 to 3.9.
+    Zk38,
+}
+
+/// What is read of a leader that ZooKeeper 3.4 doesn't write.
+#[derive(Clone, Copy, Debug)]
+pub struct Reads {
+    /// A digest of the leader's tree may follow a transaction.
+    pub trailer: bool,
+    /// The end of a session may list its ephemeral nodes.
+    pub lists_paths: bool,
+    /// Bytes may follow the number of an error in a multi.
+    pub lenient_parts: bool,
+    /// There are creates that ask for the Stat, containers, nodes with a time to live, and reconfigs.
+    pub extended_types: bool,
+}
+
+impl Dialect {
+    /// What is read in it.
+    pub fn reads(self) -> Reads
+        ensures { result ≡ reads_of self }
+    {
+        let is_later = matches!(self, Dialect::Zk38);
+        Reads {
+            trailer: is_later,
+            lists_paths: is_later,
+            lenient_parts: is_later,
+            extended_types: is_later,
+        }
+    }
+}
+
+impl Default for Dialect {
+    fn default() -> Dialect
+        ensures { result ≡ default_dialect }
+    {
+        Dialect::Zk34
+    }
+}
