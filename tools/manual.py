@@ -15,7 +15,7 @@ WRAPPER_STATUS = "70"
 # What a table says of standard error where nothing is told there.
 NO_WORD = ("–", "nothing")
 # Which values the completion offers, by the kind of an option.
-OFFERED = ("Level", "Format", "Words")
+OFFERED = ("Level", "Format", "Words", "Release")
 
 
 def roff(text):

@@ -43,6 +43,7 @@ BAD = [
     (GOOD + ["--id", "0"], "--id 0: 1 to 255"),
     (GOOD + ["--id", "256"], "--id 256: 1 to 255"),
     (GOOD + ["--id", "300"], "--id 300: 1 to 255"),
+    (GOOD + ["--dialect", "3.9"], "--dialect 3.9: 3.4 or 3.8"),
     (GOOD + ["--counter", str(MOST_COUNTER + 1)], f"--counter {MOST_COUNTER + 1}: 0 to {MOST_COUNTER}"),
     (GOOD + ["--max-clients", "0"], "--max-clients 0: "),
     (GOOD + ["--max-per-address", "0"], "--max-per-address 0: at least 1"),

@@ -5,7 +5,8 @@ ghost use Rattle.serve.specs.Lines.{port_words, session_digits, message_line};
 
 use intake::Message;
 use replay_script::put_hex;
-use settings::ServerId;
+use serve_options::release_of;
+use settings::{Dialect, ServerId};
 use std::alloc::Global;
 use std::io::Write;
 use values::NoMemory;
@@ -100,14 +101,18 @@ impl<W: Write + Drop> Record<W> {
         self.lines.clear();
     }
 
-    /// Records the observer's settings that aren't those of every script: its id, and the counter after which its session
-    /// ids begin.
-    pub fn begin(&mut self, server_id: ServerId, first_counter: u64) {
+    /// Records the observer's settings that aren't those of every script: its id, the dialect, and the counter after
+    /// which its session ids begin.
+    pub fn begin(&mut self, server_id: ServerId, dialect: Dialect, first_counter: u64) {
         if self.writer.is_none() {
             return;
         }
         let number = server_id.number();
-        let made = match write!(self.lines, "server {number}\ncounter {first_counter}\n") {
+        let release = release_of(dialect);
+        let made = match write!(
+            self.lines,
+            "server {number}\ndialect {release}\ncounter {first_counter}\n"
+        ) {
             Ok(()) => Ok(()),
             Err(_) => Err(NoMemory),
         };

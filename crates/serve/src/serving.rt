@@ -20,7 +20,7 @@ use serve_config::FileLines;
 use serve_failures::{Failure, Step, servers_of};
 use serve_journal::Journal;
 use serve_options::{Address, Options, Servers};
-use settings::{Dialect, Epochs, FirstCounter, Secret, TimeoutBounds};
+use settings::{Epochs, FirstCounter, Secret, TimeoutBounds};
 use std::alloc::Global;
 use std::io::Write;
 use std::net::{Net, TcpStream};
@@ -63,7 +63,7 @@ fn config_of(alloc: Global, options: &Options<'_>, first_counter: FirstCounter) 
         timeouts: TimeoutBounds::default(),
         secret: Secret::empty(alloc),
         first_counter,
-        dialect: Dialect::default(),
+        dialect: options.dialect,
     };
     Config::from_settings(settings, options.limits).with_threshold(WORTH_THREADS)
 }
@@ -286,7 +286,7 @@ pub(crate) fn try_serve_on<
     let first_counter = first_counter(rt, options)?;
     let file = record_file(rt, alloc, options.record)?;
     let mut record = Record::new(alloc, file);
-    record.begin(options.server_id, first_counter.number());
+    record.begin(options.server_id, options.dialect, first_counter.number());
     let port = listener.local_addr()?.port();
     let config = config_of(alloc, options, first_counter);
     let prepared = prepare(rt, alloc, options, origin, listener)?;

@@ -14,11 +14,8 @@ pub fn fault_hint(fault: Fault) -> &'static str
             "look whether this is the quorum port of a server, and keep each write and multi below 4 MiB",
         Fault::BadText => "keep characters past U+FFFF out of paths and ids",
         Fault::BadPath => "start again, and if it comes back keep a record of it",
-        Fault::BadTxnType =>
-            "keep create2, containers, TTL nodes and reconfigurations away from the ensemble",
-        Fault::TrailingBytes => {
-            "set zookeeper.digest.enabled=false and zookeeper.closeSessionTxn.enabled=false at each server that may lead"
-        }
+        Fault::BadTxnType => "beside servers from 3.5 on, start it with --dialect 3.8",
+        Fault::TrailingBytes => "beside servers from 3.6 on, start it with --dialect 3.8",
         Fault::OutOfOrder => "start again, and if it comes back keep a record of it",
         Fault::CommitMismatch => "start again, and if it comes back keep a record of it",
         Fault::CannotTruncate =>

@@ -1,6 +1,6 @@
 //! The settings of a server, on one line.
 
-use serve_options::{Address, Options, Servers};
+use serve_options::{Address, Options, Servers, release_of};
 use std::fmt;
 
 /// Shows what a server was started with, as options that say the same.
@@ -98,7 +98,8 @@ impl<'a> fmt::Display for SettingsLine<'a> {
             port: self.port,
         };
         let id = options.server_id.number();
-        write!(f, " --client {client} --id {id}")?;
+        let dialect = release_of(options.dialect);
+        write!(f, " --client {client} --id {id} --dialect {dialect}")?;
         self.put_limits(f)?;
         self.put_rest(f)
     }

@@ -2,7 +2,7 @@
 use Rattle.std.proofs.Common.{◌≡◌, ◌<◌, refl, lit<}
 use Rattle.std.specs.Prelude.{slice_index_or}
 use Rattle.serve_options.specs.declared.row.Name.{Name}
-use Rattle.serve_options.specs.declared.row.Name.TheVariants.{Config, CheckConfig, Leader, Servers, Client, Id, Counter, Workers, Batch, MaxClients, MaxPerAddress, MaxUnderWay, MaxWatches, Unconnected, Words, Tick, InitLimit, SyncLimit, Checkpoint, GiveUp, Record, Log, LogFormat, Help, Version}
+use Rattle.serve_options.specs.declared.row.Name.TheVariants.{Config, CheckConfig, Leader, Servers, Client, Id, Dialect, Counter, Workers, Batch, MaxClients, MaxPerAddress, MaxUnderWay, MaxWatches, Unconnected, Words, Tick, InitLimit, SyncLimit, Checkpoint, GiveUp, Record, Log, LogFormat, Help, Version}
 use Rattle.serve_options.specs.declared.row.TheConstants.{NAMES}
 use Rattle.serve_options.specs.Given.{name_place}
 
@@ -13,6 +13,7 @@ name_at Leader = refl
 name_at Servers = refl
 name_at Client = refl
 name_at Id = refl
+name_at Dialect = refl
 name_at Counter = refl
 name_at Workers = refl
 name_at Batch = refl
@@ -33,13 +34,14 @@ name_at LogFormat = refl
 name_at Help = refl
 name_at Version = refl
 
-pub place_below : (name : Name) → name_place name < 25
+pub place_below : (name : Name) → name_place name < 26
 place_below Config = lit< tt
 place_below CheckConfig = lit< tt
 place_below Leader = lit< tt
 place_below Servers = lit< tt
 place_below Client = lit< tt
 place_below Id = lit< tt
+place_below Dialect = lit< tt
 place_below Counter = lit< tt
 place_below Workers = lit< tt
 place_below Batch = lit< tt

@@ -1,6 +1,7 @@
 -- What a command line asks for.
 use Rattle.std.specs.Prelude.{◌≡◌, ◌↔◌, ◌≤◌, ℕ, pos, List, Option, Some, None, IfSome, IsTrue, vec_len, ◌++◌, if◌then◌else◌}
 use Rattle.std.specs.Option.{unwrap_or, option_map}
+use Rattle.settings.specs.declared.dialect.Dialect.{Dialect}
 use Rattle.values.specs.Maybe.{◌>>=◌}
 use Rattle.log.specs.declared.level.LevelFilter.{LevelFilter}
 use Rattle.log.specs.declared.level.LevelFilter.TheVariants.{Info}
@@ -17,7 +18,7 @@ use Rattle.serve_options.specs.declared.command.Command.{Command}
 use Rattle.serve_options.specs.declared.command.Command.TheVariants as commands
 use Rattle.serve_options.specs.Given.{given_of, value_of, number_given, IsGivenBy}
 use Rattle.serve_options.specs.Rows.{option_bounds, IsWithin}
-use Rattle.serve_options.specs.Values.{SpellsAddress, level_of, format_of}
+use Rattle.serve_options.specs.Values.{SpellsAddress, level_of, format_of, dialect_of}
 use Rattle.serve_options.specs.Words.{named_words}
 
 -- Each number is within the bounds of its option. Those of the server's id and of the limits are kept by their types.
@@ -51,6 +52,10 @@ id_given given = unwrap_or (number_given names.Id given) 1
 abbrev pub words_given : List Given → Option Words
 words_given given = value_of names.Words given >>= named_words
 
+-- The dialect of the release that is given.
+abbrev pub dialect_given : List Given → Option Dialect
+dialect_given given = value_of names.Dialect given >>= dialect_of
+
 -- Without a level in words, as `--log` alone has none, it is `info`.
 abbrev pub level_given : List Given → Option LevelFilter
 level_given given = unwrap_or (option_map level_of (value_of names.Log given)) (Some Info)
@@ -67,6 +72,7 @@ pub record IsSetBy (given : List Given) (options : Options) : Type 0 where
   pub client : (text : List ℕ) × (value_of names.Client given ≡ Some text)
       × SpellsAddress text options.client.host.now options.client.port
   pub default_id : IsTrue options.default_id ↔ (given_of names.Id given ≡ None)
+  pub dialect : dialect_given given ≡ Some options.dialect
   pub counter : options.first_counter ≡ number_given names.Counter given
   pub workers : number_given names.Workers given ≡ Some options.limits.workers
   pub batch : number_given names.Batch given ≡ Some options.limits.batch

@@ -1,12 +1,13 @@
 -- The options that have a value without being given.
 use Rattle.std.specs.Prelude.{ℕ, List, Option, Some, None, codes}
 use Rattle.serve_options.specs.declared.row.Name.{Name}
-use Rattle.serve_options.specs.declared.row.Name.TheVariants.{Workers, Batch, MaxUnderWay, MaxWatches, Unconnected, Words, Tick, InitLimit, SyncLimit, Checkpoint, Log, LogFormat}
+use Rattle.serve_options.specs.declared.row.Name.TheVariants.{Dialect, Workers, Batch, MaxUnderWay, MaxWatches, Unconnected, Words, Tick, InitLimit, SyncLimit, Checkpoint, Log, LogFormat}
 use Rattle.serve_options.specs.declared.row.Without.{Without}
 use Rattle.serve_options.specs.declared.row.Without.TheVariants.{Nothing, Value, Meaning}
 
 -- The value of an option that isn't given, as it would be spelled.
 abbrev pub option_default : Name → Option (List ℕ)
+option_default Dialect = Some (codes "3.4")
 option_default Workers = Some (codes "4")
 option_default Batch = Some (codes "256")
 option_default MaxUnderWay = Some (codes "64")

@@ -5,7 +5,7 @@ use Rattle.std.specs.List.{find, starts_with}
 use Rattle.std.specs.Option.{option_map}
 use Rattle.values.specs.Maybe.{◌>>=◌}
 use Rattle.serve_options.specs.declared.row.Name.{Name}
-use Rattle.serve_options.specs.declared.row.Name.TheVariants.{Config, CheckConfig, Leader, Servers, Client, Id, Counter, Workers, Batch, MaxClients, MaxPerAddress, MaxUnderWay, MaxWatches, Unconnected, Words, Tick, InitLimit, SyncLimit, Checkpoint, GiveUp, Record, Log, LogFormat, Help, Version}
+use Rattle.serve_options.specs.declared.row.Name.TheVariants.{Config, CheckConfig, Leader, Servers, Client, Id, Dialect, Counter, Workers, Batch, MaxClients, MaxPerAddress, MaxUnderWay, MaxWatches, Unconnected, Words, Tick, InitLimit, SyncLimit, Checkpoint, GiveUp, Record, Log, LogFormat, Help, Version}
 use Rattle.serve_options.specs.declared.row.Kind.{Kind}
 use Rattle.serve_options.specs.declared.row.Kind.TheVariants.{Nothing, Level}
 use Rattle.serve_options.specs.declared.error.OptionError.{OptionError}
@@ -21,25 +21,26 @@ name_place Leader = 2
 name_place Servers = 3
 name_place Client = 4
 name_place Id = 5
-name_place Counter = 6
-name_place Workers = 7
-name_place Batch = 8
-name_place MaxClients = 9
-name_place MaxPerAddress = 10
-name_place MaxUnderWay = 11
-name_place MaxWatches = 12
-name_place Unconnected = 13
-name_place Words = 14
-name_place Tick = 15
-name_place InitLimit = 16
-name_place SyncLimit = 17
-name_place Checkpoint = 18
-name_place GiveUp = 19
-name_place Record = 20
-name_place Log = 21
-name_place LogFormat = 22
-name_place Help = 23
-name_place Version = 24
+name_place Dialect = 6
+name_place Counter = 7
+name_place Workers = 8
+name_place Batch = 9
+name_place MaxClients = 10
+name_place MaxPerAddress = 11
+name_place MaxUnderWay = 12
+name_place MaxWatches = 13
+name_place Unconnected = 14
+name_place Words = 15
+name_place Tick = 16
+name_place InitLimit = 17
+name_place SyncLimit = 18
+name_place Checkpoint = 19
+name_place GiveUp = 20
+name_place Record = 21
+name_place Log = 22
+name_place LogFormat = 23
+name_place Help = 24
+name_place Version = 25
 
 abbrev pub is_named : Name → Given → Bool
 is_named name option = nat_eq (name_place option.name) (name_place name)

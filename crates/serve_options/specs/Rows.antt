@@ -1,7 +1,7 @@
 -- The options: the word of each, and what its value may be.
 use Rattle.std.specs.Prelude.{ℕ, ◌-◌, ◌^◌, ◌≤◌, List, codes}
 use Rattle.serve_options.specs.declared.row.Name.{Name}
-use Rattle.serve_options.specs.declared.row.Name.TheVariants.{Config, CheckConfig, Leader, Servers, Client, Id, Counter, Workers, Batch, MaxClients, MaxPerAddress, MaxUnderWay, MaxWatches, Unconnected, Words, Tick, InitLimit, SyncLimit, Checkpoint, GiveUp, Record, Log, LogFormat, Help, Version}
+use Rattle.serve_options.specs.declared.row.Name.TheVariants.{Config, CheckConfig, Leader, Servers, Client, Id, Dialect, Counter, Workers, Batch, MaxClients, MaxPerAddress, MaxUnderWay, MaxWatches, Unconnected, Words, Tick, InitLimit, SyncLimit, Checkpoint, GiveUp, Record, Log, LogFormat, Help, Version}
 use Rattle.serve_options.specs.declared.row.Bounds.{Bounds}
 use Rattle.serve_options.specs.declared.row.Kind.{Kind}
 use Rattle.serve_options.specs.declared.row.Kind.TheVariants as kinds
@@ -13,6 +13,7 @@ option_word Leader = codes "--leader"
 option_word Servers = codes "--servers"
 option_word Client = codes "--client"
 option_word Id = codes "--id"
+option_word Dialect = codes "--dialect"
 option_word Counter = codes "--counter"
 option_word Workers = codes "--workers"
 option_word Batch = codes "--batch"
@@ -44,6 +45,7 @@ option_kind Leader = kinds.Address
 option_kind Servers = kinds.Addresses
 option_kind Client = kinds.Address
 option_kind Id = from_to 1 255
+option_kind Dialect = kinds.Release
 option_kind Counter = from_to 0 (2 ^ 56 - 2)
 option_kind Workers = from_to 1 64
 option_kind Batch = from_to 1 4096

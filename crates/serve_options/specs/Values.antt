@@ -3,6 +3,8 @@ use Rattle.std.specs.Prelude.{◌≡◌, ◌≢◌, ℕ, List, [], ◌++◌, ◌
 use Rattle.std.specs.Str.{bytes_eq}
 use Rattle.log.specs.declared.level.LevelFilter.{LevelFilter}
 use Rattle.log.specs.declared.level.LevelFilter.TheVariants.{Off, Error, Warn, Info, Debug}
+use Rattle.settings.specs.declared.dialect.Dialect.{Dialect}
+use Rattle.settings.specs.declared.dialect.Dialect.TheVariants.{Zk34, Zk38}
 use Rattle.values.specs.Maybe.{◌>>=◌}
 use Rattle.replay_script.specs.Number.{number_up_to}
 use Rattle.serve_options.specs.declared.row.Bounds.{Bounds}
@@ -31,6 +33,12 @@ abbrev pub format_of : List ℕ → Option LogFormat
 format_of text =
     if bytes_eq text (codes "text") then Some Text
     else (if bytes_eq text (codes "json") then Some Json
+    else None)
+
+abbrev pub dialect_of : List ℕ → Option Dialect
+dialect_of text =
+    if bytes_eq text (codes "3.4") then Some Zk34
+    else (if bytes_eq text (codes "3.8") then Some Zk38
     else None)
 
 -- A host before a colon and a port: as it is, or in brackets.

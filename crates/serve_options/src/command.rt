@@ -4,18 +4,19 @@ ghost use Rattle.std.specs.Prelude.{◌≡◌, ◌++◌, ℕ, pos, List, map, st
 ghost use Rattle.serve_options.specs.Rows.{option_bounds, IsWithin};
 ghost use Rattle.serve_options.specs.Values.{number_within, SpellsAddress};
 ghost use Rattle.serve_options.specs.Given.{value_of, number_given, number_answer};
-ghost use Rattle.serve_options.specs.Commands.{IsWithinBounds, IsSetBy, IsFileOf, AreOptionsOver, AreWordsOf, AreServersOf, id_given, words_given, level_given, format_given};
+ghost use Rattle.serve_options.specs.Commands.{IsWithinBounds, IsSetBy, IsFileOf, AreOptionsOver, AreWordsOf, AreServersOf, id_given, words_given, level_given, format_given, dialect_given};
 
 use crate::error::OptionError;
 use crate::given::{Given, find_given, given_in, spelled};
 use crate::row::{Bounds, Kind, Name};
 use crate::value::{
-    Address, LogFormat, address_of, addresses_of, format_of, has_host, level_of, number_within,
+    Address, LogFormat, address_of, addresses_of, dialect_of, format_of, has_host, level_of,
+    number_within,
 };
 use crate::words::{Words, words_of};
 use batcher::Limits;
 use log::LevelFilter;
-use settings::{FirstCounter, ServerId};
+use settings::{Dialect, FirstCounter, ServerId};
 use std::alloc::Global;
 
 /// Which servers to follow.
@@ -36,6 +37,8 @@ pub struct Options<'a> {
     pub server_id: ServerId,
     /// Whether no id was given, so that it is 1, which a server that votes may have too.
     pub default_id: bool,
+    /// What leaders speak.
+    pub dialect: Dialect,
     /// The counter after which session ids begin; None: the clock's.
     pub first_counter: Option<FirstCounter>,
     pub limits: Limits,
@@ -111,7 +114,8 @@ fn bounds_of(name: Name) -> Bounds
         | Kind::Words
         | Kind::File
         | Kind::Level
-        | Kind::Format => ANY,
+        | Kind::Format
+        | Kind::Release => ANY,
     }
 }
 
@@ -258,6 +262,18 @@ fn format_in<'a>(given: &[Given<'a>]) -> Result<LogFormat, OptionError<'a>>
     }
 }
 
+fn dialect_in<'a>(given: &[Given<'a>]) -> Result<Dialect, OptionError<'a>>
+    ensures { IfOk result (λ dialect. dialect_given given.now ≡ Some dialect) }
+{
+    let Some(value) = spelled(given, Name::Dialect) else {
+        return Err(OptionError::NoValue(Name::Dialect));
+    };
+    match dialect_of(value) {
+        Some(dialect) => Ok(dialect),
+        None => Err(invalid(Name::Dialect, value)),
+    }
+}
+
 fn options_in<'a>(alloc: Global, given: &[Given<'a>]) -> Result<Options<'a>, OptionError<'a>>
     ensures set { IfOk result (IsSetBy given.now) }
     ensures bounds { IfOk result IsWithinBounds }
@@ -267,6 +283,7 @@ fn options_in<'a>(alloc: Global, given: &[Given<'a>]) -> Result<Options<'a>, Opt
         client: client_in(given)?,
         server_id: id_in(given)?,
         default_id: find_given(given, Name::Id).is_none(),
+        dialect: dialect_in(given)?,
         first_counter: counter_in(given)?,
         limits: limits_in(given)?,
         max_clients: number_in(given, Name::MaxClients)?,

@@ -30,7 +30,7 @@ pub use filed::{Filed, filed_by, given_by, value_given};
 pub use given::Given;
 pub use listing::help;
 pub use row::{Bounds, Kind, Name, Row, Without};
-pub use value::{Address, LogFormat};
+pub use value::{Address, LogFormat, release_of};
 pub use words::Words;
 
 /// The version of the program.

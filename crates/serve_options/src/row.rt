@@ -15,6 +15,7 @@ pub enum Name {
     Servers,
     Client,
     Id,
+    Dialect,
     Counter,
     Workers,
     Batch,
@@ -37,13 +38,14 @@ pub enum Name {
 }
 
 /// The options, in the order in which help lists them.
-pub const NAMES: [Name; 25] = [
+pub const NAMES: [Name; 26] = [
     Name::Config,
     Name::CheckConfig,
     Name::Leader,
     Name::Servers,
     Name::Client,
     Name::Id,
+    Name::Dialect,
     Name::Counter,
     Name::Workers,
     Name::Batch,
@@ -91,6 +93,8 @@ pub enum Kind {
     Level,
     /// A format of the log.
     Format,
+    /// The release whose dialect is spoken.
+    Release,
 }
 
 impl fmt::Display for Kind {
@@ -109,6 +113,7 @@ impl fmt::Display for Kind {
             Kind::File => f.write_str("the name of a file"),
             Kind::Level => f.write_str("off, error, warn, info or debug"),
             Kind::Format => f.write_str("text or json"),
+            Kind::Release => f.write_str("3.4 or 3.8"),
         }
     }
 }
@@ -186,6 +191,14 @@ const ID: Row = Row {
     }),
     without: Without::Meaning("it has to be there; beside a leader that is a port alone it is 1"),
     help: "the id of this server, which no other server of the ensemble has",
+};
+
+const DIALECT: Row = Row {
+    word: "--dialect",
+    value: "RELEASE",
+    kind: Kind::Release,
+    without: Without::Value("3.4"),
+    help: "what the leader speaks: the dialect of ZooKeeper 3.4, or that of 3.5 to 3.9, which is called 3.8",
 };
 
 const COUNTER: Row = Row {
@@ -390,6 +403,7 @@ impl Name {
             Name::Servers => SERVERS,
             Name::Client => CLIENT,
             Name::Id => ID,
+            Name::Dialect => DIALECT,
             Name::Counter => COUNTER,
             Name::Workers => WORKERS,
             Name::Batch => BATCH,

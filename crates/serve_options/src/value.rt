@@ -1,12 +1,13 @@
 //! The values of options.
 
-ghost use Rattle.std.specs.Prelude.{◌≡◌, ◌≤◌, ℕ, IfSome, IfOk, vec_len};
+ghost use Rattle.std.specs.Prelude.{◌≡◌, ◌≤◌, ℕ, Some, IfSome, IfOk, vec_len};
 ghost use Rattle.serve_options.specs.Rows.{IsWithin};
-ghost use Rattle.serve_options.specs.Values.{number_within, port_number_of, SpellsHost, SpellsAddress, level_of, format_of};
+ghost use Rattle.serve_options.specs.Values.{number_within, port_number_of, SpellsHost, SpellsAddress, level_of, format_of, dialect_of};
 
 use crate::row::Bounds;
 use log::LevelFilter;
 use replay_script::number_up_to;
+use settings::Dialect;
 use std::alloc::{AllocError, Global};
 use std::fmt;
 
@@ -154,4 +155,27 @@ pub(crate) fn format_of(text: &str) -> Option<LogFormat>
         return Some(LogFormat::Json);
     }
     None
+}
+
+/// The dialect that a release names.
+pub(crate) fn dialect_of(text: &str) -> Option<Dialect>
+    ensures { result ≡ dialect_of text.now }
+{
+    if text == "3.4" {
+        return Some(Dialect::Zk34);
+    }
+    if text == "3.8" {
+        return Some(Dialect::Zk38);
+    }
+    None
+}
+
+/// The release that names a dialect.
+pub fn release_of(dialect: Dialect) -> &'static str
+    ensures { dialect_of result.now ≡ Some dialect }
+{
+    match dialect {
+        Dialect::Zk34 => "3.4",
+        Dialect::Zk38 => "3.8",
+    }
 }
