@@ -1,10 +1,11 @@
-use Rattle.std.proofs.Common.{rules, arith, List, [], ◌++◌, ◌≡◌, refl, is_some, w64, ap, ◌∙◌}
+use Rattle.std.proofs.Common.{rules, arith, List, [], ◌++◌, ◌≡◌, refl, is_some, w64, ap, sym, ◌∙◌}
 use mir.Val.{SFits}
 use Rattle.std.specs.FinMap as finmap
 use Rattle.std.proofs.Math.Path.{subst}
 use Rattle.jute.specs.declared.codes.TheConstants.{NO_NODE}
 use Rattle.txn_codec.specs.declared.txn.Operation.TheVariants as op
 use Rattle.data_tree.specs.Inner.Doing.{IsEffectDone}
+use Rattle.data_tree.specs.Inner.Mending.{with_missing}
 use Rattle.std.proofs.lemmas.Int.{to_z-of_z}
 use Rattle.std.proofs.lemmas.Grind.{common_steps}
 use Rattle.ephemerals.specs.Pairs.{without_pair}
@@ -23,12 +24,16 @@ returns-in_default c =
     let before : State =
     record { nodes = c.self.inside.nodes; pairs = c.self.inside.ephemerals; sessions = c.self.inside.timeouts } in
     let front : c.truncate.new.self.items ≡ c.args.triggers.now.items = grind (arith, common_steps) in
+    let t : State =
+    record { nodes = c.remove.new.self; pairs = c.self.inside.ephemerals; sessions = c.self.inside.timeouts } in
+    let ended : c.miss.new.self ≡ with_missing c.args.header.now.rules c.args.header.now c.args.path.now t =
+    c.miss.ensures in
     subst (λ (s : State). IsEffectDone (of_operation c.args.header.now (op.Delete c.args.path.now) s) NO_NODE
-    (let t : State =
-    record { nodes = c.remove.new.self; pairs = c.self.inside.ephemerals; sessions = c.self.inside.timeouts } in t)
-    c.args.triggers.now.items c.truncate.new.self.items) c.self.view_is
+    c.miss.new.self c.args.triggers.now.items c.truncate.new.self.items) c.self.view_is
+    (subst (λ (s : State). IsEffectDone (of_operation c.args.header.now (op.Delete c.args.path.now) before) NO_NODE s
+    c.args.triggers.now.items c.truncate.new.self.items) (sym ended)
     (missing-done before c.args.header.now c.args.path.now c.remove.new.self c.args.triggers.now.items
-    c.truncate.new.self.items c.in_default.ensures.value c.in_default.ensures.removed front)
+    c.truncate.new.self.items c.in_default.ensures.value c.in_default.ensures.removed front))
 
 pub returns-then-not-remove_child : goal.returns-then-not-remove_child
 returns-then-not-remove_child c =
