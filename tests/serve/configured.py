@@ -59,7 +59,7 @@ def test_a_file_starts_it():
             assert server.word(b"wchs") == b"wchs is not executed because it is not in the whitelist.\n"
             server.client().close()
             told = server.said()
-    for part in ("zoo.cfg:13: observerMasterPort isn't heeded", "zoo.cfg:14: noSuchKey isn't heeded"):
+    for part in ("zoo.cfg:13: observerMasterPort isn't heeded", "zoo.cfg:14: noSuchKey is unknown"):
         assert part in told, (part, told)
 
 
@@ -79,8 +79,8 @@ def test_what_a_file_would_do():
             f"{name}:13: snapCount means nothing here",
             f"{name}:14: skipACL isn't heeded",
             "observer serve --servers zk1:2888,zk2:2888,zk3:2889 --client 127.0.0.1:0 --id 1 --dialect 3.4"
-            " --workers 4 --batch 256 --max-per-address 7 --tick 2000 --init-limit 10 --sync-limit 5 --checkpoint 64 --max-under-way 64"
-            " --max-watches 500000 --unconnected 10 --words isro,srvr",
+            " --workers 4 --batch 256 --max-per-address 7 --tick 2000 --init-limit 10 --sync-limit 5 --checkpoint 64"
+            " --max-under-way 64 --max-watches 500000 --unconnected 10 --words isro,srvr",
         ], out
     with file_of(text_of(*lines, "tickTimes=1")) as name:
         status, out, told = commands.run("--check-config", name)
