@@ -168,7 +168,10 @@ fn trees_without_an_image(rt: HostRuntime) -> Result<(), Fail> {
     let alloc = rt.alloc();
     assert!(rt; is_not_whole(alloc, &Tree::empty(alloc)));
     let mut bytes = longest(alloc)?;
-    assert_eq!(rt; image_of(alloc, &root_of(alloc, &bytes, 0)?)?.len(), 4_194_407);
+    assert_eq!(rt;
+        image_of(alloc, &root_of(alloc, &bytes, 0)?)?.len(),
+        4_194_407
+    );
     bytes.push(b'x')?;
     assert!(rt; is_not_whole(alloc, &root_of(alloc, &bytes, 0)?));
     assert!(rt; is_not_whole(alloc, &root_of(alloc, b"", i64::MIN)?));
