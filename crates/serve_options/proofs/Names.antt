@@ -1,10 +1,12 @@
 -- Each option is in the list of all.
-use Rattle.std.proofs.Common.{◌≡◌, ◌<◌, refl, lit<}
+use Rattle.std.proofs.Common.{◌≡◌, ◌≢◌, ◌<◌, ◌+◌, ℕ, List, ◌⊎◌, inl, inr, arith, refl, lit<, sym, subst}
 use Rattle.std.specs.Prelude.{slice_index_or}
+use Rattle.std.proofs.Math.Nat.{eq-or-lt_of_le}
 use Rattle.serve_options.specs.declared.row.Name.{Name}
 use Rattle.serve_options.specs.declared.row.Name.TheVariants.{Config, CheckConfig, Leader, Servers, Client, Id, Dialect, Counter, Workers, Batch, MaxClients, MaxPerAddress, MaxUnderWay, MaxWatches, Unconnected, Words, Tick, InitLimit, SyncLimit, Checkpoint, GiveUp, Record, Log, LogFormat, Help, Version}
 use Rattle.serve_options.specs.declared.row.TheConstants.{NAMES}
 use Rattle.serve_options.specs.Given.{name_place}
+use Rattle.serve_options.specs.Rows.{option_word}
 
 pub name_at : (name : Name) → slice_index_or NAMES (name_place name) name ≡ name
 name_at Config = refl
@@ -61,3 +63,14 @@ place_below Log = lit< tt
 place_below LogFormat = lit< tt
 place_below Help = lit< tt
 place_below Version = lit< tt
+
+-- A word that no name before has, and this one hasn't either.
+pub one_more : (names : List Name) (word : List ℕ) (i : ℕ)
+    → ((k : ℕ) (name : Name) → k < i → option_word (slice_index_or names k name) ≢ word)
+    → ((name : Name) → option_word (slice_index_or names i name) ≢ word)
+    → (k : ℕ) (name : Name) → k < i + 1 → option_word (slice_index_or names k name) ≢ word
+one_more names word i before here k name below = by (eq-or-lt_of_le (omega arith))
+  where
+    by : (k ≡ i) ⊎ (k < i) → option_word (slice_index_or names k name) ≢ word
+    by (inl same) = subst (λ (j : ℕ). option_word (slice_index_or names j name) ≢ word) (sym same) (here name)
+    by (inr less) = before k name less

@@ -351,7 +351,7 @@ fn with_filed<'a>(
     given: Vec<Given<'a>>,
     filed: &[Given<'a>],
 ) -> Result<Vec<Given<'a>>, OptionError<'a>>
-    ensures { IfOk result (λ all. all.items ≡ given.items ++ filed.now) }
+    ensures { IfOk result (λ all. all.items ≡ given.entry.items ++ filed.now) }
 {
     let mut all = given;
     for option in filed {
@@ -365,7 +365,7 @@ fn options_with<'a>(
     given: Vec<Given<'a>>,
     filed: &[Given<'a>],
 ) -> Result<Options<'a>, OptionError<'a>>
-    ensures set { IfOk result (IsSetBy (given.items ++ filed.now)) }
+    ensures set { IfOk result (IsSetBy (given.entry.items ++ filed.now)) }
     ensures bounds { IfOk result IsWithinBounds }
 {
     let all = with_filed(given, filed)?;
