@@ -13,7 +13,7 @@ use Rattle.four_letter.specs.Words.{word_of}
 use Rattle.four_letter.specs.declared.word.Word.{Word}
 use Rattle.watch_manager.specs.Rows.{WorkedRows as FiringRows}
 use Rattle.world.specs.declared.world.Settings.{Settings}
-use Rattle.observer_core.specs.declared.event.Event.TheVariants.{ClientUp, ClientBytes}
+use Rattle.observer_core.specs.declared.event.Event.TheVariants.{LeaderBytes, ClientUp, ClientBytes}
 use Rattle.world.specs.declared.output.Output.{Output}
 use Rattle.world.specs.declared.output.Output.TheVariants.{ToClient, CloseClient}
 use Rattle.world.specs.World.{OpenConnection, World}
@@ -22,7 +22,7 @@ use Rattle.world.specs.Steps.{StepResult, prepend_outputs}
 use Rattle.world.specs.Clients.{idle_connection, heard_in, heard_connection, with_connection}
 use Rattle.client_service.specs.Serve.{word_without_session, with_waiting_bytes, frames_of_client, tell_or_serve, take_client_bytes}
 use Rattle.observer_core.specs.Play.{is_serving_clients, play, new_machine}
-use Rattle.observer_core.specs.Rows.{reply_of_create, set_data_inform_event, get_data_event, WorkedRows}
+use Rattle.observer_core.specs.Rows.{reply_of_create, create_inform_event, set_data_inform_event, get_data_event, exists_watch_event, get_data_frame_start, get_data_frame_end, framed_create, inform_of_forwarded, inform_of_error, sync_frame, sync_packet, connect_frame, inform_of_session, client_ping, leader_ping, WorkedRows}
 use Rattle.world.proofs.NatMaps.{get-inserted}
 use Rattle.observer_core.proofs.Rows.{earlier_machine, in_earlier, ReadAgain, NobodyTold, start, idle_at, heard, world_at, at_frames, in_hand, left_at, first_open}
 use Rattle.observer_core.proofs.WatchRows.{create_get, set_get, cut_get, create_twice, closed_passes, watch_told, idle_is}
@@ -84,30 +84,41 @@ letters_close settings =
 
 pub rows_hold : ReadAgain → NobodyTold → FiringRows → WorkedRows
 rows_hold again nobody rows = record {
-  create_then_get = λ settings is. in_earlier settings _ _ is
+  create_then_get = λ settings is. in_earlier settings
+      (create_inform_event ∷ get_data_event ∷ []) _ is
       (ap (λ (h : StepResult Machine). h.outputs) (create_get again nobody settings []));
-  set_then_get = λ settings is. in_earlier settings _ _ is (ap (λ (h : StepResult Machine). h.outputs)
+  set_then_get = λ settings is. in_earlier settings
+      (create_inform_event ∷ get_data_event ∷ set_data_inform_event ∷ get_data_event ∷ []) _ is (ap (λ (h : StepResult Machine). h.outputs)
       (create_get again nobody settings (set_data_inform_event ∷ get_data_event ∷ [])
       ∙ ap (prepend_outputs (ToClient 1 reply_of_create ∷ []))
       (set_get again nobody settings (heard settings set.empty))));
-  cut_request = λ settings is. in_earlier settings _ _ is
+  cut_request = λ settings is. in_earlier settings
+      (ClientBytes 1 get_data_frame_start ∷ create_inform_event ∷ ClientBytes 1 get_data_frame_end ∷ []) _ is
       (ap (λ (h : StepResult Machine). h.outputs) (cut_get again nobody settings));
-  same_zxid_twice = λ settings is. in_earlier settings _ _ is
+  same_zxid_twice = λ settings is. in_earlier settings
+      (create_inform_event ∷ create_inform_event ∷ set_data_inform_event ∷ get_data_event ∷ []) _ is
       (ap (λ (h : StepResult Machine). h.outputs) (create_twice again nobody settings) ∙ closed_passes settings);
-  watch_on_missing = λ settings is. in_earlier settings _ _ is
+  watch_on_missing = λ settings is. in_earlier settings
+      (exists_watch_event ∷ create_inform_event ∷ set_data_inform_event ∷ []) _ is
       (ap (λ (h : StepResult Machine). h.outputs) (watch_told again nobody rows settings));
-  forwarded_create = λ settings is three begins. in_earlier settings _ _ is
+  forwarded_create = λ settings is three begins. in_earlier settings
+      (ClientBytes 1 framed_create ∷ LeaderBytes inform_of_forwarded ∷ []) _ is
       (create_answered again nobody settings (three, begins));
-  failed_create = λ settings is three begins. in_earlier settings _ _ is
+  failed_create = λ settings is three begins. in_earlier settings
+      (ClientBytes 1 framed_create ∷ LeaderBytes inform_of_error ∷ []) _ is
       (error_answered again nobody settings (three, begins));
-  forwarded_sync = λ settings is three begins. in_earlier settings _ _ is (sync_answers settings (three, begins));
-  new_session = λ settings is three begins terms secretless. in_earlier settings _ _ is
+  forwarded_sync = λ settings is three begins. in_earlier settings
+      (ClientBytes 1 sync_frame ∷ LeaderBytes sync_packet ∷ []) _ is (sync_answers settings (three, begins));
+  new_session = λ settings is three begins terms secretless. in_earlier settings
+      (ClientUp 2 ∷ ClientBytes 2 connect_frame ∷ LeaderBytes inform_of_session ∷ []) _ is
       (session_is_created again nobody settings (three, begins) terms secretless);
-  heard_session = λ settings is three begins terms secretless. in_earlier settings _ _ is
+  heard_session = λ settings is three begins terms secretless. in_earlier settings
+      (ClientBytes 1 client_ping ∷ LeaderBytes leader_ping ∷ LeaderBytes leader_ping ∷ []) _ is
       (first_is_told settings (three, begins) terms secretless);
   nothing = λ settings is. refl;
   idle = λ settings. idle_is settings;
   ruok = λ settings. word_comes settings (codes "ruok");
   isro_not_serving = λ settings. word_comes settings (codes "isro");
-  word_with_a_session = λ settings is. in_earlier settings _ _ is (letters_close settings);
+  word_with_a_session = λ settings is. in_earlier settings
+      (ClientBytes 1 (codes "ruok") ∷ []) _ is (letters_close settings);
 }
