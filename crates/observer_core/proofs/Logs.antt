@@ -87,8 +87,8 @@ module _ (law : ReplicasFollow) where
 
   pub logs_are_followed : MachinesFollowTheirLogs
   logs_are_followed = record {
-    starts = λ settings. law.made settings.epochs;
-    starts_primed = λ settings. law.primed (primed_session settings) settings.timeouts.greatest;
+    starts = λ settings. law.made settings.dialect settings.epochs;
+    starts_primed = λ settings. law.primed settings.dialect (primed_session settings) settings.timeouts.greatest;
     plays = happening_keeps (λ (m : Machine). Follows m.world) (λ (m : Machine). false) play_event
         (λ m e _. happen_follows m e);
   }
