@@ -57,7 +57,7 @@ class Bench:
         self.ours, self.theirs = Observer(program, folder), self.real("observer", observer)
 
     def real(self, name, place):
-        lines = "\n".join([*self.LINES, *(it.line() for it in self.places)])
+        lines = "\n".join([f"peerType={place.role}", *self.LINES, *(it.line() for it in self.places)])
         text = CONFIGURATION.format(folder=self.folder / name, lines=lines)
         return Server(self.folder, name, place.number, place.client, text)
 

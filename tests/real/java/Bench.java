@@ -3,6 +3,7 @@ import java.util.ArrayList;
 import java.util.Deque;
 import java.util.List;
 import java.util.concurrent.Callable;
+import java.util.concurrent.CountDownLatch;
 import java.util.concurrent.ExecutorService;
 import java.util.concurrent.Executors;
 import java.util.concurrent.Future;
@@ -78,6 +79,13 @@ final class Bench implements AutoCloseable {
                 // The recipe has closed it.
             }
         }
+    }
+
+    /** Waits until a client's server has all that was written before, and the client all events of it. */
+    static void sync(CuratorFramework client) throws Exception {
+        CountDownLatch synced = new CountDownLatch(1);
+        client.sync().inBackground((own, event) -> synced.countDown()).forPath("/");
+        check(synced.await(SECONDS, TimeUnit.SECONDS), "no sync");
     }
 
     /** Cuts a client's connection, which it makes again. */

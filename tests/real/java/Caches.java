@@ -52,7 +52,7 @@ final class Caches {
         CuratorFramework far = bench.far();
         far.create().creatingParentsIfNeeded().forPath("/path/first", bytes("0"));
         CuratorFramework near = bench.near();
-        near.sync().forPath("/");
+        Bench.sync(near);
         List<PathChildrenCacheEvent.Type> told = new CopyOnWriteArrayList<>();
         PathChildrenCache cache = bench.ending(new PathChildrenCache(near, "/path", true));
         cache.getListenable().addListener((client, event) -> told.add(event.getType()));
@@ -105,7 +105,7 @@ final class Caches {
     static void treeCache(Bench bench) throws Exception {
         CuratorFramework far = bench.far(), near = bench.near();
         far.create().forPath("/tree", bytes("root"));
-        near.sync().forPath("/");
+        Bench.sync(near);
         CountDownLatch filled = new CountDownLatch(1);
         TreeCache cache = bench.ending(TreeCache.newBuilder(near, "/tree").build());
         cache.getListenable().addListener((client, event) -> {
@@ -129,7 +129,7 @@ final class Caches {
     static void curatorCache(Bench bench) throws Exception {
         CuratorFramework far = bench.far(), near = bench.near();
         far.create().forPath("/cache", bytes("root"));
-        near.sync().forPath("/");
+        Bench.sync(near);
         CuratorCache cache = bench.ending(CuratorCache.build(near, "/cache"));
         List<String> told = new CopyOnWriteArrayList<>();
         CountDownLatch filled = new CountDownLatch(1);
@@ -152,7 +152,7 @@ final class Caches {
     static void curatorCacheAfterCut(Bench bench) throws Exception {
         CuratorFramework far = bench.far(), near = bench.near();
         far.create().forPath("/cut", bytes("root"));
-        near.sync().forPath("/");
+        Bench.sync(near);
         CuratorCache cache = bench.ending(CuratorCache.build(near, "/cut"));
         cache.start();
         Bench.until("it has the root", () -> has(cache.get("/cut").orElse(null), "root"));

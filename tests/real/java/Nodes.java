@@ -84,7 +84,7 @@ final class Nodes {
         String second = far.create().withMode(CreateMode.EPHEMERAL_SEQUENTIAL).forPath("/container/n-");
         Bench.equal(first + " " + second, "/container/n-0000000000 /container/n-0000000001");
         String safe = near.create().withProtection().withMode(CreateMode.EPHEMERAL_SEQUENTIAL).forPath("/safe-");
-        Bench.check(safe.startsWith("/_c_") && safe.endsWith("-safe-0000000000"), safe);
+        Bench.check(safe.startsWith("/_c_") && safe.endsWith("-safe-0000000003"), safe);
         try {
             near.create().forPath("/stat");
             Bench.check(false, "it is made twice");
@@ -199,6 +199,18 @@ final class Nodes {
         Bench.equal(far.getChildren().forPath("/").size(), 10);
         near.close();
         Bench.until("they go", () -> far.getChildren().forPath("/").isEmpty());
+    }
+
+    /** A client's session goes to the leader and back 20 times, with an ephemeral each time. */
+    static void hops(Bench bench) throws Exception {
+        CuratorFramework near = bench.near();
+        long session = Bench.session(near);
+        for (int turn = 0; turn < 20; turn++) {
+            near.getZookeeperClient().getZooKeeper().updateServerList(turn % 2 == 0 ? bench.leader : bench.server);
+            near.create().orSetData().withMode(CreateMode.EPHEMERAL).forPath("/of-hop-" + turn);
+            Bench.equal(Bench.session(near), session);
+        }
+        Bench.equal(bench.far().getChildren().forPath("/").size(), 20);
     }
 
     /** The ensemble's configuration has the addresses of the server under test and of the leader. */

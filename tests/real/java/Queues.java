@@ -108,7 +108,7 @@ final class Queues {
         }
         Bench.check(putter.flushPuts(5, TimeUnit.SECONDS), "puts are under way");
         CuratorFramework client = bench.near();
-        client.sync().forPath("/");
+        Bench.sync(client);
         bench.ending(queue(client, into(taken), "/priority").buildPriorityQueue(0)).start();
         isTaken(taken, wanted);
         Bench.equal(taken, wanted);

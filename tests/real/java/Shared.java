@@ -26,7 +26,7 @@ final class Shared {
         AtomicInteger passed = new AtomicInteger();
         List<Bench.Job> jobs = new ArrayList<>();
         for (CuratorFramework client : clients.subList(0, 3)) {
-            client.sync().forPath("/");
+            Bench.sync(client);
             jobs.add(() -> {
                 Bench.check(new DistributedBarrier(client, "/barrier").waitOnBarrier(9, TimeUnit.SECONDS), "shut");
                 passed.incrementAndGet();

@@ -12,7 +12,7 @@ import org.apache.zookeeper.Watcher;
 final class Watches {
     private static CuratorWatcher into(List<String> told) {
         return event -> {
-            if (event.getType() != Watcher.Event.EventType.None) {
+            if (event.getType().name().startsWith("Node")) {
                 told.add(event.getType() + " " + event.getPath());
             }
         };
@@ -32,7 +32,7 @@ final class Watches {
         far.setData().forPath("/watched", new byte[1]);
         Bench.until("it is set", () -> told.size() == 3);
         far.delete().deletingChildrenIfNeeded().forPath("/watched");
-        near.sync().forPath("/");
+        Bench.sync(near);
         Bench.equal(told.subList(1, 3), List.of("NodeChildrenChanged /watched", "NodeDataChanged /watched"));
         Bench.equal(told.size(), 3);
     }
@@ -52,7 +52,7 @@ final class Watches {
             far.setData().forPath("/deep/a/b", new byte[1]);
             far.delete().deletingChildrenIfNeeded().forPath("/deep");
         }
-        near.sync().forPath("/");
+        Bench.sync(near);
         Bench.until("all is told", () -> told.size() >= 12 && recursive.size() >= 21);
         Bench.equal(told.subList(0, 4), List.of("NodeCreated /lasting", "NodeChildrenChanged /lasting",
                 "NodeChildrenChanged /lasting", "NodeDeleted /lasting"));
@@ -66,13 +66,13 @@ final class Watches {
         CuratorFramework near = bench.near(), far = bench.far();
         List<String> told = new CopyOnWriteArrayList<>(), once = new CopyOnWriteArrayList<>();
         far.create().creatingParentsIfNeeded().forPath("/again/child");
-        near.sync().forPath("/");
+        Bench.sync(near);
         near.watchers().add().withMode(AddWatchMode.PERSISTENT_RECURSIVE).usingWatcher(into(told)).forPath("/again");
         near.getData().usingWatcher(into(once)).forPath("/again");
         Bench.cut(near);
         far.setData().forPath("/again", new byte[1]);
         Bench.until("what was missed is told", () -> once.equals(List.of("NodeDataChanged /again")));
-        near.sync().forPath("/");
+        Bench.sync(near);
         told.clear();
         far.setData().forPath("/again/child", new byte[1]);
         Bench.until("the recursive watch is there", () -> told.equals(List.of("NodeDataChanged /again/child")));
@@ -82,13 +82,12 @@ final class Watches {
     static void removed(Bench bench) throws Exception {
         CuratorFramework near = bench.near(), far = bench.far();
         far.create().forPath("/removed");
-        near.sync().forPath("/");
+        Bench.sync(near);
         List<String> told = new CopyOnWriteArrayList<>(), other = new CopyOnWriteArrayList<>();
         CuratorWatcher first = into(told);
         near.getData().usingWatcher(first).forPath("/removed");
         near.getChildren().usingWatcher(into(other)).forPath("/removed");
         near.watchers().remove(first).ofType(Watcher.WatcherType.Data).forPath("/removed");
-        told.clear();
         far.setData().forPath("/removed", new byte[1]);
         far.create().forPath("/removed/child");
         Bench.until("the other one tells", () -> other.contains("NodeChildrenChanged /removed"));
@@ -105,11 +104,10 @@ final class Watches {
     static void lastingRemoved(Bench bench) throws Exception {
         CuratorFramework near = bench.near(), far = bench.far();
         far.create().forPath("/lasting");
-        near.sync().forPath("/");
+        Bench.sync(near);
         List<String> told = new CopyOnWriteArrayList<>(), end = new CopyOnWriteArrayList<>();
         near.watchers().add().withMode(AddWatchMode.PERSISTENT).usingWatcher(into(told)).forPath("/lasting");
         near.watchers().removeAll().forPath("/lasting");
-        told.clear();
         near.checkExists().usingWatcher(into(end)).forPath("/end");
         far.setData().forPath("/lasting", new byte[1]);
         far.create().forPath("/end");
@@ -122,15 +120,14 @@ final class Watches {
         CuratorFramework near = bench.near(), far = bench.far();
         far.create().forPath("/a");
         far.create().forPath("/b");
-        near.sync().forPath("/");
+        Bench.sync(near);
         List<String> told = new CopyOnWriteArrayList<>(), end = new CopyOnWriteArrayList<>();
         WatcherRemoveCuratorFramework removing = near.newWatcherRemoveCuratorFramework();
         removing.getData().usingWatcher(into(told)).forPath("/a");
         removing.checkExists().usingWatcher(into(told)).forPath("/c");
         removing.getChildren().usingWatcher(into(told)).forPath("/b");
         removing.removeWatchers();
-        Thread.sleep(300);
-        told.clear();
+        Bench.sync(near);
         near.checkExists().usingWatcher(into(end)).forPath("/end");
         far.setData().forPath("/a", new byte[1]);
         far.create().forPath("/c");
@@ -149,18 +146,18 @@ final class Watches {
         watcher.start();
         Bench.until("it is there", () -> {
             far.create().orSetData().forPath("/watcher", new byte[1]);
-            near.sync().forPath("/");
+            Bench.sync(near);
             return !told.isEmpty();
         });
         Bench.cut(near);
-        near.sync().forPath("/");
+        near.checkExists().forPath("/");
         far.create().forPath("/watcher/below");
         Bench.until("it is told after a cut", () -> told.contains("NodeCreated /watcher/below"));
         watcher.close();
-        Thread.sleep(300);
+        Bench.sync(near);
         told.clear();
         far.setData().forPath("/watcher/below", new byte[1]);
-        near.sync().forPath("/");
+        Bench.sync(near);
         Bench.equal(told, List.of());
     }
 }
