@@ -5,19 +5,19 @@ import re
 import subprocess
 
 import defaults
-from lab import JAVA, Failed, until
+from lab import BRIEF, JAVA, Failed, until
 from libraries import Shell
 
 SOURCES = pathlib.Path(__file__).resolve().parent / "java"
 RECIPE = re.compile(r"^    /\*\* (.*?) \*/\s+static void (\w+)\(Bench bench\)", re.M | re.S)
 JAR = JAVA / "curator-recipes.jar"
 # The time that a recipe has is the program's own; this is for the program.
-SECONDS = 60
+SECONDS = 90
 
 
 def compiled(folder):
     """Compiles the recipes, and returns the class path."""
-    words = ["javac", "-nowarn", "-d", folder, "-cp", JAR, *sorted(SOURCES.glob("*.java"))]
+    words = ["javac", "-J-XX:TieredStopAtLevel=1", "-nowarn", "-d", folder, "-cp", JAR, *sorted(SOURCES.glob("*.java"))]
     done = subprocess.run([str(it) for it in words], stdout=subprocess.PIPE, stderr=subprocess.STDOUT)
     if done.returncode:
         raise Failed(done.stdout.decode(errors="replace"))
@@ -28,8 +28,7 @@ class Recipes(Shell):
     """The program that runs recipes, one after the other."""
 
     def __init__(self, path, server, leader, folder):
-        quiet = "-Dorg.slf4j.simpleLogger.defaultLogLevel=off"
-        words = ["java", quiet, "-Xmx256m", "-cp", path, "Main", f"127.0.0.1:{server}", f"127.0.0.1:{leader}"]
+        words = ["java", *BRIEF, "-Xmx256m", "-cp", path, "Main", f"127.0.0.1:{server}", f"127.0.0.1:{leader}"]
         super().__init__(words, folder, "recipes")
         self.number = 0
 

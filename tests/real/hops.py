@@ -32,8 +32,14 @@ class Bench(defaults.Bench):
         return [it.client for it in (self.leader, self.java, self.observer)]
 
 
+class Busy(Writer):
+    """A client that sets a node again and again, nearly without a pause."""
+
+    PAUSE = 0.002
+
+
 class Load:
-    """Clients that set a node of their own at each server again and again, of which no write is lost."""
+    """Six clients, two at each server, each of which sets a node of its own again and again."""
 
     def __init__(self, bench):
         owner = library(bench.leader.client)
@@ -42,7 +48,7 @@ class Load:
         for it in paths:
             owner.ensure_path(it)
         ended(owner)
-        self.writers = [Writer(port, path, SESSION) for port, path in zip(bench.ports() * 2, paths)]
+        self.writers = [Busy(port, path, SESSION) for port, path in zip(bench.ports() * 2, paths)]
 
     def __enter__(self):
         return self

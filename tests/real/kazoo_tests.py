@@ -16,8 +16,8 @@ TESTS = PACKAGES / "kazoo" / "tests"
 SECONDS, FILE_SECONDS = 90, 1500
 PYTEST = (sys.executable, "-B", "-m", "pytest", "-q", "--rootdir", PACKAGES, "-p", "no:cacheprovider")
 
-# What ZooKeeper's own observer doesn't pass either.
-LEFT_OUT = ()
+# What ZooKeeper's own observer doesn't pass either: it has no read-only mode and no SASL here, and the rest is skipped.
+LEFT_OUT = ("TestReadOnlyMode", "test_connect_sasl_auth", "TestSASLGSSAPIAuthentication", "TestBuildEnvironment")
 
 
 def collected():
@@ -69,7 +69,7 @@ def check_of(test):
             raise Failed(f"{outcome}: {why}")
 
     check.__name__ = ".".join([re.sub("test_", "", pathlib.Path(file).stem, 1), *names])
-    check.__doc__ = "It passes."
+    check.__doc__ = "kazoo's own test passes."
     return check
 
 

@@ -23,7 +23,7 @@ FAKETIME = "/usr/bin/faketime"
 JARS = ("zookeeper.jar", "slf4j-simple.jar", "log4j-1.2.jar")
 LEADER_ID, OBSERVER_ID = 9, 3
 TIMEOUTS = (4000, 40000)
-START_SECONDS = 60
+START_SECONDS = 180
 
 CONFIGURATION = """
 tickTime=500
@@ -47,6 +47,8 @@ server.{observer_id}=127.0.0.1:{unused}:{unused_election}:observer
 # What a 3.4 leader never writes: a digest behind each transaction, and the ephemerals in a closeSession.
 DIALECT = ("-Dzookeeper.digest.enabled=false", "-Dzookeeper.closeSessionTxn.enabled=false")
 OTHERS = ("-Xmx512m", "-Dzookeeper.forceSync=no", "-Djava.net.preferIPv4Stack=true")
+# A client of Java that lives for a short time.
+BRIEF = ("-XX:+UseSerialGC", "-XX:TieredStopAtLevel=1", "-Dorg.slf4j.simpleLogger.defaultLogLevel=off")
 QUIET = ("-Dzookeeper.jmx.log4j.disable=true", "-Dorg.slf4j.simpleLogger.defaultLogLevel=warn")
 
 

@@ -3,7 +3,7 @@ import re
 import time
 
 import defaults
-from lab import JARS, JAVA, ended, library, until
+from lab import BRIEF, JARS, JAVA, ended, library, until
 from libraries import Shell
 
 ROOT = "/zkcli"
@@ -28,8 +28,7 @@ class Cli(Shell):
 
     def __init__(self, port, folder, name):
         path = ":".join(str(JAVA / it) for it in JARS)
-        quiet = "-Dorg.slf4j.simpleLogger.defaultLogLevel=off"
-        words = ["java", quiet, "-Xmx128m", "-cp", path, "org.apache.zookeeper.ZooKeeperMain"]
+        words = ["java", *BRIEF, "-Xmx128m", "-cp", path, "org.apache.zookeeper.ZooKeeperMain"]
         super().__init__([*words, "-waitforconnection", "-server", f"127.0.0.1:{port}"], folder, name)
         self.port = port
         self.does("ls /")
@@ -103,8 +102,9 @@ def create(bench):
     commands += ("create {}/a", "create {}/x/y", "create {}/e/below", "get {}/b", "getAcl {}/c", "ls {}")
     made = ("a", "b", "c", "s-0000000003", "e", "s-0000000005", "container", "container/c")
     wanted = [f"Created {{}}/{it}" for it in made]
-    wanted += ["Node already exists: {}/a", "Node does not exist: {}/x/y", "Ephemerals cannot have children: {}/e/below"]
-    wanted += ["data", "'world,'anyone", "[a, b, c, container, e, s-0000000003, s-0000000005]"]
+    wanted += ["Node already exists: {}/a", "Node does not exist: {}/x/y"]
+    wanted += ["Ephemerals cannot have children: {}/e/below", "data", "'world,'anyone"]
+    wanted += ["[a, b, c, container, e, s-0000000003, s-0000000005]"]
     has(bench.both("create", *commands), *wanted)
 
 
@@ -115,30 +115,30 @@ def create_ttl(bench):
 
 def get(bench):
     """get, get -s, get -w, which is told, and of a node that isn't there."""
-    commands = ("create {}/a first", "get {}/a", "get -s {}/a", "get -w {}/a", "set {}/a second", "get {}/a", "get {}/x")
-    printed = bench.both("get", *commands)
+    commands = ("create {}/a first", "get {}/a", "get -s {}/a", "get -w {}/a", "set {}/a second", "get {}/a")
+    printed = bench.both("get", *commands, "get {}/x")
     has(printed, "Created", "first", "dataLength = 5", "first", "", "second", "Node does not exist: {}/x")
     assert printed[-1] == "NodeDataChanged path:{}/a", printed[-1]
 
 
 def ls(bench):
     """ls, ls -s, ls -R, ls -w, which is told."""
-    commands = ("create {}/a", "create {}/a/b", "create {}/c", "ls {}", "ls -s {}", "ls -R {}", "ls -w {}", "delete {}/c")
-    printed = bench.both("ls", *commands, "ls {}/x")[3:]
+    commands = ("create {}/a", "create {}/a/b", "create {}/c", "ls {}", "ls -s {}", "ls -R {}", "ls -w {}")
+    printed = bench.both("ls", *commands, "delete {}/c", "ls {}/x")[3:]
     has(printed, "[a, c]", "numChildren = 2", "{}\n{}/a\n{}/c\n{}/a/b", "[a, c]", "", "Node does not exist: {}/x")
     assert printed[-1] == "NodeChildrenChanged path:{}", printed[-1]
 
 
 def set_data(bench):
     """set, set -s, set -v with the node's version and with another one."""
-    commands = ("create {}/a", "set {}/a one", "set -s {}/a two", "set -v 2 {}/a three", "set -v 9 {}/a four", "get {}/a")
-    has(bench.both("set", *commands)[2:], "dataVersion = 2", "", "version No is not valid : {}/a", "three")
+    commands = ("create {}/a", "set {}/a one", "set -s {}/a two", "set -v 2 {}/a three", "set -v 9 {}/a four")
+    has(bench.both("set", *commands, "get {}/a")[2:], "dataVersion = 2", "", "version No is not valid : {}/a", "three")
 
 
 def delete(bench):
     """delete, delete -v with the node's version and with another one, and of a node that has children."""
-    commands = ("create {}/a", "create {}/a/b", "delete {}/a", "delete -v 7 {}/a/b", "delete -v 0 {}/a/b", "delete {}/a")
-    printed = bench.both("delete", *commands, "delete {}/a", "ls {}")[2:]
+    commands = ("create {}/a", "create {}/a/b", "delete {}/a", "delete -v 7 {}/a/b", "delete -v 0 {}/a/b")
+    printed = bench.both("delete", *commands, "delete {}/a", "delete {}/a", "ls {}")[2:]
     has(printed, "Node not empty: {}/a", "version No is not valid : {}/a/b", "", "", "Node does not exist: {}/a", "[]")
 
 
@@ -203,9 +203,9 @@ def whoami(bench):
 
 def add_watch(bench):
     """addWatch of both modes, of which each is told of every change, the recursive one also below the node."""
-    commands = ("create {}/p", "create {}/r", "addWatch {}/r", "addWatch -m PERSISTENT {}/p", "set {}/p 1", "set {}/p 2")
-    commands += ("create {}/p/child", "set {}/p/child x", "create {}/r/a", "create {}/r/a/b", "delete {}/r/a/b")
-    told = bench.both("add-watch", *commands)[-1].splitlines()
+    commands = ("create {}/p", "create {}/r", "addWatch {}/r", "addWatch -m PERSISTENT {}/p", "set {}/p 1")
+    commands += ("set {}/p 2", "create {}/p/child", "set {}/p/child x", "create {}/r/a", "create {}/r/a/b")
+    told = bench.both("add-watch", *commands, "delete {}/r/a/b")[-1].splitlines()
     wanted = ["NodeDataChanged path:{}/p"] * 2 + ["NodeChildrenChanged path:{}/p", "NodeCreated path:{}/r/a"]
     assert told == [*wanted, "NodeCreated path:{}/r/a/b", "NodeDeleted path:{}/r/a/b"], told
 
@@ -240,7 +240,8 @@ def quota(bench):
     commands = ("create {}/q data", "setquota -n 3 {}/q", "create {}/q/a", "delquota -n {}/q", "delquota {}/q")
     bench.both("quota", *commands)
     port = bench.observer.client
-    printed = bench.commands(bench.shell(port), f"{ROOT}/listed", ("setquota -n 9 {}", "listquota {}", "listquota {}/x"))
+    commands = ("setquota -n 9 {}", "listquota {}", "listquota {}/x")
+    printed = bench.commands(bench.shell(port), f"{ROOT}/listed", commands)
     has(printed, "", "Output quota for {} count=9", "does not exist")
 
 

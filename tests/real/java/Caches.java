@@ -114,7 +114,7 @@ final class Caches {
             }
         });
         cache.start();
-        Bench.check(filled.await(5, TimeUnit.SECONDS), "it isn't filled");
+        Bench.check(filled.await(Bench.SECONDS, TimeUnit.SECONDS), "it isn't filled");
         Map<String, String> wanted = grown(far, "/tree");
         for (Map.Entry<String, String> it : wanted.entrySet()) {
             Bench.until(it.toString(), () -> has(cache.getCurrentData(it.getKey()), it.getValue()));
@@ -138,7 +138,7 @@ final class Caches {
                 .forCreates(it -> told.add("created " + it.getPath()))
                 .forDeletes(it -> told.add("deleted " + it.getPath())).build());
         cache.start();
-        Bench.check(filled.await(5, TimeUnit.SECONDS), "it isn't filled");
+        Bench.check(filled.await(Bench.SECONDS, TimeUnit.SECONDS), "it isn't filled");
         Map<String, String> wanted = grown(far, "/cache");
         for (Map.Entry<String, String> it : wanted.entrySet()) {
             Bench.until(it.toString(), () -> has(cache.get(it.getKey()).orElse(null), it.getValue()));

@@ -4,14 +4,14 @@ import org.apache.curator.framework.recipes.nodes.PersistentTtlNode;
 import org.apache.zookeeper.CreateMode;
 import org.apache.zookeeper.data.Stat;
 
-/** Nodes that the leader deletes by itself: TTL nodes, which are off by default, and containers, which wait a minute. */
+/** Nodes that the leader deletes by itself: TTL nodes, which are off by default, and containers. */
 final class Extended {
     /** A PersistentTtlNode stays while it is kept, and goes when it isn't any more. */
     static void ttlNode(Bench bench) throws Exception {
         CuratorFramework near = bench.near();
         PersistentTtlNode node = bench.ending(new PersistentTtlNode(near, "/ttl", 1000, new byte[] {1}));
         node.start();
-        Bench.check(node.waitForInitialCreate(5, TimeUnit.SECONDS), "it isn't made");
+        Bench.check(node.waitForInitialCreate(Bench.SECONDS, TimeUnit.SECONDS), "it isn't made");
         Thread.sleep(2500);
         Bench.check(near.checkExists().forPath("/ttl") != null, "it is gone");
         node.close();

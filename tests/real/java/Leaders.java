@@ -39,7 +39,7 @@ final class Leaders {
         CuratorFramework client = bench.near();
         LeaderLatch latch = bench.ending(new LeaderLatch(client, "/cut"));
         latch.start();
-        Bench.check(latch.await(5, TimeUnit.SECONDS), "nobody leads");
+        Bench.check(latch.await(Bench.SECONDS, TimeUnit.SECONDS), "nobody leads");
         long session = Bench.session(client);
         Bench.cut(client);
         Bench.until("it has lost it", () -> !latch.hasLeadership());
@@ -53,14 +53,14 @@ final class Leaders {
         LeaderLatch first = bench.ending(new LeaderLatch(client, "/expired", "first"));
         LeaderLatch second = bench.ending(new LeaderLatch(bench.far(), "/expired", "second"));
         first.start();
-        Bench.check(first.await(5, TimeUnit.SECONDS), "nobody leads");
+        Bench.check(first.await(Bench.SECONDS, TimeUnit.SECONDS), "nobody leads");
         second.start();
         Bench.until("both take part", () -> second.getParticipants().size() == 2);
         bench.expire(client);
-        Bench.check(second.await(5, TimeUnit.SECONDS), "a session that has ended leads");
+        Bench.check(second.await(Bench.SECONDS, TimeUnit.SECONDS), "a session that has ended leads");
         Bench.until("both take part", () -> second.getParticipants().size() == 2);
         second.close();
-        Bench.check(first.await(5, TimeUnit.SECONDS), "nobody leads");
+        Bench.check(first.await(Bench.SECONDS, TimeUnit.SECONDS), "nobody leads");
     }
 
     /** Several LeaderSelectors lead in turn, one at a time, each of them twice. */
@@ -107,9 +107,9 @@ final class Leaders {
             it.start();
             Bench.until("it takes part", () -> it.getParticipants().size() == selectors.size());
         }
-        Bench.check(led.get(0).await(5, TimeUnit.SECONDS), "the first doesn't lead");
+        Bench.check(led.get(0).await(Bench.SECONDS, TimeUnit.SECONDS), "the first doesn't lead");
         Bench.equal(selectors.get(1).getLeader().getId(), "number 0");
         selectors.get(0).interruptLeadership();
-        Bench.check(led.get(1).await(5, TimeUnit.SECONDS), "the second doesn't lead");
+        Bench.check(led.get(1).await(Bench.SECONDS, TimeUnit.SECONDS), "the second doesn't lead");
     }
 }

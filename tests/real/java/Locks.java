@@ -47,7 +47,7 @@ final class Locks {
         lock.release();
         Bench.check(!other.acquire(300, TimeUnit.MILLISECONDS), "it is let go too early");
         lock.release();
-        Bench.check(other.acquire(5, TimeUnit.SECONDS), "it isn't let go");
+        Bench.check(other.acquire(Bench.SECONDS, TimeUnit.SECONDS), "it isn't let go");
     }
 
     /** An InterProcessMutex passes on when its holder's client is closed, and when its session is ended. */
@@ -57,11 +57,11 @@ final class Locks {
         InterProcessMutex next = new InterProcessMutex(second, "/passes");
         Bench.check(!next.acquire(300, TimeUnit.MILLISECONDS), "two hold the lock");
         first.close();
-        Bench.check(next.acquire(5, TimeUnit.SECONDS), "a closed client holds it");
+        Bench.check(next.acquire(Bench.SECONDS, TimeUnit.SECONDS), "a closed client holds it");
         InterProcessMutex last = new InterProcessMutex(bench.far(), "/passes");
         Bench.check(!last.acquire(300, TimeUnit.MILLISECONDS), "two hold the lock");
         bench.expire(second);
-        Bench.check(last.acquire(5, TimeUnit.SECONDS), "a session that has ended holds it");
+        Bench.check(last.acquire(Bench.SECONDS, TimeUnit.SECONDS), "a session that has ended holds it");
     }
 
     /** The holder of an InterProcessMutex keeps it when its connection is cut. */
@@ -74,7 +74,7 @@ final class Locks {
         InterProcessMutex other = new InterProcessMutex(bench.near(), "/cut");
         Bench.check(!other.acquire(500, TimeUnit.MILLISECONDS), "two hold the lock");
         lock.release();
-        Bench.check(other.acquire(5, TimeUnit.SECONDS), "it isn't let go");
+        Bench.check(other.acquire(Bench.SECONDS, TimeUnit.SECONDS), "it isn't let go");
     }
 
     /** The holder of an InterProcessMutex is told that another client wants it back. */
@@ -85,7 +85,7 @@ final class Locks {
         lock.acquire();
         String holder = lock.getParticipantNodes().iterator().next();
         Revoker.attemptRevoke(bench.far(), holder);
-        Bench.check(told.await(5, TimeUnit.SECONDS), "it isn't told");
+        Bench.check(told.await(Bench.SECONDS, TimeUnit.SECONDS), "it isn't told");
         lock.release();
     }
 
@@ -100,14 +100,14 @@ final class Locks {
         InterProcessReadWriteLock here = new InterProcessReadWriteLock(bench.near(), "/read-write");
         InterProcessReadWriteLock there = new InterProcessReadWriteLock(bench.far(), "/read-write");
         here.readLock().acquire();
-        Bench.check(there.readLock().acquire(5, TimeUnit.SECONDS), "two can't read");
+        Bench.check(there.readLock().acquire(Bench.SECONDS, TimeUnit.SECONDS), "two can't read");
         Bench.check(!there.writeLock().acquire(300, TimeUnit.MILLISECONDS), "it is written while it is read");
         there.readLock().release();
         here.readLock().release();
         here.writeLock().acquire();
         here.readLock().acquire();
         here.writeLock().release();
-        Bench.check(there.readLock().acquire(5, TimeUnit.SECONDS), "a writer that only reads keeps readers out");
+        Bench.check(there.readLock().acquire(Bench.SECONDS, TimeUnit.SECONDS), "a reader keeps readers out");
     }
 
     /** An InterProcessSemaphoreV2 has as many leases as its number says, or a SharedCount. */
@@ -131,11 +131,11 @@ final class Locks {
         SharedCount count = bench.ending(new SharedCount(client, "/leases", 3));
         count.start();
         InterProcessSemaphoreV2 counted = new InterProcessSemaphoreV2(client, "/counted", count);
-        Collection<Lease> leases = counted.acquire(3, 5, TimeUnit.SECONDS);
+        Collection<Lease> leases = counted.acquire(3, Bench.SECONDS, TimeUnit.SECONDS);
         Bench.equal(counted.getParticipantNodes().size(), 3);
         Bench.check(counted.acquire(300, TimeUnit.MILLISECONDS) == null, "a fourth lease of three");
         count.setCount(4);
-        Bench.check(counted.acquire(5, TimeUnit.SECONDS) != null, "no fourth lease of four");
+        Bench.check(counted.acquire(Bench.SECONDS, TimeUnit.SECONDS) != null, "no fourth lease of four");
         counted.returnAll(leases);
     }
 
@@ -146,6 +146,7 @@ final class Locks {
         new InterProcessMutex(bench.far(), "/multi/b").acquire();
         InterProcessLock both = new InterProcessMultiLock(client, List.of("/multi/a", "/multi/b"));
         Bench.check(!both.acquire(500, TimeUnit.MILLISECONDS), "a lock of another client is had");
-        Bench.check(new InterProcessMutex(bench.near(), "/multi/a").acquire(5, TimeUnit.SECONDS), "one is kept");
+        InterProcessMutex first = new InterProcessMutex(bench.near(), "/multi/a");
+        Bench.check(first.acquire(Bench.SECONDS, TimeUnit.SECONDS), "one is kept");
     }
 }

@@ -23,7 +23,7 @@ final class Nodes {
         PersistentNode node =
                 bench.ending(new PersistentNode(near, CreateMode.EPHEMERAL, false, "/persistent", new byte[] {1}));
         node.start();
-        Bench.check(node.waitForInitialCreate(5, TimeUnit.SECONDS), "it isn't made");
+        Bench.check(node.waitForInitialCreate(Bench.SECONDS, TimeUnit.SECONDS), "it isn't made");
         Stat first = far.checkExists().forPath("/persistent");
         Bench.equal(first.getEphemeralOwner(), Bench.session(near));
         far.delete().forPath("/persistent");
@@ -43,7 +43,7 @@ final class Nodes {
         PersistentNode node =
                 bench.ending(new PersistentNode(near, CreateMode.EPHEMERAL, true, "/expired", new byte[] {1}));
         node.start();
-        Bench.check(node.waitForInitialCreate(5, TimeUnit.SECONDS), "it isn't made");
+        Bench.check(node.waitForInitialCreate(Bench.SECONDS, TimeUnit.SECONDS), "it isn't made");
         long session = Bench.session(near);
         Bench.cut(near);
         Bench.until("it is set after a cut", () -> {
@@ -93,7 +93,8 @@ final class Nodes {
         }
         Bench.equal(near.getData().storingStatIn(stat).forPath("/stat")[0], (byte) 4);
         Bench.equal(stat.getVersion(), 1);
-        near.create().idempotent().forPath("/stat", new byte[] {4});
+        near.create().idempotent().forPath("/twice", new byte[] {4});
+        near.create().idempotent().forPath("/twice", new byte[] {4});
     }
 
     /** Nodes are deleted with their children, by version, quietly, guaranteed, and in the background. */
@@ -116,7 +117,7 @@ final class Nodes {
                 told.countDown();
             }
         }).forPath("/background");
-        Bench.check(told.await(5, TimeUnit.SECONDS), "it isn't told");
+        Bench.check(told.await(Bench.SECONDS, TimeUnit.SECONDS), "it isn't told");
         Bench.equal(near.getChildren().forPath("/"), List.of());
     }
 

@@ -75,7 +75,7 @@ final class Queues {
                 return rest.isEmpty() ? null : rest.remove(0);
             }
         });
-        Bench.check(putter.flushPuts(5, TimeUnit.SECONDS), "puts are under way");
+        Bench.check(putter.flushPuts(Bench.SECONDS, TimeUnit.SECONDS), "puts are under way");
         isTaken(taken, wanted);
         Bench.equal(taken, wanted);
     }
@@ -106,7 +106,7 @@ final class Queues {
         for (int number = ITEMS - 1; number >= 0; number--) {
             putter.put(wanted.get(number), number);
         }
-        Bench.check(putter.flushPuts(5, TimeUnit.SECONDS), "puts are under way");
+        Bench.check(putter.flushPuts(Bench.SECONDS, TimeUnit.SECONDS), "puts are under way");
         CuratorFramework client = bench.near();
         Bench.sync(client);
         bench.ending(queue(client, into(taken), "/priority").buildPriorityQueue(0)).start();
@@ -123,7 +123,7 @@ final class Queues {
         for (String it : items(6)) {
             putter.put(it, it.substring(5));
         }
-        Bench.check(putter.flushPuts(5, TimeUnit.SECONDS), "puts are under way");
+        Bench.check(putter.flushPuts(Bench.SECONDS, TimeUnit.SECONDS), "puts are under way");
         Bench.equal(putter.remove("03"), 1);
         Bench.equal(putter.remove("99"), 0);
         bench.ending(queue(client, into(taken), "/id").buildIdQueue()).start();
@@ -163,7 +163,7 @@ final class Queues {
             (number % 2 == 0 ? here : there).offer(new byte[] {(byte) number});
         }
         for (int number = 0; number < ITEMS; number++) {
-            Bench.equal((int) here.poll(5, TimeUnit.SECONDS)[0], number);
+            Bench.equal((int) here.poll(Bench.SECONDS, TimeUnit.SECONDS)[0], number);
         }
     }
 }

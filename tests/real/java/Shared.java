@@ -28,7 +28,8 @@ final class Shared {
         for (CuratorFramework client : clients.subList(0, 3)) {
             Bench.sync(client);
             jobs.add(() -> {
-                Bench.check(new DistributedBarrier(client, "/barrier").waitOnBarrier(9, TimeUnit.SECONDS), "shut");
+                DistributedBarrier barrier = new DistributedBarrier(client, "/barrier");
+                Bench.check(barrier.waitOnBarrier(Bench.SECONDS, TimeUnit.SECONDS), "it is shut");
                 passed.incrementAndGet();
             });
         }
@@ -51,11 +52,11 @@ final class Shared {
                 DistributedDoubleBarrier barrier = new DistributedDoubleBarrier(client, "/double", 4);
                 Thread.sleep(late);
                 came.incrementAndGet();
-                Bench.check(barrier.enter(9, TimeUnit.SECONDS), "it isn't let in");
+                Bench.check(barrier.enter(Bench.SECONDS, TimeUnit.SECONDS), "it isn't let in");
                 Bench.equal(came.get(), 4);
                 Thread.sleep(late);
                 leaves.incrementAndGet();
-                Bench.check(barrier.leave(9, TimeUnit.SECONDS), "it isn't let out");
+                Bench.check(barrier.leave(Bench.SECONDS, TimeUnit.SECONDS), "it isn't let out");
                 Bench.equal(leaves.get(), 4);
             });
         }
