@@ -20,7 +20,7 @@ DIFFERENT = (
     (re.compile(r"\[(.*)\]"), lambda found: f"[{', '.join(sorted(found[1].split(', ')))}]"),
 )
 # What a watch is told, which the shell prints by a thread of its own.
-EVENT = re.compile(r"\n?WATCHER::\n\nWatchedEvent state:SyncConnected type:(.*)\n")
+EVENT = re.compile(r"^WatchedEvent state:SyncConnected type:(\w+ path:.*)$", re.M)
 
 
 class Cli(Shell):
@@ -30,8 +30,6 @@ class Cli(Shell):
         path = ":".join(str(JAVA / it) for it in JARS)
         words = ["java", *BRIEF, "-Xmx128m", "-cp", path, "org.apache.zookeeper.ZooKeeperMain"]
         super().__init__([*words, "-waitforconnection", "-server", f"127.0.0.1:{port}"], folder, name)
-        self.port = port
-        self.does("ls /")
 
     def does(self, command):
         """Gives a command, and returns what it prints, but for events."""
@@ -39,8 +37,11 @@ class Cli(Shell):
         self.say(command)
         self.say(MARK)
         until(f"{command} is done", lambda: MARKED in self.output()[before:], SECONDS)
-        found = EVENT.sub("", self.output()[before:].replace(f"{MARKED}\n", ""))
-        return "\n".join(it for it in found.splitlines() if not it.startswith("[zk: "))
+        found = self.output()[before:].replace(MARKED, "").splitlines()
+        return "\n".join(it for it in found if it and not it.startswith(("[zk: ", "WATCHER::", "WatchedEvent ")))
+
+    def is_connected(self):
+        return self.ran.poll() is None and "zookeeper" in self.does("ls /")
 
 
 class Bench(defaults.Bench):
@@ -51,11 +52,14 @@ class Bench(defaults.Bench):
         self.shells, self.count = {}, 0
 
     def shell(self, port):
-        """Returns the shell at a port, which is begun anew where the last check has ended it."""
+        """Returns a shell at a port that is connected: the one that the check before has left, or a new one."""
         self.begin()
-        if port not in self.shells or self.shells[port].ran.poll() is not None:
+        if port not in self.shells or not self.shells[port].is_connected():
+            if port in self.shells:
+                self.shells[port].__exit__()
             self.count += 1
             self.shells[port] = Cli(port, self.folder, f"zkcli-{self.count}")
+            until("the shell is connected", self.shells[port].is_connected, SECONDS)
         return self.shells[port]
 
     def both(self, name, *commands):
