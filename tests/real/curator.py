@@ -1,5 +1,5 @@
 """Curator's recipes: the methods of the classes in `java`, which a program runs at the server under test, with clients
-that stay where they are, and with clients that follow the ensemble's configuration (`_tracked`)."""
+that stay where they are (`_fixed`), and with clients that follow the ensemble's configuration (`_tracked`)."""
 import pathlib
 import re
 import subprocess
@@ -66,7 +66,7 @@ def check_of(group, name, text, is_tracked):
     def check(bench):
         bench.does(f"{group}.{name}", is_tracked)
 
-    check.__name__ = f"{group.lower()}_{name}{'_tracked' if is_tracked else ''}"
+    check.__name__ = f"{group.lower()}_{name}_{'tracked' if is_tracked else 'fixed'}"
     check.__doc__ = text.replace("\n     *", "")
     return check
 
@@ -74,7 +74,7 @@ def check_of(group, name, text, is_tracked):
 def checks_of(groups):
     """Returns a check for each recipe of these classes, by clients of both kinds."""
     recipes = [(it, *found) for it in groups for found in RECIPE.findall((SOURCES / f"{it}.java").read_text())]
-    return [check_of(group, name, text, way) for way in (False, True) for group, text, name in recipes]
+    return [check_of(group, name, text, it) for it in (False, True) for group, text, name in recipes]
 
 
 CHECKS = checks_of(("Locks", "Leaders", "Caches", "Atomics", "Queues", "Shared", "Nodes", "Watches"))

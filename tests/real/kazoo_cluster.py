@@ -34,7 +34,8 @@ def pytest_runtest_logreport(report):
     """Keeps what went wrong before, in and after a test, and writes a line when all of it is over."""
     found = REPORTS.setdefault(report.nodeid, [])
     if report.outcome != "passed":
-        found.append((report.outcome, str(report.longrepr)[-1500:]))
+        crash = getattr(report.longrepr, "reprcrash", None)
+        found.append((report.outcome, str(crash or report.longrepr)))
     if report.when == "teardown":
         outcome, why = found[0] if found else ("passed", "")
         with open(os.environ["OUTCOMES"], "a", encoding="utf-8") as out:
