@@ -6,6 +6,7 @@ import java.util.concurrent.TimeUnit;
 import java.util.concurrent.atomic.AtomicInteger;
 import org.apache.curator.framework.CuratorFramework;
 import org.apache.curator.framework.recipes.leader.LeaderLatch;
+import org.apache.curator.framework.recipes.leader.LeaderLatchListener;
 import org.apache.curator.framework.recipes.leader.LeaderSelector;
 import org.apache.curator.framework.recipes.leader.LeaderSelectorListenerAdapter;
 
@@ -38,11 +39,22 @@ final class Leaders {
     static void latchAfterCut(Bench bench) throws Exception {
         CuratorFramework client = bench.near();
         LeaderLatch latch = bench.ending(new LeaderLatch(client, "/cut"));
+        CountDownLatch lost = new CountDownLatch(1);
+        latch.addListener(new LeaderLatchListener() {
+            @Override
+            public void isLeader() {
+            }
+
+            @Override
+            public void notLeader() {
+                lost.countDown();
+            }
+        });
         latch.start();
         Bench.check(latch.await(Bench.SECONDS, TimeUnit.SECONDS), "nobody leads");
         long session = Bench.session(client);
         Bench.cut(client);
-        Bench.until("it has lost it", () -> !latch.hasLeadership());
+        Bench.check(lost.await(Bench.SECONDS, TimeUnit.SECONDS), "it leads on");
         Bench.until("it leads again", latch::hasLeadership);
         Bench.equal(Bench.session(client), session);
     }
