@@ -17,7 +17,7 @@ import org.apache.zookeeper.ZooKeeper;
 
 /** What a recipe works with: clients at the server under test and at the leader, in a namespace of the recipe's own. */
 final class Bench implements AutoCloseable {
-    static final int SESSION = 30_000, CONNECTION = 10_000, SECONDS = 15;
+    static final int SESSION = 30_000, CONNECTION = 10_000, SECONDS = 30;
 
     final String server, leader;
     private final String namespace;
@@ -136,7 +136,7 @@ final class Bench implements AutoCloseable {
             }));
         }
         for (Future<?> it : found) {
-            it.get(30, TimeUnit.SECONDS);
+            it.get(2 * SECONDS, TimeUnit.SECONDS);
         }
     }
 

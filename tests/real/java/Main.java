@@ -13,7 +13,7 @@ import java.util.concurrent.TimeoutException;
  * the number, and then says ok, or why the recipe failed.
  */
 public final class Main {
-    private static final int SECONDS = 60;
+    private static final int SECONDS = 120;
 
     public static void main(String[] given) throws Exception {
         BufferedReader lines = new BufferedReader(new InputStreamReader(System.in));
