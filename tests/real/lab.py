@@ -2,6 +2,7 @@
 
 The leader is the only voter of its ensemble, with id 9, beside an observer that stands in its configuration. A later
 server than 3.4 writes some transactions in forms that 3.4 doesn't have; the settings below keep it from that.
+`defaults.py` has a leader with default settings.
 """
 import os
 import pathlib
@@ -22,7 +23,7 @@ FAKETIME = "/usr/bin/faketime"
 JARS = ("zookeeper.jar", "slf4j-simple.jar", "log4j-1.2.jar")
 LEADER_ID, OBSERVER_ID = 9, 3
 TIMEOUTS = (4000, 40000)
-START_SECONDS = 60
+START_SECONDS = 180
 
 CONFIGURATION = """
 tickTime=500
@@ -46,6 +47,8 @@ server.{observer_id}=127.0.0.1:{unused}:{unused_election}:observer
 # What a 3.4 leader never writes: a digest behind each transaction, and the ephemerals in a closeSession.
 DIALECT = ("-Dzookeeper.digest.enabled=false", "-Dzookeeper.closeSessionTxn.enabled=false")
 OTHERS = ("-Xmx512m", "-Dzookeeper.forceSync=no", "-Djava.net.preferIPv4Stack=true")
+# A client of Java that lives for a short time.
+BRIEF = ("-XX:+UseSerialGC", "-XX:TieredStopAtLevel=1", "-Dorg.slf4j.simpleLogger.defaultLogLevel=off")
 QUIET = ("-Dzookeeper.jmx.log4j.disable=true", "-Dorg.slf4j.simpleLogger.defaultLogLevel=warn")
 
 
@@ -147,36 +150,33 @@ def ended(*clients):
         it.close()
 
 
-class Leader:
-    """A real leader, which keeps its folder and ports when it is started again."""
+def reaches(port, zxid, seconds=20):
+    """Waits until a server has taken all up to this zxid, which a reply to any read tells."""
+    client = until("the server opens a session", lambda: Client(port))
+    what = f"the server reaches 0x{zxid:x}"
+    until(what, lambda: client.call(EXISTS, text("/") + boolean(False)).zxid >= zxid, seconds)
+    client.leave()
 
-    def __init__(self, folder):
-        self.folder = folder / "leader"
+
+class Server:
+    """A real server, which keeps its folder and ports when it is started again."""
+
+    def __init__(self, folder, name, number, client, configuration):
+        self.folder, self.name, self.client, self.process = folder / name, name, client, None
         self.folder.mkdir()
-        self.client, self.quorum, election, unused, unused_election = free_ports(5)
-        (self.folder / "myid").write_text(f"{LEADER_ID}\n")
-        (self.folder / "zoo.cfg").write_text(
-            CONFIGURATION.format(
-                folder=self.folder,
-                client=self.client,
-                quorum=self.quorum,
-                election=election,
-                unused=unused,
-                unused_election=unused_election,
-                leader_id=LEADER_ID,
-                observer_id=OBSERVER_ID,
-                least=TIMEOUTS[0],
-                greatest=TIMEOUTS[1],
-            )
-        )
-        self.process = None
+        (self.folder / "myid").write_text(f"{number}\n")
+        (self.folder / "zoo.cfg").write_text(configuration)
 
-    def start(self, dialect=DIALECT):
+    def start(self, flags=(), mode="Mode: "):
+        """Starts it with these properties of Java, and waits until it serves in this mode."""
         path = ":".join(str(JAVA / it) for it in JARS)
         main = "org.apache.zookeeper.server.quorum.QuorumPeerMain"
-        words = ["java", *dialect, *OTHERS, *QUIET, "-cp", path, main, self.folder / "zoo.cfg"]
-        self.process = Process("zookeeper", words, self.folder.parent)
-        until("the leader serves", lambda: "Mode: leader" in word(self.client, "srvr"), START_SECONDS)
+        words = ["java", *flags, *OTHERS, *QUIET, "-cp", path, main, self.folder / "zoo.cfg"]
+        self.process = Process(self.name, words, self.folder.parent)
+        until(f"{self.name} serves", lambda: mode in word(self.client, "srvr"), START_SECONDS)
+
+    def reaches(self, zxid, seconds=20):
+        reaches(self.client, zxid, seconds)
 
     def stop(self):
         if self.process:
@@ -185,6 +185,29 @@ class Leader:
     def kill(self):
         self.process.signal(signal.SIGKILL)
         self.process.ends()
+
+
+class Leader(Server):
+    """A real leader."""
+
+    def __init__(self, folder):
+        client, self.quorum, election, unused, unused_election = free_ports(5)
+        configuration = CONFIGURATION.format(
+            folder=folder / "leader",
+            client=client,
+            quorum=self.quorum,
+            election=election,
+            unused=unused,
+            unused_election=unused_election,
+            leader_id=LEADER_ID,
+            observer_id=OBSERVER_ID,
+            least=TIMEOUTS[0],
+            greatest=TIMEOUTS[1],
+        )
+        super().__init__(folder, "leader", LEADER_ID, client, configuration)
+
+    def start(self, dialect=DIALECT):
+        super().start(dialect, "Mode: leader")
 
 
 class Observer:
@@ -215,11 +238,7 @@ class Observer:
         return None
 
     def reaches(self, zxid, seconds=20):
-        """Waits until it has taken all up to this zxid, which a reply to any read tells."""
-        client = until("the observer opens a session", lambda: Client(self.client))
-        what = f"the observer reaches 0x{zxid:x}"
-        until(what, lambda: client.call(EXISTS, text("/") + boolean(False)).zxid >= zxid, seconds)
-        client.leave()
+        reaches(self.client, zxid, seconds)
 
     def stop(self):
         if self.process:
