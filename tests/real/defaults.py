@@ -80,7 +80,8 @@ class Bench:
         if is_up(self.observer):
             return
         if self.against == PROGRAM:
-            self.ours.start(self.places[0].quorum, self.places[1].client)
+            later = () if self.dialect else ("info", "--dialect", "3.8")
+            self.ours.start(self.places[0].quorum, self.places[1].client, *later)
         else:
             self.theirs.start((*self.dialect, *self.FLAGS), "Mode: observer")
 
