@@ -5,7 +5,18 @@ use serve_config::FileLines;
 use serve_failures::Failure;
 use serve_options::Options;
 use std::alloc::Global;
-use zoo_config::{Meaning, meaning_of};
+use zoo_config::{Entry, Meaning, meaning_of};
+
+// Prints a line for an entry that isn't followed. Returns what its key means.
+fn print_entry<R: Print>(rt: &R, name: &str, entry: &Entry) -> Result<Meaning, Failure> {
+    let line = entry.line;
+    let key = entry.key.as_str();
+    let meaning = meaning_of(key, entry.value.as_str());
+    if meaning != Meaning::Taken {
+        println!(rt; "{name}:{line}: {key} {meaning}")?;
+    }
+    Ok(meaning)
+}
 
 /// Prints a line for each line of the file that isn't followed, and the options that say the same as the others. Fails
 /// if a key is unknown.
@@ -18,14 +29,8 @@ pub fn print_check<R: Print>(
     let FileLines { name, entries } = lines;
     let mut unknown = 0;
     for entry in entries {
-        let line = entry.line;
-        let key = entry.key.as_str();
-        let meaning = meaning_of(key, entry.value.as_str());
-        if meaning != Meaning::Taken {
-            println!(rt; "{name}:{line}: {key} {meaning}")?;
-        }
-        if meaning == Meaning::Unknown {
-            unknown = line;
+        if print_entry(rt, name, entry)? == Meaning::Unknown {
+            unknown = entry.line;
         }
     }
     let port = options.client.port;
