@@ -4,7 +4,7 @@ use crate::logging::tell;
 use crate::serving::{Origin, try_serve_on};
 use following::Finding;
 use mio::net::TcpListener;
-use serve_config::{FileLines, read_file};
+use serve_config::{FileLines, ReadFile, read_file};
 use serve_failures::{Failure, Step};
 use serve_journal::print_check;
 use serve_options::{Address, Command, Options, Servers, VERSION_LINES, command_of, help};
@@ -97,6 +97,38 @@ fn run<
     try_serve_on(rt, alloc, options, lines, origin, listener)
 }
 
+// Serves by a file and the words, or prints what that would be.
+fn run_configured<
+    'a,
+    R: Threads
+        + Wait
+        + Net<Stream = TcpStream, Listener = net::TcpListener>
+        + Clock
+        + Files
+        + Env
+        + Print
+        + Eprint
+        + Copy
+        + Send
+        + Sync
+        + 'static,
+>(
+    rt: &R,
+    alloc: Global,
+    words: &'a [String],
+    read: &'a ReadFile<'_>,
+    is_check: bool,
+) -> Result<(), Failure> {
+    let given = read.given(alloc, words)?;
+    let filed = given.as_slice();
+    let options = read.options(alloc, words, filed)?;
+    let lines = read.lines();
+    if is_check {
+        return print_check(rt, alloc, &options, lines);
+    }
+    run(rt, alloc, &options, lines)
+}
+
 // Prints what a command asks for, or serves.
 fn obey<
     R: Threads
@@ -116,12 +148,7 @@ fn obey<
         Command::Serve(options) => run(rt, alloc, options, FileLines::none()),
         Command::Configured(file) => {
             let read = read_file(rt, alloc, words, file.name)?;
-            let given = read.given(alloc, words)?;
-            let options = read.options(alloc, words, given.as_slice())?;
-            if file.is_check {
-                return print_check(rt, alloc, &options, read.lines());
-            }
-            run(rt, alloc, &options, read.lines())
+            run_configured(rt, alloc, &words[..], &read, file.is_check)
         }
         Command::Help => {
             let text = help(alloc)?;
