@@ -60,22 +60,7 @@ fn listen<R: Net>(rt: &R, alloc: Global, client: &Address<'_>) -> Result<TcpList
     }
 }
 
-// Where the first leader comes from: a connection to it, or a search.
-fn origin_of<R: Net<Stream = TcpStream>>(
-    rt: &R,
-    alloc: Global,
-    options: &Options<'_>,
-) -> Result<Origin, Failure> {
-    match &options.servers {
-        Servers::Leader(leader) => Ok(Origin::Stream(reach(rt, alloc, leader)?)),
-        Servers::Any(servers) => match Finding::new(servers.len(), options.server_id) {
-            Some(finding) => Ok(Origin::Search(finding)),
-            None => Err(Failure::NoMemory),
-        },
-    }
-}
-
-// Opens the sockets, prints the port for clients, and serves.
+// Connects to the leader, or finds whom to search; opens the sockets, prints the port for clients, and serves.
 fn run<
     R: Threads
         + Wait
@@ -90,7 +75,13 @@ fn run<
         + Sync
         + 'static,
 >(rt: &R, alloc: Global, options: &Options<'_>, lines: FileLines<'_>) -> Result<(), Failure> {
-    let origin = origin_of(rt, alloc, options)?;
+    let origin = match &options.servers {
+        Servers::Leader(leader) => Origin::Stream(reach(rt, alloc, leader)?),
+        Servers::Any(servers) => match Finding::new(servers.len(), options.server_id) {
+            Some(finding) => Origin::Search(finding),
+            None => return Err(Failure::NoMemory),
+        },
+    };
     let listener = listen(rt, alloc, &options.client)?;
     let port = listener.local_addr()?.port();
     println!(rt; "serving {port}")?;
