@@ -10,7 +10,7 @@ use Rattle.std.specs.Ordering.{eq_by_cmp}
 use Rattle.ephemerals.specs.Orders.{Bytes, Names, path_cmp, pair_cmp}
 use Rattle.ephemerals.proofs.Totals.{path_total}
 use Rattle.txn_codec.specs.Parents.{HaveParents}
-use Rattle.txn_codec.specs.Paths.{is_root}
+use Rattle.paths_and_acls.specs.Paths.{is_root}
 use Rattle.txn_codec.specs.declared.txn.Txn.{Txn}
 use Rattle.node_map.specs.Updates.{preset_node}
 use Rattle.node_map.specs.Agreement.{is_listed, is_listed_at}

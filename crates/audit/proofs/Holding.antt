@@ -13,7 +13,7 @@ use Rattle.std.specs.Int.{int_wrap}
 use Rattle.std.specs.Ordering.{eq_by_cmp}
 use Rattle.ephemerals.specs.Orders.{Bytes, Names, path_cmp}
 use Rattle.ephemerals.proofs.Totals.{path_total}
-use Rattle.txn_codec.specs.Paths.{is_root, is_child_path, parent_of, name_of}
+use Rattle.paths_and_acls.specs.Paths.{is_root, is_child_path, parent_of, name_of}
 use Rattle.txn_codec.specs.declared.txn.TxnHeader.{TxnHeader}
 use Rattle.txn_codec.specs.declared.txn.Create.{Create}
 use Rattle.node_map.specs.Updates.{next_cversion, new_node}

@@ -4,7 +4,7 @@ use mathlib.Core.Bool.{true≢false}
 use Rattle.std.specs.List.{list_all}
 use Rattle.std.proofs.lemmas.Bool.{eqb-true}
 use Rattle.ephemerals.specs.Orders.{Bytes}
-use Rattle.txn_codec.specs.Paths.{are_names, is_root, is_child_path, has_slash, before_last_slash, after_last_slash, or_root, parent_of, name_of, child_of}
+use Rattle.paths_and_acls.specs.Paths.{are_names, is_root, is_child_path, has_slash, before_last_slash, after_last_slash, or_root, parent_of, name_of, child_of}
 
 pub root_is : (path : Bytes) → is_root path ≡ true → path ≡ codes "/"
 root_is [] e = absurd (true≢false (sym e))

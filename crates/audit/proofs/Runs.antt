@@ -17,7 +17,7 @@ use Rattle.ephemerals.proofs.Totals.{path_total, pair_total, pair_exact}
 use Rattle.settings.specs.declared.dialect.Dialect.{Dialect}
 use Rattle.settings.specs.declared.dialect.Dialect.TheVariants.{Zk34, Zk38}
 use Rattle.txn_codec.specs.Parents.{HasParent, HaveParents}
-use Rattle.txn_codec.specs.Paths.{is_root, is_child_path, parent_of, name_of}
+use Rattle.paths_and_acls.specs.Paths.{is_root, is_child_path, parent_of, name_of}
 use Rattle.txn_codec.specs.declared.txn.TxnHeader.{TxnHeader}
 use Rattle.txn_codec.specs.declared.txn.Txn.{Txn}
 use Rattle.txn_codec.specs.declared.txn.Create.{Create}

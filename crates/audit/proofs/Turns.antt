@@ -16,7 +16,7 @@ use Rattle.ephemerals.proofs.SessionPaths.{contains-owned}
 use Rattle.ephemerals.proofs.Totals.{path_total}
 use Rattle.settings.specs.declared.dialect.Dialect.{Dialect}
 use Rattle.settings.specs.declared.dialect.Dialect.TheVariants.{Zk34, Zk38}
-use Rattle.txn_codec.specs.Paths.{is_root, is_child_path, parent_of, name_of}
+use Rattle.paths_and_acls.specs.Paths.{is_root, is_child_path, parent_of, name_of}
 use Rattle.txn_codec.specs.declared.txn.TxnHeader.{TxnHeader}
 use Rattle.txn_codec.specs.declared.txn.Operation.TheVariants as op
 use Rattle.node_map.specs.Children.{without_child, without_missing_child}

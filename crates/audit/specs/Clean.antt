@@ -10,7 +10,7 @@ use Rattle.ephemerals.specs.Orders.{Bytes, sorted_names}
 use Rattle.ephemerals.specs.Pairs.{paths_of_session}
 use Rattle.settings.specs.declared.dialect.Dialect.{Dialect}
 use Rattle.settings.specs.declared.dialect.Dialect.TheVariants.{Zk34, Zk38}
-use Rattle.txn_codec.specs.Paths.{parent_of}
+use Rattle.paths_and_acls.specs.Paths.{parent_of}
 use Rattle.txn_codec.specs.declared.txn.TxnHeader.{TxnHeader}
 use Rattle.txn_codec.specs.declared.txn.Txn.{Txn}
 use Rattle.txn_codec.specs.declared.txn.Operation.{Operation}

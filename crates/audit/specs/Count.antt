@@ -4,7 +4,7 @@ use Rattle.std.specs.Prelude.{ℤ, pos, negsuc, ◌+ℤ◌, ◌||◌, Bool, List
 use Rattle.std.specs.Int.{int_wrap, w32}
 use Rattle.std.specs.Cmp.Lexicographic.{pointwise}
 use Rattle.ephemerals.specs.Orders.{Bytes}
-use Rattle.txn_codec.specs.Paths.{parent_of}
+use Rattle.paths_and_acls.specs.Paths.{parent_of}
 use Rattle.txn_codec.specs.declared.txn.Txn.{Txn}
 use Rattle.node_map.specs.Agreement.{has_node}
 use Rattle.data_tree.specs.State.{State}

@@ -5,7 +5,7 @@ use Rattle.std.specs.FinSet as set
 use Rattle.ephemerals.specs.Orders.{Bytes, sorted_names}
 use Rattle.ephemerals.specs.Pairs.{paths_of_session}
 use Rattle.txn_codec.specs.Parents.{HaveParents}
-use Rattle.txn_codec.specs.Paths.{is_child_path}
+use Rattle.paths_and_acls.specs.Paths.{is_child_path}
 use Rattle.txn_codec.specs.declared.txn.TxnHeader.{TxnHeader}
 use Rattle.txn_codec.specs.declared.txn.Txn.{Txn}
 use Rattle.txn_codec.specs.declared.txn.Operation.TheVariants as op

@@ -4,7 +4,8 @@ ghost use Rattle.std.specs.Prelude.{◌≡◌};
 ghost use Rattle.audit.specs.Count.{is_same_path, one_more, count_after_trigger, count_after_triggers, first_count};
 
 use data_tree::Trigger;
-use txn_codec::{TxnHeader, parent_of};
+use paths_and_acls::parent_of;
+use txn_codec::TxnHeader;
 
 /// The number of a node's children that were created or deleted since the node was created, as a Java int, and the zxid
 /// of the last such transaction; without one, the zxid of the transaction that created the node.

@@ -4,7 +4,8 @@ use audit::{AuditError, audit_stat};
 use settings::Dialect;
 use std::alloc::Global;
 use std::test::Fail;
-use txn_codec::{Body, Create, Operation, Owner, Path, Txn, TxnHeader};
+use paths_and_acls::Path;
+use txn_codec::{Body, Create, Operation, Owner, Txn, TxnHeader};
 use values::Listed;
 
 // Session 9's transaction number `zxid`.

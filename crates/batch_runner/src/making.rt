@@ -5,7 +5,8 @@ use anyhow::Result;
 use data_tree::Tree;
 use settings::Dialect;
 use std::alloc::Global;
-use txn_codec::{Body, Create, Operation, Owner, Path, SetData, Txn, TxnHeader};
+use paths_and_acls::Path;
+use txn_codec::{Body, Create, Operation, Owner, SetData, Txn, TxnHeader};
 use values::{Blob, Listed};
 
 // The number of nodes below the root.

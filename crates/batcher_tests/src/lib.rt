@@ -7,7 +7,8 @@ mod cuts;
 
 use settings::Dialect;
 use std::alloc::Global;
-use txn_codec::{Body, Check, Create, Operation, Owner, Path, Txn, TxnHeader};
+use paths_and_acls::Path;
+use txn_codec::{Body, Check, Create, Operation, Owner, Txn, TxnHeader};
 use values::{Listed, ReadError};
 
 // A transaction of session 9.

@@ -5,8 +5,8 @@ use Rattle.std.specs.FinSet as set
 use Rattle.ephemerals.specs.Orders.{Bytes}
 use Rattle.settings.specs.declared.dialect.Dialect.{Dialect}
 use Rattle.settings.specs.declared.dialect.Dialect.TheVariants.{Zk34, Zk38}
-use Rattle.txn_codec.specs.Acls.{acl_or_open}
-use Rattle.txn_codec.specs.Paths.{parent_of, name_of}
+use Rattle.paths_and_acls.specs.Acls.{acl_or_open}
+use Rattle.paths_and_acls.specs.Paths.{parent_of, name_of}
 use Rattle.txn_codec.specs.declared.txn.TxnHeader.{TxnHeader}
 use Rattle.txn_codec.specs.declared.txn.Create.{Create}
 use Rattle.txn_codec.specs.declared.txn.Operation.TheVariants as op

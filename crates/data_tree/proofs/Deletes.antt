@@ -9,7 +9,7 @@ use Rattle.ephemerals.specs.Orders.{Bytes, OwnerPairs, path_cmp}
 use Rattle.ephemerals.specs.Pairs.{without_pair}
 use Rattle.settings.specs.declared.dialect.Dialect.{Dialect}
 use Rattle.settings.specs.declared.dialect.Dialect.TheVariants.{Zk34, Zk38}
-use Rattle.txn_codec.specs.Paths.{parent_of, name_of}
+use Rattle.paths_and_acls.specs.Paths.{parent_of, name_of}
 use Rattle.jute.specs.declared.codes.TheConstants.{NO_NODE}
 use Rattle.txn_codec.specs.declared.txn.TxnHeader.{TxnHeader}
 use Rattle.txn_codec.specs.declared.txn.Operation.TheVariants as op

@@ -9,7 +9,7 @@ use Rattle.ephemerals.specs.Orders.{Bytes, path_cmp, sorted_names}
 use Rattle.settings.specs.declared.dialect.Dialect.{Dialect}
 use Rattle.settings.specs.declared.dialect.Dialect.TheVariants.{Zk34, Zk38}
 use Rattle.jute.specs.declared.owned.Acl.{Acl}
-use Rattle.txn_codec.specs.Paths.{is_path, is_child_path, is_root, parent_of, name_of}
+use Rattle.paths_and_acls.specs.Paths.{is_path, is_child_path, is_root, parent_of, name_of}
 use Rattle.txn_codec.specs.Parents.{HasParent, HaveParents}
 use Rattle.txn_codec.specs.declared.txn.TxnHeader.{TxnHeader}
 use Rattle.txn_codec.specs.declared.txn.Create.{Create}

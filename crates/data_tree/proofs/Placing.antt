@@ -7,7 +7,7 @@ use Rattle.std.proofs.lemmas.Map.Views.{tells_apart}
 use Rattle.std.specs.FinMap as finmap
 use Rattle.ephemerals.specs.Orders.{Bytes, path_cmp}
 use Rattle.ephemerals.proofs.Totals.{path_total}
-use Rattle.txn_codec.specs.Paths.{is_root, parent_of, name_of}
+use Rattle.paths_and_acls.specs.Paths.{is_root, parent_of, name_of}
 use Rattle.jute.specs.declared.stat.StatPersisted.{StatPersisted}
 use Rattle.node_map.specs.Agreement.{has_node}
 use Rattle.node_map.specs.Updates.{update_node, update_found, with_name}

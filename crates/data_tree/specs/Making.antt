@@ -4,7 +4,7 @@ use Rattle.std.specs.FinMap as finmap
 use Rattle.std.specs.FinSet as set
 use Rattle.ephemerals.specs.Orders.{Bytes}
 use Rattle.ephemerals.specs.Pairs.{with_pair}
-use Rattle.txn_codec.specs.Paths.{is_root, parent_of, name_of}
+use Rattle.paths_and_acls.specs.Paths.{is_root, parent_of, name_of}
 use Rattle.node_map.specs.Agreement.{has_node}
 use Rattle.node_map.specs.declared.node.Node.{Node}
 use Rattle.node_map.specs.Updates.{with_name, update_node}

@@ -10,8 +10,8 @@ use Rattle.jute.specs.declared.codes.TheConstants.{NO_NODE, NODE_EXISTS, RUNTIME
 use Rattle.jute.specs.declared.owned.Acl.{Acl}
 use Rattle.settings.specs.declared.dialect.Dialect.{Dialect}
 use Rattle.settings.specs.declared.dialect.Dialect.TheVariants.{Zk34, Zk38}
-use Rattle.txn_codec.specs.Acls.{acl_or_open}
-use Rattle.txn_codec.specs.Paths.{parent_of, name_of}
+use Rattle.paths_and_acls.specs.Acls.{acl_or_open}
+use Rattle.paths_and_acls.specs.Paths.{parent_of, name_of}
 use Rattle.txn_codec.specs.Row.{error_of, has_error}
 use Rattle.txn_codec.specs.declared.txn.TxnHeader.{TxnHeader}
 use Rattle.txn_codec.specs.declared.txn.Create.{Create}

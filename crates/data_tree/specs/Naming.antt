@@ -1,7 +1,7 @@
 -- The paths of a tree's nodes, and the names that they list, stay valid.
 use Rattle.std.specs.Prelude.{IsTrue}
 use Rattle.ephemerals.specs.Orders.{Bytes}
-use Rattle.txn_codec.specs.Paths.{is_path, is_child_path, name_of}
+use Rattle.paths_and_acls.specs.Paths.{is_path, is_child_path, name_of}
 use Rattle.txn_codec.specs.Parents.{HaveParents}
 use Rattle.txn_codec.specs.declared.txn.Txn.{Txn}
 use Rattle.node_map.specs.Agreement.{is_child_name, AreChildNames, AreNamed}

@@ -31,9 +31,8 @@ use settings::Dialect;
 use std::alloc::Global;
 use std::collections::btree_map::Iter;
 use std::marker::Model;
-use txn_codec::{
-    Body, Create, Operation, Path, SetAcl, SetData, Txn, TxnHeader, has_error, name_of, parent_of,
-};
+use paths_and_acls::{Path, name_of, parent_of};
+use txn_codec::{Body, Create, Operation, SetAcl, SetData, Txn, TxnHeader, has_error};
 use values::{Listed, NoMemory, Text};
 
 /// The nodes, the ephemeral nodes of each session, and the timeout of each session.

@@ -4,7 +4,7 @@ use jute::codes::{ALL, open_list};
 use jute::{Acl, Id};
 use std::alloc::{AllocError, Global};
 use std::test::Fail;
-use txn_codec::AclList;
+use paths_and_acls::AclList;
 use values::{Listed, Text};
 
 // An entry that grants every client these permissions.

@@ -6,7 +6,7 @@ use ephemerals::TextSet;
 use jute::StatPersisted;
 use std::alloc::Global;
 use std::test::Fail;
-use txn_codec::AclList;
+use paths_and_acls::AclList;
 use values::Listed;
 
 // Numbers that are all different, with the owner.

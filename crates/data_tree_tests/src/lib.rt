@@ -21,7 +21,7 @@ mod texts;
 mod transactions;
 
 use std::alloc::Global;
-use txn_codec::Path;
+use paths_and_acls::Path;
 
 /// The text as a path, if it is one.
 pub fn path_of(alloc: Global, text: &str) -> Option<Path> {

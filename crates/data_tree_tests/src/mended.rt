@@ -8,7 +8,8 @@ use jute::StatPersisted;
 use settings::Dialect;
 use std::alloc::Global;
 use std::test::Fail;
-use txn_codec::{AclList, Body, Create, Operation, Owner, Txn, TxnHeader};
+use paths_and_acls::AclList;
+use txn_codec::{Body, Create, Operation, Owner, Txn, TxnHeader};
 use values::Listed;
 
 // A node with the cversion 6 and the pzxid 8, and without entries in its list.

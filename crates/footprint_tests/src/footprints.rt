@@ -4,7 +4,8 @@ use crate::words::{operation_of, txn_of};
 use footprint::{Footprint, footprint};
 use std::alloc::Global;
 use std::test::Fail;
-use txn_codec::{Body, Path, SetAcl, Txn};
+use paths_and_acls::Path;
+use txn_codec::{Body, SetAcl, Txn};
 use values::Listed;
 
 // The footprint: its paths, each after a blank, or the word "barrier".

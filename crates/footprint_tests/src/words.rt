@@ -2,7 +2,8 @@
 
 use settings::Dialect;
 use std::alloc::Global;
-use txn_codec::{Body, Check, Create, Operation, Owner, Path, SetData, Txn, TxnHeader};
+use paths_and_acls::Path;
+use txn_codec::{Body, Check, Create, Operation, Owner, SetData, Txn, TxnHeader};
 use values::ReadError;
 
 /// The operation of a sign: "+" a create, "-" a delete, "=" new data, "?" a check, and any other an error.

@@ -7,7 +7,7 @@ use anyhow::{Result, ensure};
 use jute::{StatPersisted, WriteRecord, put_bytes, put_long, put_string};
 use quorum_packet::{PacketKind, QuorumPacket, write_packet};
 use std::alloc::Global;
-use txn_codec::Path;
+use paths_and_acls::Path;
 use values::Blob;
 
 // The protocol version that a leader sends with its epoch.

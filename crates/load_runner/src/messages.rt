@@ -10,7 +10,8 @@ use jute::codes::open_list;
 use jute::{RequestHeader, WriteRecord, put_bytes};
 use quorum_packet::{PacketKind, QuorumPacket, write_packet};
 use std::alloc::Global;
-use txn_codec::{Body, Create, Operation, Owner, Path, SetData, Txn, encode_txn};
+use paths_and_acls::Path;
+use txn_codec::{Body, Create, Operation, Owner, SetData, Txn, encode_txn};
 use values::{Blob, Str};
 
 /// The longest path here, in bytes.

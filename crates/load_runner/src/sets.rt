@@ -8,7 +8,7 @@ use crate::messages::{CONTENT, PATH_LIMIT, child_path, set_data, write_read};
 use anyhow::Result;
 use client_records::ReadKind;
 use std::alloc::Global;
-use txn_codec::Path;
+use paths_and_acls::Path;
 
 /// The sizes of the load.
 #[derive(Clone, Copy, Debug)]

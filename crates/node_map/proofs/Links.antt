@@ -14,7 +14,7 @@ use Rattle.std.proofs.lemmas.Map.Views.{tells_apart}
 use Rattle.std.specs.FinMap as finmap
 use Rattle.std.specs.FinSet as set
 use Rattle.ephemerals.specs.Orders.{Bytes, Names, path_cmp}
-use Rattle.txn_codec.specs.Paths.{child_of}
+use Rattle.paths_and_acls.specs.Paths.{child_of}
 use Rattle.node_map.specs.Nodes.{Nodes}
 use Rattle.node_map.specs.Inner.NodesView.{nodes_of}
 use Rattle.node_map.specs.Agreement.{has_node, has_parent, is_listed, AreLinked}

@@ -9,7 +9,7 @@ use Rattle.std.specs.FinMap as finmap
 use Rattle.std.specs.FinSet as set
 use Rattle.ephemerals.specs.Orders.{Bytes, Names, path_cmp}
 use Rattle.ephemerals.proofs.Totals.{path_total}
-use Rattle.txn_codec.specs.Paths.{is_name, are_names, is_path, is_child_path, has_slash, after_last_slash, name_of}
+use Rattle.paths_and_acls.specs.Paths.{is_name, are_names, is_path, is_child_path, has_slash, after_last_slash, name_of}
 use Rattle.std.specs.BTreeMap as tree
 use Rattle.std.specs.BTreeMap.{BTreeMap}
 use Rattle.std.specs.String.{string_cmp}

@@ -6,7 +6,7 @@ use Rattle.std.specs.FinMap as finmap
 use Rattle.std.specs.FinSet as set
 use Rattle.std.specs.List.{list_any}
 use Rattle.ephemerals.specs.Orders.{Bytes, Names, OwnerPairs}
-use Rattle.txn_codec.specs.Paths.{is_name, is_path, is_root, parent_of, name_of, child_of}
+use Rattle.paths_and_acls.specs.Paths.{is_name, is_path, is_root, parent_of, name_of, child_of}
 use Rattle.node_map.specs.Nodes.{Nodes}
 use Rattle.node_map.specs.declared.node.Node.{Node}
 

@@ -3,7 +3,7 @@ use Rattle.std.specs.Prelude.{◌≡◌, true, if◌then◌else◌, Option, Some
 use Rattle.std.specs.FinMap as finmap
 use Rattle.std.specs.FinSet as set
 use Rattle.ephemerals.specs.Orders.{Bytes, Names}
-use Rattle.txn_codec.specs.Paths.{child_of}
+use Rattle.paths_and_acls.specs.Paths.{child_of}
 use Rattle.txn_codec.specs.declared.txn.TxnHeader.{TxnHeader}
 use Rattle.txn_codec.specs.declared.txn.Create.{Create}
 use Rattle.jute.specs.declared.stat.StatPersisted.{StatPersisted}

@@ -8,7 +8,7 @@ use Rattle.settings.specs.declared.dialect.Dialect.{Dialect}
 use Rattle.settings.specs.declared.dialect.Dialect.TheVariants.{Zk34, Zk38}
 use Rattle.jute.specs.declared.owned.Acl.{Acl}
 use Rattle.jute.specs.Codes.{open_acl}
-use Rattle.txn_codec.specs.Acls.{acl_or_open}
+use Rattle.paths_and_acls.specs.Acls.{acl_or_open}
 use Rattle.txn_codec.specs.declared.txn.TxnHeader.{TxnHeader}
 use Rattle.txn_codec.specs.declared.txn.Owner.{Owner}
 use Rattle.txn_codec.specs.declared.txn.Owner.TheVariants.{Nobody, Client, Container, Ttl}

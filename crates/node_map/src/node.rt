@@ -10,7 +10,8 @@ use ephemerals::TextSet;
 use jute::{Stat, StatPersisted};
 use settings::Dialect;
 use std::alloc::{AllocError, Global};
-use txn_codec::{AclList, Create, Owner, SetAcl, SetData, TxnHeader};
+use paths_and_acls::AclList;
+use txn_codec::{Create, Owner, SetAcl, SetData, TxnHeader};
 use values::{Blob, NoMemory};
 
 /// A node: its data, which may be null, its access control list, its stat, and the names of its children.

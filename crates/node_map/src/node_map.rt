@@ -19,9 +19,8 @@ use std::alloc::{AllocError, Global};
 use std::collections::BTreeMap;
 use std::collections::btree_map::Iter;
 use std::marker::Model;
-use txn_codec::{
-    AclList, Create, SetAcl, SetData, TxnHeader, child_of, is_path, name_of, parent_of,
-};
+use paths_and_acls::{AclList, child_of, is_path, name_of, parent_of};
+use txn_codec::{Create, SetAcl, SetData, TxnHeader};
 use values::{NoMemory, TextQuery};
 
 /// Nodes by path.

@@ -6,7 +6,7 @@ ghost use Rattle.read_processor.specs.Permissions.{lets_read, is_same_id, is_eve
 
 use jute::codes::READ;
 use jute::{Acl, Id};
-use txn_codec::AclList;
+use paths_and_acls::AclList;
 
 fn lets_read(acl: &Acl) -> bool
     ensures { result ≡ lets_read acl.now }

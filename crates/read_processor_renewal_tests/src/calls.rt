@@ -6,7 +6,8 @@ use read_processor::Watch;
 use settings::Dialect;
 use std::alloc::Global;
 use std::test::Fail;
-use txn_codec::{Body, Create, Operation, Owner, Path, Txn, TxnHeader};
+use paths_and_acls::Path;
+use txn_codec::{Body, Create, Operation, Owner, Txn, TxnHeader};
 use values::{Listed, NoMemory};
 use watch_manager::WatchMode;
 

@@ -13,7 +13,7 @@ use Rattle.jute.specs.Owned.{acl_format}
 use Rattle.jute.specs.Records.{stat_persisted}
 use Rattle.jute.specs.declared.owned.Acl.{Acl}
 use Rattle.jute.proofs.Public.{ok_is, not_refused, guard_ended, bind_ok, int_sound, long_sound, count_sound, buffer_sound, text_sound, vector_sound, acl_sound, stat_persisted_sound, both_sound, judged_sound, case_sound}
-use Rattle.txn_codec.specs.Paths.{is_root, is_path, checked_path}
+use Rattle.paths_and_acls.specs.Paths.{is_root, is_path, checked_path}
 use Rattle.data_tree.specs.Making.{has_place}
 use Rattle.snapshot_codec.specs.Made.{LoadedParts, with_value, with_listed_node, list_at_key, image_load}
 use Rattle.snapshot_codec.specs.Parts.{Value, Count, Path, Close, Part, count_value, count_back, session_value, session_back, acl_value, acl_back, root_path, path_value, root_text_value, root_value, root_back, next_value, next_back, node_value, node_back, node_body, signature_text, signature_value, signature_back, counted_parts, part_format, part_stream}

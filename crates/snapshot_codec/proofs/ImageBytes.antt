@@ -7,7 +7,7 @@ use Rattle.std.specs.List.{flat_map, AllByRecursion}
 use Rattle.ephemerals.specs.Orders.{Bytes, path_cmp}
 use Rattle.jute.specs.Format.{int, long, count_format, count_limit, text_format, pair_of}
 use Rattle.jute.specs.declared.owned.Acl.{Acl}
-use Rattle.txn_codec.specs.Paths.{is_root, is_path}
+use Rattle.paths_and_acls.specs.Paths.{is_root, is_path}
 use Rattle.node_map.specs.declared.node.Node.{Node}
 use Rattle.data_tree.specs.State.{State}
 use Rattle.data_tree.specs.Whole.{IsWhole}

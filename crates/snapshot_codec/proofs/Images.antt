@@ -24,9 +24,9 @@ use Rattle.jute.specs.Pieces.{IsStable, LeavesFewer}
 use Rattle.jute.specs.Stream.{IsStreamable}
 use Rattle.jute.specs.declared.owned.Acl.{Acl}
 use Rattle.jute.proofs.Public.{bind_ok, bind_err, ok_is, not_refused, guard_ok, guard_ended, guard_err, guard_refused, then_stands, at_most, load_stands, load_eats, stand_on, stand_front, loaded_again, load_takes, load_answers, load_names}
-use Rattle.txn_codec.specs.Paths.{is_root}
+use Rattle.paths_and_acls.specs.Paths.{is_root}
 use Rattle.data_tree.specs.Making.{with_session, with_node, has_place}
-use Rattle.txn_codec.specs.Acls.{acl_or_open}
+use Rattle.paths_and_acls.specs.Acls.{acl_or_open}
 use Rattle.node_map.specs.Nodes.{Nodes}
 use Rattle.data_tree.specs.State.{State}
 use Rattle.node_map.specs.Agreement.{is_owner}

@@ -19,7 +19,7 @@ use Rattle.jute.specs.Format.{◌>>=◌, int, long, buffer_limit, text_of, text_
 use Rattle.jute.specs.Owned.{acl_format}
 use Rattle.jute.specs.Relation.{SpellsItems}
 use Rattle.jute.specs.declared.owned.Acl.{Acl}
-use Rattle.txn_codec.specs.Paths.{is_root, is_path}
+use Rattle.paths_and_acls.specs.Paths.{is_root, is_path}
 use Rattle.node_map.specs.declared.node.Node.{Node}
 use Rattle.data_tree.specs.State.{State}
 use Rattle.data_tree.specs.Whole.{IsWhole}

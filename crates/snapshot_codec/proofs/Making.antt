@@ -20,7 +20,7 @@ use Rattle.ephemerals.proofs.Ties.{tied_then, same_session}
 use Rattle.ephemerals.proofs.Totals.{path_total, pair_total}
 use Rattle.jute.specs.Codes.{open_acl}
 use Rattle.jute.specs.declared.owned.Acl.{Acl}
-use Rattle.txn_codec.specs.Paths.{is_root, parent_of, name_of}
+use Rattle.paths_and_acls.specs.Paths.{is_root, parent_of, name_of}
 use Rattle.node_map.specs.Updates.{with_name, update_node, update_found}
 use Rattle.node_map.specs.Nodes.{Nodes}
 use Rattle.node_map.specs.Agreement.{is_owner}

@@ -15,7 +15,7 @@ use Rattle.std.proofs.lemmas.Map.Lookups.{exact_bytes}
 use Rattle.std.proofs.lemmas.Map.Views.{tells_apart}
 use Rattle.ephemerals.specs.Orders.{Bytes, path_cmp}
 use Rattle.ephemerals.proofs.Totals.{path_total}
-use Rattle.txn_codec.specs.Paths.{is_name, is_root, is_path, has_slash, before_last_slash, after_last_slash, or_root, parent_of, name_of, child_of}
+use Rattle.paths_and_acls.specs.Paths.{is_name, is_root, is_path, has_slash, before_last_slash, after_last_slash, or_root, parent_of, name_of, child_of}
 use Rattle.node_map.specs.Nodes.{Nodes}
 use Rattle.node_map.specs.Agreement.{is_child_name}
 use Rattle.snapshot_codec.specs.Parts.{root_path}

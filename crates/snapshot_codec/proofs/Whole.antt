@@ -19,7 +19,7 @@ use Rattle.ephemerals.proofs.Totals.{path_total}
 use Rattle.jute.specs.Loading.{EndsAt, EndsOnce}
 use Rattle.jute.specs.Relation.{SpellsItems}
 use Rattle.jute.proofs.Public.{bind_ok, ok_is, guard_ended}
-use Rattle.txn_codec.specs.Paths.{are_names, is_root, is_path, is_child_path, checked_path, has_slash, before_last_slash, after_last_slash, or_root, parent_of, name_of, child_of}
+use Rattle.paths_and_acls.specs.Paths.{are_names, is_root, is_path, is_child_path, checked_path, has_slash, before_last_slash, after_last_slash, or_root, parent_of, name_of, child_of}
 use Rattle.node_map.specs.Agreement.{has_node, is_listed_at, is_listed, has_parent, is_child_name, AreNamed}
 use Rattle.node_map.specs.declared.node.Node.{Node}
 use Rattle.data_tree.specs.State.{State}

@@ -22,7 +22,7 @@ use Rattle.jute.specs.Codes.{open_acl}
 use Rattle.jute.specs.Laws.{WritesSpellings}
 use Rattle.jute.specs.Loading.{EndsAt, EndsOnce}
 use Rattle.jute.specs.declared.owned.Acl.{Acl}
-use Rattle.txn_codec.specs.Paths.{is_root, is_path, parent_of, name_of, child_of}
+use Rattle.paths_and_acls.specs.Paths.{is_root, is_path, parent_of, name_of, child_of}
 use Rattle.node_map.specs.Nodes.{Nodes}
 use Rattle.node_map.specs.Agreement.{has_node, is_listed_at, is_listed}
 use Rattle.node_map.specs.declared.node.Node.{Node}

@@ -13,8 +13,8 @@ use Rattle.jute.specs.Format.{Format, ◌>>=◌, SpellsFront}
 use Rattle.jute.specs.Loading.{load_from, EndsOnce, NoneIsLast}
 use Rattle.jute.specs.Relation.{SpellsItems}
 use Rattle.jute.specs.declared.owned.Acl.{Acl}
-use Rattle.txn_codec.specs.Paths.{is_root, parent_of, name_of}
-use Rattle.txn_codec.specs.Acls.{acl_or_open}
+use Rattle.paths_and_acls.specs.Paths.{is_root, parent_of, name_of}
+use Rattle.paths_and_acls.specs.Acls.{acl_or_open}
 use Rattle.node_map.specs.Agreement.{AreOwned}
 use Rattle.node_map.specs.declared.node.Node.{Node}
 use Rattle.data_tree.specs.State.{State}

@@ -11,7 +11,7 @@ use Rattle.jute.specs.Format.{◌>>=◌}
 use Rattle.jute.specs.Loading.{LoadRules}
 use Rattle.jute.specs.declared.owned.Acl.{Acl}
 use Rattle.data_tree.specs.Making.{empty_state, with_session, with_node, has_place}
-use Rattle.txn_codec.specs.Acls.{acl_or_open}
+use Rattle.paths_and_acls.specs.Acls.{acl_or_open}
 use Rattle.data_tree.specs.State.{State, state_code}
 use Rattle.node_map.specs.declared.node.Node.{Node}
 use Rattle.snapshot_codec.specs.AclLists.{AclLists, lists_code}

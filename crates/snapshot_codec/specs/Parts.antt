@@ -11,7 +11,7 @@ use Rattle.jute.specs.Records.{stat_persisted}
 use Rattle.jute.specs.Stream.{PhasedStream}
 use Rattle.jute.specs.declared.owned.Acl.{Acl}
 use Rattle.jute.specs.declared.stat.StatPersisted.{StatPersisted}
-use Rattle.txn_codec.specs.Paths.{is_root, checked_path}
+use Rattle.paths_and_acls.specs.Paths.{is_root, checked_path}
 use Rattle.snapshot_codec.specs.declared.part.ImagePart.{ImagePart}
 use Rattle.snapshot_codec.specs.declared.part.ImagePart.TheVariants as part
 use Rattle.snapshot_codec.specs.declared.part.PartPhase.{PartPhase}

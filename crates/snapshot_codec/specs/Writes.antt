@@ -12,7 +12,7 @@ use Rattle.jute.specs.Codes.{open_acl}
 use Rattle.jute.specs.Format.{int, long, count_format, count_limit, text_format, vector_of, pair_of}
 use Rattle.jute.specs.Owned.{acl_format}
 use Rattle.jute.specs.declared.owned.Acl.{Acl}
-use Rattle.txn_codec.specs.Paths.{is_root}
+use Rattle.paths_and_acls.specs.Paths.{is_root}
 use Rattle.node_map.specs.declared.node.Node.{Node}
 use Rattle.snapshot_codec.specs.Parts.{node_body}
 use Rattle.snapshot_codec.specs.Written.{Lists, key_in, with_list, key_of}

@@ -10,7 +10,7 @@ use jute::codes::open_list;
 use std::alloc::Global;
 use std::collections::BTreeMap;
 use std::marker::Model;
-use txn_codec::AclList;
+use paths_and_acls::AclList;
 use values::NoMemory;
 
 /// The key of the open list, which every image has.

@@ -13,7 +13,7 @@ use data_tree::Node;
 use jute::{Acl, COUNT_LIMIT, put_int, put_items, put_long};
 use std::alloc::Global;
 use std::collections::BTreeMap;
-use txn_codec::AclList;
+use paths_and_acls::AclList;
 use values::NoMemory;
 
 /// The key of the open list, which isn't written in an image.

@@ -11,7 +11,7 @@ use ephemerals::TextSet;
 use jute::StatPersisted;
 use std::alloc::Global;
 use std::marker::Model;
-use txn_codec::AclList;
+use paths_and_acls::AclList;
 use values::{Blob, Fault, ReadError};
 
 /// A tree that is built from the parts of an image, one by one and in their order.

@@ -4,7 +4,7 @@ ghost use Rattle.std.specs.Prelude.{◌≡◌};
 ghost use Rattle.snapshot_codec.specs.Parts.{Part, is_end};
 
 use jute::{Acl, StatPersisted};
-use txn_codec::Path;
+use paths_and_acls::Path;
 use values::{Blob, Listed};
 
 /// A session of an image, with its timeout in milliseconds.

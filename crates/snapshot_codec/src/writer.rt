@@ -3,7 +3,7 @@
 ghost use Rattle.std.specs.Prelude.{◌≡◌, [], if◌then◌else◌, IfOk, OnOk, Err};
 ghost use Rattle.std.specs.FinMap as finmap;
 ghost use Rattle.jute.specs.Records.{stat_persisted};
-ghost use Rattle.txn_codec.specs.Paths.{is_root};
+ghost use Rattle.paths_and_acls.specs.Paths.{is_root};
 ghost use Rattle.snapshot_codec.specs.Written.{image_bytes, lists_from, FitsImage};
 ghost use Rattle.snapshot_codec.specs.Writes.{shown_rows, IsTable, WritesBytes, sessions_bytes, FitSessions, node_bytes, FitsNode, nodes_bytes, FitNodes};
 ghost use Rattle.snapshot_codec.specs.declared.write_error.WriteError.TheVariants as errors;

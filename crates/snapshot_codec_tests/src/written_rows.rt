@@ -12,7 +12,7 @@ use jute::StatPersisted;
 use snapshot_codec::{WriteError, read_image, write_image};
 use std::alloc::Global;
 use std::test::Fail;
-use txn_codec::{AclList, Path};
+use paths_and_acls::{AclList, Path};
 use values::{Blob, NoMemory};
 
 // The image written for a tree.

@@ -1,7 +1,3 @@
--- Names between slashes, read byte by byte.
-pub mod Names
--- The parts of a text before and after its last slash.
-pub mod Slashes
 -- The ends of transactions are sound.
 pub mod Endings
 -- Fields and records are sound.

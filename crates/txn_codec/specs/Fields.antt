@@ -3,7 +3,7 @@ use Rattle.std.specs.Prelude.{ℕ, Bool, List, Option, Some, None, Result, Ok, E
 use Rattle.values.specs.declared.fault.Fault.{Fault}
 use Rattle.values.specs.declared.fault.Fault.TheVariants.{BadPath}
 use Rattle.jute.specs.Format.{Format, text_format, judged_format}
-use Rattle.txn_codec.specs.Paths.{is_path, is_child_path}
+use Rattle.paths_and_acls.specs.Paths.{is_path, is_child_path}
 
 -- A text that passes a test; null passes none.
 abbrev pub tested_text : (List ℕ → Bool) → Option (List ℕ) → Result (List ℕ) Fault

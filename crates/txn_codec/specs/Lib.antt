@@ -1,5 +1,3 @@
-pub mod Acls
-pub mod Paths
 pub mod Kinds
 pub mod Fields
 pub mod Endings

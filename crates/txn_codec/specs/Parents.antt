@@ -4,7 +4,7 @@ use Rattle.txn_codec.specs.declared.txn.Operation.{Operation}
 use Rattle.txn_codec.specs.declared.txn.Operation.TheVariants as operations
 use Rattle.txn_codec.specs.declared.txn.Body.{Body}
 use Rattle.txn_codec.specs.declared.txn.Body.TheVariants as bodies
-use Rattle.txn_codec.specs.Paths.{is_child_path}
+use Rattle.paths_and_acls.specs.Paths.{is_child_path}
 
 -- The node that is created or deleted has a parent.
 abbrev pub HasParent : Operation → Type 0

@@ -2,7 +2,7 @@
 -- each body, and is asked by the function of src/row.rt.
 use Rattle.std.specs.Prelude.{ℕ, ℤ, List, [], ◌∷◌, ◌++◌, ◌+◌, Option, Some, None, Bool, true, false, is_some, unwrap_or, length, if◌then◌else◌}
 use Rattle.std.specs.List.{list_any}
-use Rattle.txn_codec.specs.Paths.{parent_of}
+use Rattle.paths_and_acls.specs.Paths.{parent_of}
 use Rattle.txn_codec.specs.declared.txn.Operation.{Operation}
 use Rattle.txn_codec.specs.declared.txn.Operation.TheVariants as operations
 use Rattle.txn_codec.specs.declared.txn.Body.{Body}

@@ -12,10 +12,10 @@ ghost use Rattle.txn_codec.specs.declared.txn.Txn.{Txn as TheTxn};
 
 use crate::ending::{pass_trailer, read_closing};
 use crate::kind::TxnKind;
-use crate::path::Path;
 use crate::place::Place;
 use crate::txn::{Body, Check, Create, Operation, Owner, SetAcl, SetData, Txn, TxnHeader};
 use jute::{Acl, ReadRecord, Reader, read_blob, read_vector};
+use paths_and_acls::Path;
 use settings::{Dialect, Reads};
 use std::alloc::Global;
 use values::{Fault, Listed, ReadError};

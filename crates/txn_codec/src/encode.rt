@@ -11,12 +11,12 @@ ghost use Rattle.txn_codec.specs.Inner.{owner_bytes, create_bytes};
 ghost use Rattle.txn_codec.specs.Spelling.{create_format, set_data as set_data_format, set_acl as set_acl_format, check_format, txn_header as header_format, kind_format, format_of_operation, multi_part as part_format, multi_parts as parts_format, format_of_body, txn_format};
 
 use crate::kind::TxnKind;
-use crate::path::Path;
 use crate::txn::{Body, Check, Create, Operation, Owner, SetAcl, SetData, Txn, TxnHeader};
 use jute::{
     WriteRecord, blob_len, items_len, put_blob, put_bool, put_int, put_items, put_string,
     put_vector, vector_len,
 };
+use paths_and_acls::Path;
 use values::{Listed, NoMemory};
 
 impl WriteRecord for TxnHeader {

@@ -6,8 +6,8 @@ ghost use Rattle.jute.specs.Format.{text_format, ReadsValue};
 ghost use Rattle.jute.specs.Reads.{ReadsOwned};
 ghost use Rattle.txn_codec.specs.Endings.{is_trailer, lists_nothing, trailer_if, listed_path, listed_paths, closing_if, closing_format};
 
-use crate::path::Path;
 use jute::{ReadRecord, Reader, read_vector};
+use paths_and_acls::Path;
 use std::alloc::Global;
 use std::marker::Model;
 use values::{Fault, Listed, NoMemory, ReadError, Str};

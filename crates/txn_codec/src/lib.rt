@@ -1,9 +1,8 @@
 //! Transactions of ZooKeeper's log (zookeeper.jute of ZooKeeper 3.4 to 3.9), decoded and encoded.
 //!
 //! A transaction is a header and the body of its type; a multi's parts are operations, each in a buffer of its own.
-//! Paths are checked: a `Path` begins with a slash, and no name in it is empty or has a NUL. `decode_txn` decodes all
-//! of the given bytes, or returns the first fault in their order; `decode_txn_in` does so in the dialect of a later
-//! leader. `specs/Spelling.antt` defines the spellings in one table for operations and one for bodies, and
+//! `decode_txn` decodes all of the given bytes, or returns the first fault in their order; `decode_txn_in` does so in
+//! the dialect of a later leader. `specs/Spelling.antt` defines the spellings in one table for operations and one for bodies, and
 //! `specs/Endings.antt` what may follow them.
 //!
 //! What is asked of a transaction, beside what it does, is in one place (`src/row.rt`, `specs/Row.antt`): the paths that
@@ -17,22 +16,18 @@
 //! ```
 #![tactic(auto)]
 
-mod acl_list;
 mod decode;
 mod encode;
 mod ending;
 mod kind;
 mod law;
-mod path;
 mod place;
 mod row;
 mod txn;
 
-pub use acl_list::AclList;
 pub use decode::{decode_txn, decode_txn_in};
 pub use encode::encode_txn;
 pub use kind::TxnKind;
 pub use law::{transactions, transactions_in};
-pub use path::{Path, child_of, is_path, name_of, parent_of};
 pub use row::{SessionChange, has_error};
 pub use txn::{Body, Check, Create, Operation, Owner, SetAcl, SetData, Txn, TxnHeader};

@@ -5,11 +5,11 @@
 
 ghost use Rattle.std.specs.Prelude.{◌≡◌, ◌++◌, ◌∷◌, [], ◌-◌, ◌^◌, OnOk, min, length, unwrap_or};
 ghost use Rattle.std.specs.Option.{option_copied};
-ghost use Rattle.txn_codec.specs.Paths.{parent_of};
+ghost use Rattle.paths_and_acls.specs.Paths.{parent_of};
 ghost use Rattle.txn_codec.specs.Row.{error_of, has_error, footprint_of_operation, footprint_of_parts, footprint_of_body, data_len_of_operation, data_len_of_parts, data_len_of_body, shown_path_of_operation, shown_path_of_body, session_change, ends_session};
 
-use crate::path::Path;
 use crate::txn::{Body, Operation};
+use paths_and_acls::Path;
 use values::{Blob, NoMemory, Str};
 
 /// What becomes of the session of a transaction's header.

@@ -4,8 +4,8 @@ ghost use Rattle.std.specs.Prelude.{◌≡◌};
 ghost use Rattle.txn_codec.specs.Kinds.{create_kind, operation_kind, body_kind};
 
 use crate::kind::TxnKind;
-use crate::path::Path;
 use jute::Acl;
+use paths_and_acls::Path;
 use settings::Dialect;
 use std::alloc::AllocError;
 use values::{Blob, Listed};

@@ -4,7 +4,8 @@ use crate::rows::{bytes_of, row_of};
 use settings::Dialect;
 use std::alloc::Global;
 use std::test::Fail;
-use txn_codec::{Body, Operation, Path, decode_txn, decode_txn_in};
+use paths_and_acls::Path;
+use txn_codec::{Body, Operation, decode_txn, decode_txn_in};
 
 // Session 7, its request 1, zxid 0x100000001, at 1000.
 const HEADER: &str = "00000000 00000007 00000001 00000001 00000001 00000000 000003e8";

@@ -14,7 +14,7 @@ mod rows;
 mod txn_rows;
 
 use std::alloc::Global;
-use txn_codec::Path;
+use paths_and_acls::Path;
 use values::ReadError;
 
 /// The text as a path.

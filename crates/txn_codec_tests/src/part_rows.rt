@@ -6,7 +6,8 @@ use jute::codes::open_list;
 use jute::{Acl, ReadRecord, Reader, WriteRecord};
 use std::alloc::Global;
 use std::test::Fail;
-use txn_codec::{Check, Create, Owner, Path, SetAcl, SetData};
+use paths_and_acls::Path;
+use txn_codec::{Check, Create, Owner, SetAcl, SetData};
 use values::{Blob, Listed, NoMemory, ReadError};
 
 // The version 4 of /a is compared.

@@ -13,8 +13,8 @@ use Rattle.ephemerals.specs.Orders.{Bytes, path_cmp}
 use Rattle.ephemerals.proofs.Ascending.{any-ascending}
 use Rattle.ephemerals.proofs.Ties.{tied_then}
 use Rattle.ephemerals.proofs.Totals.{path_total}
-use Rattle.txn_codec.specs.Paths.{has_slash}
-use Rattle.txn_codec.proofs.Slashes.{is_cut, uncut}
+use Rattle.paths_and_acls.specs.Paths.{has_slash}
+use Rattle.paths_and_acls.proofs.Slashes.{is_cut, uncut}
 use Rattle.watch_manager.specs.Pairs.{ConnectionSet, WatchPairs, watch_cmp, same_path, watchers_of, sorted_connections}
 use Rattle.watch_manager.specs.Lasting.{root_path, is_above, watchers_above}
 use Rattle.watch_manager.specs.Inner.Lasting.{with_connections, with_watchers_on, fronts_before_slash}

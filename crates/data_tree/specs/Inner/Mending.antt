@@ -4,7 +4,7 @@ use Rattle.ephemerals.specs.Orders.{Bytes}
 use Rattle.jute.specs.declared.owned.Acl.{Acl}
 use Rattle.settings.specs.declared.dialect.Dialect.{Dialect}
 use Rattle.settings.specs.declared.dialect.Dialect.TheVariants.{Zk34, Zk38}
-use Rattle.txn_codec.specs.Paths.{parent_of}
+use Rattle.paths_and_acls.specs.Paths.{parent_of}
 use Rattle.txn_codec.specs.declared.txn.TxnHeader.{TxnHeader}
 use Rattle.node_map.specs.Children.{without_missing_child}
 use Rattle.node_map.specs.Updates.{update_node, with_missing_acl}

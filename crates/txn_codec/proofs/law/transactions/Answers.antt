@@ -1,5 +1,5 @@
 use Rattle.settings.specs.declared.dialect.Dialect.TheVariants.{Zk34}
-use Rattle.txn_codec.specs.Paths.{is_path, is_child_path}
+use Rattle.paths_and_acls.specs.Paths.{is_path, is_child_path}
 use Rattle.txn_codec.specs.declared.kind.TxnKind.TheVariants as kinds
 use Rattle.txn_codec.specs.declared.place.Place.TheVariants.{Alone}
 use Rattle.txn_codec.specs.Spelling.{earlier_reads}

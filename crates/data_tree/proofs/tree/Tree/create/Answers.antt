@@ -6,8 +6,8 @@ use Rattle.jute.specs.declared.codes.TheConstants.{NODE_EXISTS}
 use Rattle.txn_codec.specs.declared.txn.Operation.TheVariants as op
 use Rattle.data_tree.specs.Inner.Doing.{IsEffectDone}
 use Rattle.data_tree.specs.Inner.Mending.{with_mended}
-use Rattle.txn_codec.specs.Acls.{acl_or_open}
-use Rattle.txn_codec.specs.Paths.{parent_of, name_of}
+use Rattle.paths_and_acls.specs.Acls.{acl_or_open}
+use Rattle.paths_and_acls.specs.Paths.{parent_of, name_of}
 use Rattle.data_tree.specs.State.{State}
 use Rattle.data_tree.specs.Meaning.{of_operation}
 use Rattle.node_map.specs.declared.node.Node.{Node}

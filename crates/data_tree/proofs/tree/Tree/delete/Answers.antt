@@ -9,7 +9,7 @@ use Rattle.data_tree.specs.Inner.Mending.{with_missing}
 use Rattle.std.proofs.lemmas.Int.{to_z-of_z}
 use Rattle.std.proofs.lemmas.Grind.{common_steps}
 use Rattle.ephemerals.specs.Pairs.{without_pair}
-use Rattle.txn_codec.specs.Paths.{parent_of}
+use Rattle.paths_and_acls.specs.Paths.{parent_of}
 use Rattle.data_tree.specs.State.{State}
 use Rattle.data_tree.specs.Meaning.{Effect, after_changes, delete_at, of_operation}
 use Rattle.node_map.specs.Updates.{update_node}

@@ -1,6 +1,6 @@
 use Rattle.std.proofs.Common.{rules, ◌≡◌, true, false, not, sym, ap, ◌∙◌, string_bytes}
 use Rattle.std.specs.FinMap as finmap
-use Rattle.txn_codec.specs.Paths.{is_root, parent_of, name_of}
+use Rattle.paths_and_acls.specs.Paths.{is_root, parent_of, name_of}
 use Rattle.node_map.specs.Agreement.{has_node}
 use Rattle.node_map.specs.Updates.{update_node, with_name}
 use Rattle.node_map.specs.Children.{added_child, without_name}

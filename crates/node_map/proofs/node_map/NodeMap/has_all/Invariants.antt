@@ -1,5 +1,5 @@
 use Rattle.std.proofs.Common.{◌≡◌, true, String, Global, string_bytes}
-use Rattle.txn_codec.specs.Paths.{child_of}
+use Rattle.paths_and_acls.specs.Paths.{child_of}
 use Rattle.node_map.specs.Agreement.{has_node}
 use Rattle.node_map.specs.Children.{HasItsChildren}
 use Rattle.node_map.proofs.Deciding.{Decides}

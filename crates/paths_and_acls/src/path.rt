@@ -2,7 +2,7 @@
 
 ghost use Rattle.std.specs.Prelude.{◌≡◌, List, ℕ, string_bytes, IsTrue, IfOk, Some, None, if◌then◌else◌};
 ghost use Rattle.jute.specs.Reads.{ReadsOwnedWhole};
-ghost use Rattle.txn_codec.specs.Paths.{are_names, is_path, is_child_path, checked_path, checked_child_path, parent_of, name_of, child_of};
+ghost use Rattle.paths_and_acls.specs.Paths.{are_names, is_path, is_child_path, checked_path, checked_child_path, parent_of, name_of, child_of};
 
 use std::alloc::Global;
 use std::marker::Model;
@@ -104,8 +104,9 @@ impl Path {
         })
     }
 
-    // Checks that the text is a path other than "/".
-    pub(crate) fn new_child(alloc: Global, text: &str) -> Result<Path, ReadError>
+    /// Checks that the text is a path other than "/", whose node has a parent. The fault is `BadPath` if it isn't. Fails
+    /// with `NoMemory` if an allocation is refused.
+    pub fn new_child(alloc: Global, text: &str) -> Result<Path, ReadError>
         ensures { ReadsOwnedWhole (checked_child_path text.now) result }
     {
         if !is_child_path(text.as_bytes()) {
@@ -116,8 +117,8 @@ impl Path {
         })
     }
 
-    // The path, if the text is one other than "/".
-    pub(crate) fn if_child(alloc: Global, text: &str) -> Result<Option<Path>, NoMemory>
+    /// The path, if the text is one other than "/". Fails only if an allocation is refused.
+    pub fn if_child(alloc: Global, text: &str) -> Result<Option<Path>, NoMemory>
         ensures { IfOk result (λ path. path ≡ (if is_child_path text.now then Some text.now else None)) }
     {
         if is_child_path(text.as_bytes()) {

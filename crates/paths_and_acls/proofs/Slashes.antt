@@ -4,7 +4,7 @@ use Rattle.std.proofs.lemmas.Bool.{ne_eqb}
 use Rattle.std.proofs.lemmas.List.{take-append-drop}
 use Rattle.std.proofs.lemmas.Str.Pattern.{NoCharPasses-char, drop_at_char}
 use Rattle.std.specs.Str.Pattern.{RFindsChar}
-use Rattle.txn_codec.specs.Paths.{has_slash, before_last_slash, after_last_slash, or_root, parent_of, name_of}
+use Rattle.paths_and_acls.specs.Paths.{has_slash, before_last_slash, after_last_slash, or_root, parent_of, name_of}
 
 pub no_slash : (text : List ℕ) → ((i : ℕ) → i < length text → get_or text i 0 ≢ 47) → has_slash text ≡ false
 no_slash [] none = refl

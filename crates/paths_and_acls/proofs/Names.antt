@@ -1,7 +1,7 @@
 -- Names between slashes, read byte by byte.
 use Rattle.std.proofs.Common.{◌≡◌, ℕ, Bool, true, false, not, eqb, ◌&&◌, ◌||◌, cond, List, [], ◌∷◌, refl, ap, sym, ◌∙◌}
 use Rattle.std.specs.List.{list_all, slice_split, onto_first}
-use Rattle.txn_codec.specs.Paths.{is_name, are_names}
+use Rattle.paths_and_acls.specs.Paths.{is_name, are_names}
 
 -- The bytes that may follow a slash (the flag is true), or continue a name: no NUL, and no slash after a slash or at
 -- the end.

@@ -1,6 +1,6 @@
 use Rattle.std.proofs.Common.{sym, ◌∙◌}
-use Rattle.txn_codec.proofs.Slashes.{uncut, all_after, name_of_cut}
-use Rattle.txn_codec.proofs.path.name_of.Goals as goal
+use Rattle.paths_and_acls.proofs.Slashes.{uncut, all_after, name_of_cut}
+use Rattle.paths_and_acls.proofs.path.name_of.Goals as goal
 
 pub returns-in-None : goal.returns-in-None
 returns-in-None c = sym (all_after c.args.path.now (uncut c.args.path.now c.in-None.ensures.cases))

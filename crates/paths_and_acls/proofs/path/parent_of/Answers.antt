@@ -1,8 +1,8 @@
 use Rattle.std.proofs.Common.{◌≡◌, [], rules, sym, ◌∙◌, ap}
 use Rattle.std.proofs.lemmas.List.{nil_from_length}
-use Rattle.txn_codec.proofs.Slashes.{uncut, none_before, parent_of_cut, or_root_some}
-use Rattle.txn_codec.specs.Paths.{or_root}
-use Rattle.txn_codec.proofs.path.parent_of.Goals as goal
+use Rattle.paths_and_acls.proofs.Slashes.{uncut, none_before, parent_of_cut, or_root_some}
+use Rattle.paths_and_acls.specs.Paths.{or_root}
+use Rattle.paths_and_acls.proofs.path.parent_of.Goals as goal
 
 pub returns-in-None : goal.returns-in-None
 returns-in-None c = sym (ap or_root (none_before c.args.path.now (uncut c.args.path.now c.in-None.ensures.cases)))

@@ -2,7 +2,7 @@
 
 ghost use Rattle.std.specs.Prelude.{◌≡◌, ◌≢◌, ◌↔◌, ◌==◌, length, IfOk, IfSome, IfNone, IsTrue, codes};
 ghost use Rattle.jute.specs.Codes.{open_acl};
-ghost use Rattle.txn_codec.specs.Acls.{acl_or_open};
+ghost use Rattle.paths_and_acls.specs.Acls.{acl_or_open};
 
 use jute::codes::ALL;
 use jute::{Acl, Id};
@@ -22,7 +22,7 @@ impl Model for AclList {
     ghost use Rattle.std.specs.Prelude.{List, Some, ◌≢◌};
     ghost use Rattle.jute.specs.Codes.{open_acl};
     ghost use Rattle.jute.specs.declared.owned.Acl.{Acl};
-    ghost use Rattle.txn_codec.specs.Acls.{acl_or_open};
+    ghost use Rattle.paths_and_acls.specs.Acls.{acl_or_open};
 
     ghost Value = { List Acl };
 

@@ -1,0 +1,4 @@
+-- Names between slashes, read byte by byte.
+pub mod Names
+-- The parts of a text before and after its last slash.
+pub mod Slashes

@@ -1,0 +1,2 @@
+pub mod Acls
+pub mod Paths
