@@ -1,5 +1,5 @@
 -- The formats of the parts are sound, and no part is refused for want of bytes.
-use Rattle.std.proofs.Common.{◌≡◌, ℕ, List, [], ◌∷◌, Option, Some, None, Result, Ok, Err, Bool, true, false, cond, refl, sym, ap, ◌∙◌, is_some}
+use Rattle.std.proofs.Common.{◌≡◌, ◌||◌, ℕ, List, [], ◌∷◌, Option, Some, None, Result, Ok, Err, Bool, true, false, cond, refl, sym, ap, ◌∙◌, is_some}
 use Rattle.std.specs.FinMap as finmap
 use Rattle.std.specs.Str.{bytes_eq}
 use Rattle.std.proofs.lemmas.Bool.{eqb-true}
@@ -15,6 +15,7 @@ use Rattle.jute.specs.declared.owned.Acl.{Acl}
 use Rattle.jute.proofs.Public.{ok_is, not_refused, guard_ended, bind_ok, int_sound, long_sound, count_sound, buffer_sound, text_sound, vector_sound, acl_sound, stat_persisted_sound, both_sound, judged_sound, case_sound}
 use Rattle.paths_and_acls.specs.Paths.{is_root, is_path, checked_path}
 use Rattle.data_tree.specs.Making.{has_place}
+use Rattle.snapshot_codec.specs.Dialects.{or_missing, comes_late}
 use Rattle.snapshot_codec.specs.Made.{LoadedParts, with_value, with_listed_node, list_at_key, image_load}
 use Rattle.snapshot_codec.specs.Parts.{Value, Count, Path, Close, Part, count_value, count_back, session_value, session_back, acl_value, acl_back, root_path, path_value, root_text_value, root_value, root_back, next_value, next_back, node_value, node_back, node_body, signature_text, signature_value, signature_back, counted_parts, part_format, part_stream}
 use Rattle.snapshot_codec.specs.declared.part.ImageNode.{ImageNode}
@@ -111,8 +112,10 @@ value_waits made (Count n) e = not_refused made Short e
 value_waits made (Path path) e = not_refused made Short e
 value_waits made Close e = not_refused made Short e
 value_waits made (Part (part.Session s)) e = not_short (is_some (finmap.get made.state.sessions s.id)) _ e
-value_waits made (Part (part.Acl a)) e = not_short (is_some (finmap.get made.lists a.key)) _ e
-value_waits made (Part (part.Node n)) e = node_waits made n (list_at_key made.lists n.acl) e
+value_waits made (Part (part.Acl a)) e = not_short
+    (comes_late made.dialect made.state.nodes || is_some (finmap.get made.lists a.key)) _ e
+value_waits made (Part (part.Node n)) e = node_waits made n
+    (or_missing made.dialect (list_at_key made.lists n.acl)) e
 value_waits made (Part part.End) e = not_refused made Short e
 
 pub never_waits : NeverWaits image_load

@@ -1,8 +1,9 @@
 -- The bytes of an image, section by section.
-use Rattle.std.proofs.Common.{◌≡◌, ℕ, suc, ℤ, pos, true, false, cond, T, List, [], ◌∷◌, ◌++◌, map, length, Some, is_some, Result, Err, refl, sym, ap, subst, ◌∙◌, true≢false, append_assoc, append-nil}
+use Rattle.std.proofs.Common.{◌≡◌, ℕ, suc, ℤ, true, false, cond, T, List, [], ◌∷◌, ◌++◌, map, length, Some, is_some, Result, Err, refl, sym, ap, subst, ◌∙◌, true≢false, append_assoc, append-nil}
 use Rattle.std.specs.FinMap as finmap
 use Rattle.std.specs.FinMap.{find, is_sorted}
 use Rattle.std.specs.FinMap.Entries.{below_all}
+use Rattle.settings.specs.declared.dialect.Dialect.{Dialect}
 use Rattle.std.specs.List.{flat_map, AllByRecursion}
 use Rattle.ephemerals.specs.Orders.{Bytes, path_cmp}
 use Rattle.jute.specs.Format.{int, long, count_format, count_limit, text_format, pair_of}
@@ -11,8 +12,9 @@ use Rattle.paths_and_acls.specs.Paths.{is_root, is_path}
 use Rattle.node_map.specs.declared.node.Node.{Node}
 use Rattle.data_tree.specs.State.{State}
 use Rattle.data_tree.specs.Whole.{IsWhole}
+use Rattle.snapshot_codec.specs.Dialects.{stored_stat, KeepsOwner}
 use Rattle.snapshot_codec.specs.Parts.{Value, Part, root_path, signature_text, node_body}
-use Rattle.snapshot_codec.specs.Written.{walk_cmp, walk_of, Lists, lists_from, lists_of, key_of, session_part, list_part, counted_values, node_values, bytes_from, image_bytes, FitsImage}
+use Rattle.snapshot_codec.specs.Written.{walk_cmp, walk_of, Lists, lists_from, lists_of, key_of, session_part, list_part, counted_values, node_values, bytes_from, image_bytes, FitsImageIn}
 use Rattle.snapshot_codec.specs.Writes.{sessions_bytes, FitSessions, keyed_bytes, table_bytes, FitLists, MakesTable, nodes_bytes, FitNodes, WritesBytes}
 use Rattle.snapshot_codec.specs.declared.write_error.WriteError.{WriteError}
 use Rattle.snapshot_codec.specs.declared.write_error.WriteError.TheVariants.{NotWhole, NoMemory}
@@ -50,7 +52,7 @@ end_bytes = text_format.written (Some root_path) ++ text_format.written (Some si
 
 module _ (lists : Lists) where
   abbrev body : Bytes × Node → List ℕ
-  body e = node_body.written (e.1.bytes, (key_of lists e.1.acl, e.1.stat))
+  body e = node_body.written (e.1.bytes, (key_of lists e.1.acl, stored_stat e.1))
 
   abbrev NotRoots : List (Bytes × Node) → Type 0
   NotRoots es = AllByRecursion (λ (e : Bytes × Node). is_root e.0 ≡ false) es
@@ -149,7 +151,7 @@ module _ {A : Type 0} (P Q : A → Type 0) where
   all_second [] h = tt
   all_second (x ∷ xs) h = (h.0.1, all_second xs h.1)
 
-module _ (s : State) where
+module _ (dialect : Dialect) (s : State) where
   abbrev table : Lists
   table = lists_of s.nodes
 
@@ -157,10 +159,10 @@ module _ (s : State) where
   PathFits e = text_format.Fits (Some e.0)
 
   abbrev BodyFits : Bytes × Node → Type 0
-  BodyFits e = node_body.Fits (e.1.bytes, (key_of table e.1.acl, e.1.stat)) × (e.1.mark ≡ pos 0)
+  BodyFits e = node_body.Fits (e.1.bytes, (key_of table e.1.acl, stored_stat e.1)) × KeepsOwner dialect e.1
 
   pub fits_image : IsWhole s → FitSessions (finmap.entries s.sessions) → FitLists table
-      → FitNodes table (walk_of s.nodes) → FitsImage s
+      → FitNodes dialect table (walk_of s.nodes) → FitsImageIn dialect s
   fits_image w a b c = (
     w,
     record {
@@ -173,13 +175,13 @@ module _ (s : State) where
     },
   )
 
-  pub fit_sessions : FitsImage s → FitSessions (finmap.entries s.sessions)
+  pub fit_sessions : FitsImageIn dialect s → FitSessions (finmap.entries s.sessions)
   fit_sessions h = (h.1.session_count, h.1.sessions)
 
-  pub fit_lists : FitsImage s → FitLists table
+  pub fit_lists : FitsImageIn dialect s → FitLists table
   fit_lists h = (h.1.list_count, h.1.lists)
 
-  pub fit_nodes : FitsImage s → FitNodes table (walk_of s.nodes)
+  pub fit_nodes : FitsImageIn dialect s → FitNodes dialect table (walk_of s.nodes)
   fit_nodes h = all_both PathFits BodyFits (walk_of s.nodes) h.1.paths h.1.nodes
 
 -- ---- the bytes written by each call
@@ -199,22 +201,22 @@ module _ (s : State) (rows : List (Bytes × Node)) (is : rows ≡ walk_of s.node
       ++ table_bytes (lists_from [] (is j)))) i ++ nodes_bytes (lists_from [] (is i)) (is i)))
       ∙ sections s w
 
-  pub all_fit : (ids : List (ℤ × ℤ)) → IsWhole s → ids ≡ finmap.entries s.sessions → FitSessions ids
-      → FitLists (lists_from [] rows) → FitNodes (lists_from [] rows) rows → FitsImage s
-  all_fit ids w same a b c =
-      fits_image s w (subst FitSessions same a)
+  pub all_fit : (dialect : Dialect) (ids : List (ℤ × ℤ)) → IsWhole s → ids ≡ finmap.entries s.sessions → FitSessions ids
+      → FitLists (lists_from [] rows) → FitNodes dialect (lists_from [] rows) rows → FitsImageIn dialect s
+  all_fit dialect ids w same a b c =
+      fits_image dialect s w (subst FitSessions same a)
       (subst (λ (es : List (Bytes × Node)). FitLists (lists_from [] es)) is b)
-      (subst (λ (es : List (Bytes × Node)). FitNodes (lists_from [] es) es) is c)
+      (subst (λ (es : List (Bytes × Node)). FitNodes dialect (lists_from [] es) es) is c)
 
-  pub lists_refused : {A : Type 0} (e : WriteError) → MakesTable (Err e) (lists_from [] rows)
-      → ◌≡◌ {A = Result A WriteError} (Err e) (Err NotWhole) → FitsImage s → ⊥
-  lists_refused NotWhole bad same h =
-      bad (subst (λ (es : List (Bytes × Node)). FitLists (lists_from [] es)) (sym is) (fit_lists s h))
-  lists_refused NoMemory bad same h = absurd cc
+  pub lists_refused : {A : Type 0} (dialect : Dialect) (e : WriteError) → MakesTable (Err e) (lists_from [] rows)
+      → ◌≡◌ {A = Result A WriteError} (Err e) (Err NotWhole) → FitsImageIn dialect s → ⊥
+  lists_refused dialect NotWhole bad same h =
+      bad (subst (λ (es : List (Bytes × Node)). FitLists (lists_from [] es)) (sym is) (fit_lists dialect s h))
+  lists_refused dialect NoMemory bad same h = absurd cc
 
-  pub nodes_refused : {A : Type 0} (e : WriteError) (bytes old new : List ℕ)
-      → WritesBytes (Err e) bytes old new (FitNodes (lists_from [] rows) rows)
-      → ◌≡◌ {A = Result A WriteError} (Err e) (Err NotWhole) → FitsImage s → ⊥
-  nodes_refused NotWhole bytes old new bad same h =
-      bad (subst (λ (es : List (Bytes × Node)). FitNodes (lists_from [] es) es) (sym is) (fit_nodes s h))
-  nodes_refused NoMemory bytes old new bad same h = absurd cc
+  pub nodes_refused : {A : Type 0} (dialect : Dialect) (e : WriteError) (bytes old new : List ℕ)
+      → WritesBytes (Err e) bytes old new (FitNodes dialect (lists_from [] rows) rows)
+      → ◌≡◌ {A = Result A WriteError} (Err e) (Err NotWhole) → FitsImageIn dialect s → ⊥
+  nodes_refused dialect NotWhole bytes old new bad same h =
+      bad (subst (λ (es : List (Bytes × Node)). FitNodes dialect (lists_from [] es) es) (sym is) (fit_nodes dialect s h))
+  nodes_refused dialect NoMemory bytes old new bad same h = absurd cc

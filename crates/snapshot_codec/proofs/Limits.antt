@@ -1,9 +1,10 @@
 -- Values within the limits fit the formats of their phases, and their bytes spell them.
-use Rattle.std.proofs.Common.{◌≡◌, ℕ, suc, ◌-◌, ◌≤◌, ℤ, pos, Bool, true, false, cond, ◌==◌, T, List, [], ◌∷◌, ◌++◌, map, length, Some, is_some, Ok, Err, refl, sym, ap, subst, ◌∙◌, arith, true≢false}
+use Rattle.std.proofs.Common.{◌≡◌, ℕ, suc, ◌-◌, ◌≤◌, ℤ, Bool, true, false, cond, ◌==◌, T, List, [], ◌∷◌, ◌++◌, map, length, Some, is_some, Ok, Err, refl, sym, ap, subst, ◌∙◌, arith, true≢false}
 use Rattle.std.specs.declared.cmp.Ordering.TheVariants.{Less}
 use Rattle.std.specs.FinMap as finmap
 use Rattle.std.specs.FinMap.{find, is_sorted}
 use Rattle.std.specs.FinMap.Entries.{below_all}
+use Rattle.settings.specs.declared.dialect.Dialect.{Dialect}
 use Rattle.std.specs.List.{AllByRecursion}
 use Rattle.std.specs.Ordering.{is_lt, eq_by_cmp}
 use Rattle.std.specs.Str.{IsUtf8, is_utf8}
@@ -23,6 +24,7 @@ use Rattle.paths_and_acls.specs.Paths.{is_root, is_path}
 use Rattle.node_map.specs.declared.node.Node.{Node}
 use Rattle.data_tree.specs.State.{State}
 use Rattle.data_tree.specs.Whole.{IsWhole}
+use Rattle.snapshot_codec.specs.Dialects.{stored_stat, KeepsOwner}
 use Rattle.snapshot_codec.specs.Parts.{Value, Path, Close, Part, root_path, signature_text, next_value, node_body, part_stream, part_format, part_after, sessions_from, acls_from}
 use Rattle.snapshot_codec.specs.Written.{walk_cmp, walk_of, Lists, lists_of, key_of, session_part, list_part, node_values, values_of, bytes_from, IsWithinLimits}
 use Rattle.snapshot_codec.specs.declared.part.PartPhase.{PartPhase}
@@ -112,14 +114,14 @@ end_text = text_fits signature_text (is_utf8-from_IsUtf8 signature_text signatur
 
 -- ---- nodes
 
-module _ (lists : Lists) where
+module _ (dialect : Dialect) (lists : Lists) where
   abbrev Paths : List (Bytes × Node) → Type 0
   Paths es = AllByRecursion (λ (e : Bytes × Node). text_format.Fits (Some e.0)) es
 
   abbrev Bodies : List (Bytes × Node) → Type 0
   Bodies es =
       AllByRecursion (λ (e : Bytes × Node).
-      node_body.Fits (e.1.bytes, (key_of lists e.1.acl, e.1.stat)) × (e.1.mark ≡ pos 0)) es
+      node_body.Fits (e.1.bytes, (key_of lists e.1.acl, stored_stat e.1)) × KeepsOwner dialect e.1) es
 
   abbrev Others : List (Bytes × Node) → Type 0
   Others es = AllByRecursion (λ (e : Bytes × Node). (is_root e.0 ≡ false) × (is_path e.0 ≡ true)) es
@@ -189,27 +191,27 @@ first_root e es h p some = by (eq_by_cmp path_cmp root_path e.0) refl some
         absurd (none_before_root e.0 (p e.0 (here_some path_total e es))
         (less_found e.0 root_path es (first (below_all walk_cmp e.0 es) (is_sorted walk_cmp es) h) k))
 
-walk_fits : (lists : Lists) (es : List (Bytes × Node)) → T (is_sorted walk_cmp es) → ArePaths es
-    → is_some (find path_cmp root_path es) ≡ true → Paths lists es → Bodies lists es
+walk_fits : (dialect : Dialect) (lists : Lists) (es : List (Bytes × Node)) → T (is_sorted walk_cmp es) → ArePaths es
+    → is_some (find path_cmp root_path es) ≡ true → Paths dialect lists es → Bodies dialect lists es
     → FitFrom Root (node_values lists es)
-walk_fits lists [] h p some ps bs = absurd (true≢false (sym some))
-walk_fits lists (e ∷ es) h p some ps bs =
+walk_fits dialect lists [] h p some ps bs = absurd (true≢false (sym some))
+walk_fits dialect lists (e ∷ es) h p some ps bs =
     let root = first_root e es h p some in
     let below : T (below_all walk_cmp root_path es) = subst (λ (q : Bytes). T (below_all walk_cmp q es)) (sym root)
     (first (below_all walk_cmp e.0 es) (is_sorted walk_cmp es) h) in (
-      first_fits lists e.0 (ap is_root (sym root)),
-      ((refl, bs.0.0), nodes_fit lists es (others es below (behind_first e es p)) ps.1 bs.1),
+      first_fits dialect lists e.0 (ap is_root (sym root)),
+      ((refl, bs.0.0), nodes_fit dialect lists es (others es below (behind_first e es p)) ps.1 bs.1),
     )
 
-pub values_fit : (s : State) → IsWhole s
-    → IsWithinLimits (finmap.entries s.sessions) (lists_of s.nodes) (walk_of s.nodes)
+pub values_fit : (dialect : Dialect) (s : State) → IsWhole s
+    → IsWithinLimits dialect (finmap.entries s.sessions) (lists_of s.nodes) (walk_of s.nodes)
     → FitFrom SessionCount (values_of s)
-values_fit s w l = (
+values_fit dialect s w l = (
   (refl, l.session_count),
   sessions_fit (finmap.entries s.sessions) _ l.sessions (
     (refl, l.list_count),
     lists_fit (lists_of s.nodes) _ l.lists
-        (walk_fits (lists_of s.nodes) (walk_of s.nodes) (walk_sorted s.nodes)
+        (walk_fits dialect (lists_of s.nodes) (walk_of s.nodes) (walk_sorted s.nodes)
         (λ q some. w.named.paths q (sym (ap is_some (walk_find s.nodes q)) ∙ some))
         (ap is_some (walk_find s.nodes root_path) ∙ w.root) l.paths l.nodes),
   ),

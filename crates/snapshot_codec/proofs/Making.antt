@@ -14,6 +14,8 @@ use Rattle.std.proofs.lemmas.Bool.Decides.{Decides-int_eq}
 use Rattle.std.proofs.lemmas.List.Folds.{list_any-append}
 use Rattle.std.proofs.lemmas.Map.Lookups.{exact_bytes, exact_signed}
 use Rattle.std.proofs.lemmas.Map.Views.{tells_apart}
+use Rattle.settings.specs.declared.dialect.Dialect.{Dialect}
+use Rattle.settings.specs.declared.dialect.Dialect.TheVariants.{Zk34, Zk38}
 use Rattle.ephemerals.specs.Orders.{Bytes, OwnerPairs, path_cmp, pair_cmp}
 use Rattle.ephemerals.specs.Pairs.{with_pair}
 use Rattle.ephemerals.proofs.Ties.{tied_then, same_session}
@@ -27,7 +29,8 @@ use Rattle.node_map.specs.Agreement.{is_owner}
 use Rattle.node_map.specs.declared.node.Node.{Node}
 use Rattle.data_tree.specs.Making.{with_session, with_node, has_place}
 use Rattle.data_tree.specs.State.{State}
-use Rattle.snapshot_codec.specs.Image.{SessionEntries, Lists, Rows, list_named, HasPlace, is_child, AreAt, IsMadeOf}
+use Rattle.snapshot_codec.specs.Dialects.{owning_session, or_missing, is_late, comes_late}
+use Rattle.snapshot_codec.specs.Image.{SessionEntries, Lists, Rows, list_named, HasPlace, IsInTime, is_child, AreAt, IsMadeOf}
 use Rattle.snapshot_codec.specs.Made.{LoadedParts, node_with}
 use Rattle.snapshot_codec.specs.declared.part.ImageNode.{ImageNode}
 
@@ -48,15 +51,16 @@ none_is o e = ap is_some e
 
 -- ---- look-ups
 
-module _ (lists : Lists) (rows : Rows) (path : Bytes) where
-  same_some : (row : Option ImageNode) (node : Option Node) → AreAt lists rows path row node
+module _ (dialect : Dialect) (lists : Lists) (rows : Rows) (path : Bytes) where
+  same_some : (row : Option ImageNode) (node : Option Node) → AreAt dialect lists rows path row node
       → is_some node ≡ is_some row
   same_some None None h = refl
   same_some (Some r) (Some n) h = refl
   same_some None (Some n) h = absurd h
   same_some (Some r) None h = absurd h
 
-  some_node : (row : Option ImageNode) (node : Option Node) → AreAt lists rows path row node → is_some row ≡ true
+  some_node : (row : Option ImageNode) (node : Option Node) → AreAt dialect lists rows path row node
+      → is_some row ≡ true
       → (n : Node) × (node ≡ Some n)
   some_node (Some r) (Some n) h e = (n, refl)
   some_node (Some r) None h e = absurd h
@@ -64,7 +68,7 @@ module _ (lists : Lists) (rows : Rows) (path : Bytes) where
 
 -- The parts so far; and no path without a row has a child among the rows.
 pub record Fits (made : LoadedParts) (sessions : SessionEntries) (lists : Lists) (rows : Rows) : Type 0 where
-  pub state : IsMadeOf made.state sessions lists rows
+  pub state : IsMadeOf made.dialect made.state sessions lists rows
   pub table : (key : ℤ) → finmap.get made.lists key ≡ find int_cmp key lists
   pub closed : (path : Bytes) → find path_cmp path rows ≡ None → (name : Bytes)
       → list_any (is_child path name) rows ≡ false
@@ -110,8 +114,8 @@ named_more lists key list asked found none e = by (int_eq asked (negsuc 0)) (eq_
         ∙ ap (λ b. cond b (Some list) (find int_cmp asked lists)) t ∙ entry other t h
 
 still_at : (lists : Lists) (key : ℤ) (list : List Acl) → find int_cmp key lists ≡ None → (rows : Rows) (path : Bytes)
-    (row : Option ImageNode) (node : Option Node) → AreAt lists rows path row node
-    → AreAt (lists ++ (key, list) ∷ []) rows path row node
+    (row : Option ImageNode) (node : Option Node) → AreAt Zk34 lists rows path row node
+    → AreAt Zk34 (lists ++ (key, list) ∷ []) rows path row node
 still_at lists key list none rows path None None h = tt
 still_at lists key list none rows path (Some r) (Some n) h = record {
   bytes = h.bytes;
@@ -123,15 +127,26 @@ still_at lists key list none rows path (Some r) (Some n) h = record {
 still_at lists key list none rows path None (Some n) h = absurd h
 still_at lists key list none rows path (Some r) None h = absurd h
 
+-- In a later dialect there is no node yet.
+still_in : (dialect : Dialect) (lists : Lists) (key : ℤ) (list : List Acl) → find int_cmp key lists ≡ None
+    → (rows : Rows) → IsInTime dialect rows → (path : Bytes) (node : Option Node)
+    → AreAt dialect lists rows path (find path_cmp path rows) node
+    → AreAt dialect (lists ++ (key, list) ∷ []) rows path (find path_cmp path rows) node
+still_in Zk34 lists key list none rows time path found h =
+    still_at lists key list none rows path (find path_cmp path rows) found h
+still_in Zk38 lists key list none [] time path None h = tt
+still_in Zk38 lists key list none [] time path (Some n) h = absurd h
+still_in Zk38 lists key list none (r ∷ rows) time path found h = absurd time
+
 pub list_fits : (made : LoadedParts) (sessions : SessionEntries) (lists : Lists) (rows : Rows) (key : ℤ)
     (list : List Acl)
-    → Fits made sessions lists rows → find int_cmp key lists ≡ None
+    → Fits made sessions lists rows → find int_cmp key lists ≡ None → IsInTime made.dialect rows
     → Fits (record made { lists = finmap.insert made.lists key list }) sessions (lists ++ (key, list) ∷ []) rows
-list_fits made sessions lists rows key list f none = record {
+list_fits made sessions lists rows key list f none time = record {
   state = record {
     timeouts = f.state.timeouts;
-    nodes = λ path. still_at lists key list none rows path (find path_cmp path rows)
-        (finmap.get made.state.nodes path) (f.state.nodes path);
+    nodes = λ path. still_in made.dialect lists key list none rows time path (finmap.get made.state.nodes path)
+        (f.state.nodes path);
     owners = f.state.owners;
   };
   table = λ q. finmap.get-insert int_cmp_total made.lists key list q
@@ -215,7 +230,7 @@ module _ (made : LoadedParts) (sessions : SessionEntries) (lists : Lists) where
 
   no_nodes : Fits made sessions lists [] → nodes ≡ finmap.empty
   no_nodes f = finmap.same_map path_total exact_bytes _ _ (λ q.
-      is_none (finmap.get nodes q) (same_some lists [] q None (finmap.get nodes q) (f.state.nodes q))
+      is_none (finmap.get nodes q) (same_some made.dialect lists [] q None (finmap.get nodes q) (f.state.nodes q))
       ∙ sym (finmap.get-empty path_cmp q))
 
   len_is : (rows : Rows) → Fits made sessions lists rows → eqb (finmap.len nodes) 0 ≡ no_rows rows
@@ -225,7 +240,7 @@ module _ (made : LoadedParts) (sessions : SessionEntries) (lists : Lists) where
   len_is (r ∷ rows) f = by (eqb (finmap.len nodes) 0) refl
     where
       here : is_some (finmap.get nodes r.0) ≡ true
-      here = same_some lists (r ∷ rows) r.0 _ _ (f.state.nodes r.0) ∙ ap is_some (found_first r rows)
+      here = same_some made.dialect lists (r ∷ rows) r.0 _ _ (f.state.nodes r.0) ∙ ap is_some (found_first r rows)
 
       by : (b : Bool) → eqb (finmap.len nodes) 0 ≡ b → b ≡ false
       by true e =
@@ -244,7 +259,30 @@ module _ (made : LoadedParts) (sessions : SessionEntries) (lists : Lists) where
       && there (parent_of path) i
     where
       there : (p : Bytes) → is_some (finmap.get nodes p) ≡ is_some (find path_cmp p rows)
-      there p = same_some lists rows p _ _ (f.state.nodes p)
+      there p = same_some made.dialect lists rows p _ _ (f.state.nodes p)
+
+  -- No node comes before a list, where it may not.
+  pub in_time_of : (rows : Rows) → Fits made sessions lists rows → comes_late made.dialect nodes ≡ false
+      → IsInTime made.dialect rows
+  unfolding no_rows
+  in_time_of rows f = by made.dialect rows (eqb (finmap.len nodes) 0) (len_is rows f)
+    where
+      by : (dialect : Dialect) (rows : Rows) (none : Bool) → none ≡ no_rows rows → is_late dialect none ≡ false
+          → IsInTime dialect rows
+      by Zk34 rows none is e = tt
+      by Zk38 [] none is e = tt
+      by Zk38 (r ∷ rows) none is e = absurd (true≢false (ap not (sym is) ∙ e))
+
+  pub of_in_time : (rows : Rows) → Fits made sessions lists rows → IsInTime made.dialect rows
+      → comes_late made.dialect nodes ≡ false
+  unfolding no_rows
+  of_in_time rows f = by made.dialect rows (eqb (finmap.len nodes) 0) (len_is rows f)
+    where
+      by : (dialect : Dialect) (rows : Rows) (none : Bool) → none ≡ no_rows rows → IsInTime dialect rows
+          → is_late dialect none ≡ false
+      by Zk34 rows none is time = refl
+      by Zk38 [] none is time = ap not is
+      by Zk38 (r ∷ rows) none is time = absurd time
 
   pub has_place_of : (b : Bool) (rows : Rows) (path : Bytes) → place_test b rows path ≡ true → HasPlace b rows path
   unfolding no_rows
@@ -277,12 +315,12 @@ or_turned false false = refl
 
 module _ (made : LoadedParts) (sessions : SessionEntries) (lists : Lists) (rows : Rows) (path : Bytes) (row : ImageNode)
     (acl : List Acl)
-    (named : list_named lists row.acl ≡ Some acl) (f : Fits made sessions lists rows) where
+    (named : or_missing made.dialect (list_named lists row.acl) ≡ Some acl) (f : Fits made sessions lists rows) where
   abbrev more : Rows
   more = rows ++ (path, row) ∷ []
 
   abbrev fresh : Node
-  fresh = node_with row acl
+  fresh = node_with made.dialect row acl
 
   abbrev state : State
   state = made.state
@@ -294,7 +332,7 @@ module _ (made : LoadedParts) (sessions : SessionEntries) (lists : Lists) (rows 
   own_pair : finmap.get state.nodes path ≡ None → (session : ℤ)
       → set.contains (with_node state path fresh).pairs (session, path) ≡ is_owner session (Some fresh)
   own_pair none session =
-      own_path state.pairs row.stat.ephemeral_owner session path
+      own_path state.pairs (owning_session made.dialect row.stat.ephemeral_owner) session path
       (f.state.owners session path ∙ ap (is_owner session) none)
 
   -- ---- the root
@@ -305,7 +343,7 @@ module _ (made : LoadedParts) (sessions : SessionEntries) (lists : Lists) (rows 
         (λ b. not b && (eq_by_cmp path_cmp q (parent_of path) && eq_by_cmp path_cmp name (name_of path))) root
 
     none_yet : (q : Bytes) → finmap.get state.nodes q ≡ None
-    none_yet q = is_none _ (same_some lists rows q _ _ (f.state.nodes q)
+    none_yet q = is_none _ (same_some made.dialect lists rows q _ _ (f.state.nodes q)
         ∙ ap (λ (r : Rows). is_some (find path_cmp q r)) first)
 
     root_get : (q : Bytes) → finmap.get after.state.nodes q ≡ cond (eq_by_cmp path_cmp q path) (Some fresh) None
@@ -322,7 +360,7 @@ module _ (made : LoadedParts) (sessions : SessionEntries) (lists : Lists) (rows 
     root_below q name = below_more rows path row q name ∙ (λ i. list_any (is_child q name) (first i)
         || (root_child q name i || false))
 
-    root_node : (q : Bytes) (b : Bool) → AreAt lists more q (cond b (Some row) None) (cond b (Some fresh) None)
+    root_node : (q : Bytes) (b : Bool) → AreAt made.dialect lists more q (cond b (Some row) None) (cond b (Some fresh) None)
     root_node q true = record {
       bytes = refl;
       stat = refl;
@@ -339,15 +377,15 @@ module _ (made : LoadedParts) (sessions : SessionEntries) (lists : Lists) (rows 
         (tells_apart exact_bytes q path h)
         ∙ own_pair (none_yet path) session
     root_owner session q false h =
-        other_path state.pairs row.stat.ephemeral_owner session path q h
+        other_path state.pairs (owning_session made.dialect row.stat.ephemeral_owner) session path q h
         ∙ f.state.owners session q ∙ ap (is_owner session) (none_yet q)
 
     root_fits : Fits after sessions lists more
     root_fits = record {
       state = record {
         timeouts = f.state.timeouts;
-        nodes = λ q. subst (λ r. AreAt lists more q r (finmap.get after.state.nodes q)) (sym (root_find q))
-            (subst (AreAt lists more q _) (sym (root_get q)) (root_node q (eq_by_cmp path_cmp q path)));
+        nodes = λ q. subst (λ r. AreAt made.dialect lists more q r (finmap.get after.state.nodes q)) (sym (root_find q))
+            (subst (AreAt made.dialect lists more q _) (sym (root_get q)) (root_node q (eq_by_cmp path_cmp q path)));
         owners = λ session q. root_owner session q (eq_by_cmp path_cmp q path) refl
             ∙ sym (ap (is_owner session) (root_get q));
       };
@@ -360,10 +398,10 @@ module _ (made : LoadedParts) (sessions : SessionEntries) (lists : Lists) (rows 
   module _ (other : is_root path ≡ false) (new : find path_cmp path rows ≡ None)
       (parent : is_some (find path_cmp (parent_of path) rows) ≡ true) where
     above : (n : Node) × (finmap.get state.nodes (parent_of path) ≡ Some n)
-    above = some_node lists rows (parent_of path) _ _ (f.state.nodes (parent_of path)) parent
+    above = some_node made.dialect lists rows (parent_of path) _ _ (f.state.nodes (parent_of path)) parent
 
     none_there : finmap.get state.nodes path ≡ None
-    none_there = is_none _ (same_some lists rows path _ _ (f.state.nodes path) ∙ ap is_some new)
+    none_there = is_none _ (same_some made.dialect lists rows path _ _ (f.state.nodes path) ∙ ap is_some new)
 
     abbrev raised : Node
     raised = with_name (name_of path) above.0
@@ -403,7 +441,7 @@ module _ (made : LoadedParts) (sessions : SessionEntries) (lists : Lists) (rows 
         || ((apart q none i && eq_by_cmp path_cmp name (name_of path)) || false))
 
     parent_node : (q : Bytes) (found : Option ImageNode) → eq_by_cmp path_cmp q (parent_of path) ≡ true
-        → AreAt lists rows q found (Some above.0) → AreAt lists more q found (Some raised)
+        → AreAt made.dialect lists rows q found (Some above.0) → AreAt made.dialect lists more q found (Some raised)
     parent_node q None e h = absurd h
     parent_node q (Some r) e h = record {
       bytes = h.bytes;
@@ -419,7 +457,7 @@ module _ (made : LoadedParts) (sessions : SessionEntries) (lists : Lists) (rows 
 
     same_node : (q : Bytes) (found : Option ImageNode) (node : Option Node)
         → eq_by_cmp path_cmp q (parent_of path) ≡ false
-        → AreAt lists rows q found node → AreAt lists more q found node
+        → AreAt made.dialect lists rows q found node → AreAt made.dialect lists more q found node
     same_node q None None e h = tt
     same_node q (Some r) (Some n) e h = record {
       bytes = h.bytes;
@@ -435,7 +473,7 @@ module _ (made : LoadedParts) (sessions : SessionEntries) (lists : Lists) (rows 
 
     child_node : (q : Bytes) (here up : Bool) → eq_by_cmp path_cmp q path ≡ here
         → eq_by_cmp path_cmp q (parent_of path) ≡ up
-        → AreAt lists more q (cond here (Some row) (find path_cmp q rows))
+        → AreAt made.dialect lists more q (cond here (Some row) (find path_cmp q rows))
         (cond here (Some fresh) (cond up (Some raised) (finmap.get state.nodes q)))
     child_node q true up h u =
         let none : find path_cmp q rows ≡ None = ap (λ (p : Bytes). find path_cmp p rows)
@@ -451,7 +489,7 @@ module _ (made : LoadedParts) (sessions : SessionEntries) (lists : Lists) (rows 
     child_node q false true h u =
         let is : finmap.get state.nodes q ≡ Some above.0 = ap (finmap.get state.nodes)
         (tells_apart exact_bytes q (parent_of path) u) ∙ above.1 in
-        parent_node q (find path_cmp q rows) u (subst (AreAt lists rows q (find path_cmp q rows)) is (f.state.nodes q))
+        parent_node q (find path_cmp q rows) u (subst (AreAt made.dialect lists rows q (find path_cmp q rows)) is (f.state.nodes q))
     child_node q false false h u = same_node q (find path_cmp q rows) (finmap.get state.nodes q) u (f.state.nodes q)
 
     child_owner : (session : ℤ) (q : Bytes) (here up : Bool) → eq_by_cmp path_cmp q path ≡ here
@@ -463,11 +501,11 @@ module _ (made : LoadedParts) (sessions : SessionEntries) (lists : Lists) (rows 
         (tells_apart exact_bytes q path h)
         ∙ own_pair none_there session
     child_owner session q false true h u =
-        other_path state.pairs row.stat.ephemeral_owner session path q h ∙ f.state.owners session q
+        other_path state.pairs (owning_session made.dialect row.stat.ephemeral_owner) session path q h ∙ f.state.owners session q
         ∙ ap (λ (p : Bytes). is_owner session (finmap.get state.nodes p)) (tells_apart exact_bytes q (parent_of path) u)
         ∙ ap (is_owner session) above.1
     child_owner session q false false h u =
-        other_path state.pairs row.stat.ephemeral_owner session path q h ∙ f.state.owners session q
+        other_path state.pairs (owning_session made.dialect row.stat.ephemeral_owner) session path q h ∙ f.state.owners session q
 
     still_none : (q : Bytes) → find path_cmp q more ≡ None → find path_cmp q rows ≡ None
     still_none q e = by (eq_by_cmp path_cmp q path) (sym (child_find q) ∙ e)
@@ -480,8 +518,8 @@ module _ (made : LoadedParts) (sessions : SessionEntries) (lists : Lists) (rows 
     child_fits = record {
       state = record {
         timeouts = f.state.timeouts;
-        nodes = λ q. subst (λ r. AreAt lists more q r (finmap.get after.state.nodes q)) (sym (child_find q))
-            (subst (AreAt lists more q _) (sym (child_get q))
+        nodes = λ q. subst (λ r. AreAt made.dialect lists more q r (finmap.get after.state.nodes q)) (sym (child_find q))
+            (subst (AreAt made.dialect lists more q _) (sym (child_get q))
             (child_node q (eq_by_cmp path_cmp q path) (eq_by_cmp path_cmp q (parent_of path)) refl refl));
         owners = λ session q. child_owner session q (eq_by_cmp path_cmp q path)
             (eq_by_cmp path_cmp q (parent_of path)) refl refl

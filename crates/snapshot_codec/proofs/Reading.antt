@@ -1,6 +1,7 @@
 -- A value that was read in a phase, and its effect on a loading.
 use Rattle.std.proofs.Common.{◌≡◌, ℕ, ◌<◌, true, false, List, length, Option, Some, None, Result, Ok, Err, refl, sym, ap, subst, ◌∙◌, inl, inr}
 use Rattle.std.specs.Prelude.{ℤ}
+use Rattle.settings.specs.declared.dialect.Dialect.{Dialect}
 use Rattle.values.specs.declared.fault.Fault.{Fault}
 use Rattle.values.specs.declared.fault.ReadError.{ReadError}
 use Rattle.values.specs.declared.fault.ReadError.TheVariants as errors
@@ -11,8 +12,8 @@ use Rattle.jute.specs.Stream.{IsStream}
 use Rattle.jute.specs.declared.stat.StatPersisted.{StatPersisted}
 use Rattle.jute.proofs.Public.{bind_ok, bind_err, ok_is, not_refused, shorter_rest, load_read, load_refused, sound_streamed}
 use Rattle.data_tree.specs.State.{State}
-use Rattle.snapshot_codec.specs.Image.{image_read}
-use Rattle.snapshot_codec.specs.Made.{LoadedParts, Loading, no_loaded_parts, with_part, with_loaded, image_load}
+use Rattle.snapshot_codec.specs.Image.{image_read_in}
+use Rattle.snapshot_codec.specs.Made.{LoadedParts, Loading, no_parts_in, with_part, with_loaded, image_load}
 use Rattle.snapshot_codec.specs.Parts.{Value, Count, Path, Close, Part, node_body, node_value, part_stream, part_format, part_after, part_in, is_end}
 use Rattle.snapshot_codec.specs.Reads.{ReadsPart, TakesPart, LoadsNext}
 use Rattle.snapshot_codec.specs.declared.part.ImagePart.{ImagePart}
@@ -147,33 +148,34 @@ value_refused phase next made old new e after r =
 -- ---- a whole image
 
 -- Loading the rest gives the same result, or everything was loaded.
-abbrev pub LoadsOn : Loading → PartPhase → List ℕ → List ℕ → Type 0
-LoadsOn loading phase ahead bytes =
+abbrev pub LoadsOn : Dialect → Loading → PartPhase → List ℕ → List ℕ → Type 0
+LoadsOn dialect loading phase ahead bytes =
     unless_last loading.ended loading.made ahead (load_from image_load phase loading.made ahead)
-    ≡ load_from image_load SessionCount no_loaded_parts bytes
+    ≡ load_from image_load SessionCount (no_parts_in dialect) bytes
 
-module _ (loading : Loading) (phase : PartPhase) (ahead bytes : List ℕ) (on : LoadsOn loading phase ahead bytes) where
-  pub ended_is_read : loading.ended ≡ true → image_read bytes ≡ Ok (loading.made.state, ahead)
-  unfolding image_read
+module _ (dialect : Dialect) (loading : Loading) (phase : PartPhase) (ahead bytes : List ℕ)
+    (on : LoadsOn dialect loading phase ahead bytes) where
+  pub ended_is_read : loading.ended ≡ true → image_read_in dialect bytes ≡ Ok (loading.made.state, ahead)
+  unfolding image_read_in
   ended_is_read ended =
       ap (λ (q : Result (LoadedParts × List ℕ) Fault). q
       >>= λ x. (let r : Result (State × List ℕ) Fault = Ok (x.0.state, x.1) in r))
       (sym on ∙ ap (λ b. unless_last b loading.made ahead (load_from image_load phase loading.made ahead)) ended)
 
-  going : loading.ended ≡ false → load_from image_load SessionCount no_loaded_parts bytes
+  going : loading.ended ≡ false → load_from image_load SessionCount (no_parts_in dialect) bytes
       ≡ load_from image_load phase loading.made ahead
   going more = sym on ∙ ap (λ b. unless_last b loading.made ahead (load_from image_load phase loading.made ahead)) more
 
   pub failed_is_read : loading.ended ≡ false → (e : ReadError)
       → IsFailureOf e (load_from image_load phase loading.made ahead)
-      → IsFailureOf e (image_read bytes)
-  unfolding image_read
+      → IsFailureOf e (image_read_in dialect bytes)
+  unfolding image_read_in
   failed_is_read more e h =
-      fails_too e (load_from image_load phase loading.made ahead) (image_read bytes) h
+      fails_too e (load_from image_load phase loading.made ahead) (image_read_in dialect bytes) h
       (λ d k. ap (λ (q : Result (LoadedParts × List ℕ) Fault). q >>= λ x.
       (let r : Result (State × List ℕ) Fault = Ok (x.0.state, x.1) in r))
       (going more ∙ k))
 
   pub loads_on : loading.ended ≡ false → (next : PartPhase) (after : Loading) (new : List ℕ) (u : Unit {0})
-      → LoadsNext (Ok u) phase loading.made ahead next after new → LoadsOn after next new bytes
+      → LoadsNext (Ok u) phase loading.made ahead next after new → LoadsOn dialect after next new bytes
   loads_on more next after new u h = sym h.0 ∙ sym (going more)

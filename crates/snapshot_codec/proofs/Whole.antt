@@ -12,6 +12,7 @@ use Rattle.std.proofs.lemmas.Bool.{eqb-true}
 use Rattle.std.proofs.lemmas.Grind.{flat_map-append}
 use Rattle.std.proofs.lemmas.Map.Lookups.{exact_bytes}
 use Rattle.std.proofs.lemmas.Map.Views.{tells_apart}
+use Rattle.settings.specs.declared.dialect.Dialect.{Dialect}
 use Rattle.values.specs.declared.fault.Fault.{Fault}
 use Rattle.values.specs.declared.fault.Fault.TheVariants.{BadPath, BadImage}
 use Rattle.ephemerals.specs.Orders.{Bytes, path_cmp}
@@ -25,7 +26,7 @@ use Rattle.node_map.specs.declared.node.Node.{Node}
 use Rattle.data_tree.specs.State.{State}
 use Rattle.data_tree.specs.Naming.{PathsEndInNames}
 use Rattle.data_tree.specs.Whole.{IsWhole}
-use Rattle.snapshot_codec.specs.Image.{SessionEntries, Lists, Rows, parts_in, rows_in, HasPlace, IsAllowedAfter, AreAllowedAfter, is_child, AreAt, IsMadeOf, SpellsImage}
+use Rattle.snapshot_codec.specs.Image.{SessionEntries, Lists, Rows, parts_in, rows_in, HasPlace, IsAllowedAfter, AreAllowedAfter, is_child, AreAt, IsMadeOf, SpellsImageIn}
 use Rattle.snapshot_codec.specs.Made.{image_load}
 use Rattle.snapshot_codec.specs.Parts.{Value, Count, Path, Close, Part, root_path, count_value, session_value, acl_value, root_value, next_value, node_value, path_value, signature_text, signature_value, sessions_from, acls_from, part_stream, part_format, part_after, is_end}
 use Rattle.snapshot_codec.specs.declared.part.ImageNode.{ImageNode}
@@ -321,22 +322,24 @@ module _ (rows : Rows) (path : Bytes) (row : ImageNode) (l : Linked rows) where
   node_linked true e h = root_linked e h
   node_linked false e h = child_linked h.0 h.1
 
-linked_part : (front : List ImagePart) (p : ImagePart) → Linked (flat_map rows_in front) → IsAllowedAfter front p
+linked_part : (dialect : Dialect) (front : List ImagePart) (p : ImagePart) → Linked (flat_map rows_in front)
+    → IsAllowedAfter dialect front p
     → Linked (flat_map rows_in (front ++ p ∷ []))
-linked_part front (part.Session s) l h = subst Linked (kept rows_in front (part.Session s) refl) l
-linked_part front (part.Acl a) l h = subst Linked (kept rows_in front (part.Acl a) refl) l
-linked_part front part.End l h = subst Linked (kept rows_in front part.End refl) l
-linked_part front (part.Node n) l h =
+linked_part dialect front (part.Session s) l h = subst Linked (kept rows_in front (part.Session s) refl) l
+linked_part dialect front (part.Acl a) l h = subst Linked (kept rows_in front (part.Acl a) refl) l
+linked_part dialect front part.End l h = subst Linked (kept rows_in front part.End refl) l
+linked_part dialect front (part.Node n) l h =
     subst Linked (gained rows_in front (part.Node n) ((n.path, n) ∷ []) refl)
     (node_linked (flat_map rows_in front) n.path n l (is_root n.path) refl h.0)
 
-linked_all : (ps front : List ImagePart) → Linked (flat_map rows_in front) → AreAllowedAfter front ps
+linked_all : (dialect : Dialect) (ps front : List ImagePart) → Linked (flat_map rows_in front)
+    → AreAllowedAfter dialect front ps
     → Linked (flat_map rows_in (front ++ ps))
-linked_all [] front l h = subst Linked (kept rows_in front part.End refl
+linked_all dialect [] front l h = subst Linked (kept rows_in front part.End refl
     ∙ flat_map-append rows_in front (part.End ∷ []) ∙ sym (flat_map-append rows_in front [])) l
-linked_all (p ∷ ps) front l h =
+linked_all dialect (p ∷ ps) front l h =
     subst (λ (xs : List ImagePart). Linked (flat_map rows_in xs)) (append_assoc front (p ∷ []) ps)
-    (linked_all ps (front ++ p ∷ []) (linked_part front p l h.0) h.1)
+    (linked_all dialect ps (front ++ p ∷ []) (linked_part dialect front p l h.0) h.1)
 
 -- ---- whole
 
@@ -344,12 +347,13 @@ and_both : (a b : Bool) → (a && b) ≡ true → (a ≡ true) × (b ≡ true)
 and_both true b k = (refl, k)
 and_both false b k = absurd (true≢false (sym k))
 
-module _ (s : State) (ids : SessionEntries) (named : Lists) (rows : Rows) (made : IsMadeOf s ids named rows)
+module _ (dialect : Dialect) (s : State) (ids : SessionEntries) (named : Lists) (rows : Rows)
+    (made : IsMadeOf dialect s ids named rows)
     (l : Linked rows) (paths : ArePaths rows) (ends : PathsEndInNames) where
   there : (path : Bytes) → has_node s.nodes path ≡ is_some (find path_cmp path rows)
   there path = by (find path_cmp path rows) (finmap.get s.nodes path) (made.nodes path)
     where
-      by : (row : Option ImageNode) (node : Option Node) → AreAt named rows path row node → is_some node ≡ is_some row
+      by : (row : Option ImageNode) (node : Option Node) → AreAt dialect named rows path row node → is_some node ≡ is_some row
       by None None h = refl
       by (Some r) (Some n) h = refl
       by None (Some n) h = absurd h
@@ -359,7 +363,7 @@ module _ (s : State) (ids : SessionEntries) (named : Lists) (rows : Rows) (made 
       → is_listed_at s.nodes path name ≡ list_any (is_child path name) rows
   listed path name some = by (find path_cmp path rows) (finmap.get s.nodes path) (made.nodes path) some
     where
-      by : (row : Option ImageNode) (node : Option Node) → AreAt named rows path row node → is_some node ≡ true
+      by : (row : Option ImageNode) (node : Option Node) → AreAt dialect named rows path row node → is_some node ≡ true
           → is_listed name node ≡ list_any (is_child path name) rows
       by (Some r) (Some n) h e = h.children name
       by row None h e = absurd (true≢false (sym e))
@@ -490,8 +494,9 @@ module _ (s : State) (ids : SessionEntries) (named : Lists) (rows : Rows) (made 
     owners = made.owners;
   }
 
-pub image_whole : PathsEndInNames → (s : State) (text : List ℕ) → SpellsImage s text → IsWhole s
-image_whole ends s text sp =
-    made_whole s _ _ (rows_of sp.found) sp.made (linked_all (flat_map parts_in sp.found) [] no_links sp.order)
+pub image_whole : (dialect : Dialect) → PathsEndInNames → (s : State) (text : List ℕ) → SpellsImageIn dialect s text
+    → IsWhole s
+image_whole dialect ends s text sp =
+    made_whole dialect s _ _ (rows_of sp.found) sp.made (linked_all dialect (flat_map parts_in sp.found) [] no_links sp.order)
     (stand_paths sp.found SessionCount sp.end text [] sp.stand tt) ends
     (node_comes sp.found SessionCount sp.end text [] sp.stand tt sp.ends refl)

@@ -9,6 +9,9 @@ use Rattle.std.specs.FinMap.{find, is_sorted}
 use Rattle.std.specs.FinMap.Entries.{below_all}
 use Rattle.std.specs.FinSet as set
 use Rattle.std.specs.List.{flat_map, list_any, AllByRecursion}
+use Rattle.settings.specs.declared.dialect.Dialect.{Dialect}
+use Rattle.settings.specs.declared.dialect.Dialect.TheVariants.{Zk34, Zk38}
+use Rattle.jute.specs.declared.stat.StatPersisted.{StatPersisted}
 use Rattle.std.specs.Option.{unwrap_or}
 use Rattle.std.specs.Ordering.{is_eq, is_lt, eq_by_cmp, int_cmp, int_eq, ordering_reverse}
 use Rattle.std.specs.Str.{bytes_eq}
@@ -28,7 +31,8 @@ use Rattle.node_map.specs.Agreement.{has_node, is_listed_at, is_listed}
 use Rattle.node_map.specs.declared.node.Node.{Node}
 use Rattle.data_tree.specs.State.{State}
 use Rattle.data_tree.specs.Whole.{IsWhole}
-use Rattle.snapshot_codec.specs.Image.{SessionEntries, Rows, parts_in, sessions_in, lists_in, rows_in, list_named, HasPlace, IsAllowedAfter, AreAllowedAfter, is_child, AreAt, IsMadeOf, IsMadeOfParts, image_format}
+use Rattle.snapshot_codec.specs.Dialects.{loaded_stat, mark_in, stored_stat, KeepsOwner, or_missing}
+use Rattle.snapshot_codec.specs.Image.{SessionEntries, Rows, parts_in, sessions_in, lists_in, rows_in, list_named, HasPlace, IsInTime, IsAllowedAfter, AreAllowedAfter, is_child, AreAt, IsMadeOf, IsMadeOfParts, image_format, image_in}
 use Rattle.snapshot_codec.specs.Made.{image_load}
 use Rattle.snapshot_codec.specs.Parts.{Value, Part, node_body, is_end}
 use Rattle.snapshot_codec.specs.Written.{walk_cmp, walk_of, is_same_acl, is_same_list, Lists, key_in, with_list, lists_from, lists_of, key_of, session_part, list_part, image_node_of, node_values, counted_values, values_of}
@@ -294,13 +298,14 @@ named lists list h k = by (is_same_list list open_acl) refl k
 
 -- ---- each part fits those before it
 
-each_append : (xs ys front : List ImagePart) → AreAllowedAfter front xs → AreAllowedAfter (front ++ xs) ys
-    → AreAllowedAfter front (xs ++ ys)
-each_append [] ys front h k = subst (λ (f : List ImagePart). AreAllowedAfter f ys) (append-nil front) k
-each_append (x ∷ xs) ys front h k = (
+each_append : (dialect : Dialect) (xs ys front : List ImagePart) → AreAllowedAfter dialect front xs
+    → AreAllowedAfter dialect (front ++ xs) ys
+    → AreAllowedAfter dialect front (xs ++ ys)
+each_append dialect [] ys front h k = subst (λ (f : List ImagePart). AreAllowedAfter dialect f ys) (append-nil front) k
+each_append dialect (x ∷ xs) ys front h k = (
   h.0,
-  each_append xs ys (front ++ x ∷ []) h.1
-      (subst (λ (f : List ImagePart). AreAllowedAfter f ys) (sym (append_assoc front (x ∷ []) xs)) k),
+  each_append dialect xs ys (front ++ x ∷ []) h.1
+      (subst (λ (f : List ImagePart). AreAllowedAfter dialect f ys) (sym (append_assoc front (x ∷ []) xs)) k),
 )
 
 map_last : {A B : Type 0} (f : A → B) (front : List B) (ahead : List A) (x : A)
@@ -311,15 +316,15 @@ map_last f front (a ∷ ahead) x =
     ∙ map_last f (front ++ f a ∷ []) ahead x
     ∙ ap (λ (r : List _). r ++ f x ∷ []) (append_assoc front (f a ∷ []) (map f ahead))
 
-each_by : {A : Type 0} (f : A → ImagePart) (front : List ImagePart) (ys xs : List A)
+each_by : {A : Type 0} (dialect : Dialect) (f : A → ImagePart) (front : List ImagePart) (ys xs : List A)
     → ((ahead : List A) (x : A) (bs : List A) → ys ++ xs ≡ ahead ++ x ∷ bs
-    → IsAllowedAfter (front ++ map f ahead) (f x))
-    → AreAllowedAfter (front ++ map f ys) (map f xs)
-each_by f front ys [] h = tt
-each_by f front ys (x ∷ xs) h = (
+    → IsAllowedAfter dialect (front ++ map f ahead) (f x))
+    → AreAllowedAfter dialect (front ++ map f ys) (map f xs)
+each_by dialect f front ys [] h = tt
+each_by dialect f front ys (x ∷ xs) h = (
   h ys x xs refl,
-  subst (λ (r : List ImagePart). AreAllowedAfter r (map f xs)) (map_last f front ys x)
-      (each_by f front (ys ++ x ∷ []) xs (λ ahead y bs e. h ahead y bs (sym (append_assoc ys (x ∷ []) xs) ∙ e))),
+  subst (λ (r : List ImagePart). AreAllowedAfter dialect r (map f xs)) (map_last f front ys x)
+      (each_by dialect f front (ys ++ x ∷ []) xs (λ ahead y bs e. h ahead y bs (sym (append_assoc ys (x ∷ []) xs) ∙ e))),
 )
 
 -- ---- a whole state
@@ -327,7 +332,7 @@ each_by f front ys (x ∷ xs) h = (
 -- A node that is found, and its part.
 Alike : Lists → Option Node → Option ImageNode → Type 0
 Alike lists None None = Unit {0}
-Alike lists (Some n) (Some r) = (r.bytes ≡ n.bytes) × (r.stat ≡ n.stat) × (r.acl ≡ key_of lists n.acl)
+Alike lists (Some n) (Some r) = (r.bytes ≡ n.bytes) × (r.stat ≡ stored_stat n) × (r.acl ≡ key_of lists n.acl)
 Alike lists None (Some r) = ⊥
 Alike lists (Some n) None = ⊥
 
@@ -361,18 +366,28 @@ keyed_at lists (x ∷ es) q n h e = by (keyed_at lists es q n h.1) (eq_by_cmp pa
     by later true k = subst (λ (m : Node). has_key lists m.acl ≡ true) (ap (λ (o : Option Node). unwrap_or o x.1) k) h.0
     by later false k = later k
 
-abbrev AreUnmarked : List (Bytes × Node) → Type 0
-AreUnmarked es = AllByRecursion (λ (e : Bytes × Node). e.1.mark ≡ pos 0) es
+abbrev KeepOwners : Dialect → List (Bytes × Node) → Type 0
+KeepOwners dialect es = AllByRecursion (λ (e : Bytes × Node). KeepsOwner dialect e.1) es
 
-unmarked_at : (es : List (Bytes × Node)) (q : Bytes) (n : Node) → AreUnmarked es → find path_cmp q es ≡ Some n
-    → n.mark ≡ pos 0
-unmarked_at [] q n h e = absurd (true≢false (sym (ap is_some e)))
-unmarked_at (x ∷ es) q n h e = by (unmarked_at es q n h.1) (eq_by_cmp path_cmp q x.0) e
+owner_at : (dialect : Dialect) (es : List (Bytes × Node)) (q : Bytes) (n : Node) → KeepOwners dialect es
+    → find path_cmp q es ≡ Some n → KeepsOwner dialect n
+owner_at dialect [] q n h e = absurd (true≢false (sym (ap is_some e)))
+owner_at dialect (x ∷ es) q n h e = by (owner_at dialect es q n h.1) (eq_by_cmp path_cmp q x.0) e
   where
-    by : (find path_cmp q es ≡ Some n → n.mark ≡ pos 0) → (b : Bool)
-        → cond b (Some x.1) (find path_cmp q es) ≡ Some n → n.mark ≡ pos 0
-    by later true k = subst (λ (m : Node). m.mark ≡ pos 0) (ap (λ (o : Option Node). unwrap_or o x.1) k) h.0
+    by : (find path_cmp q es ≡ Some n → KeepsOwner dialect n) → (b : Bool)
+        → cond b (Some x.1) (find path_cmp q es) ≡ Some n → KeepsOwner dialect n
+    by later true k = subst (KeepsOwner dialect) (ap (λ (o : Option Node). unwrap_or o x.1) k) h.0
     by later false k = later k
+
+-- A list that is there isn't missing.
+is_there : (dialect : Dialect) (o : Option (List Acl)) (list : List Acl) → o ≡ Some list
+    → or_missing dialect o ≡ Some list
+is_there Zk34 o list e = e
+is_there Zk38 o list e = ap (or_missing Zk38) e
+
+none_late : (dialect : Dialect) → IsInTime dialect []
+none_late Zk34 = tt
+none_late Zk38 = tt
 
 keyed_in : (lists : Lists) (ahead : List (Bytes × Node)) (x : Bytes × Node) (bs : List (Bytes × Node))
     → AllKeyed lists (ahead ++ x ∷ bs) → has_key lists x.1.acl ≡ true
@@ -425,7 +440,7 @@ child_at lists path name (e ∷ es) some =
     by later false is k =
         let f = later k in (f.0, later_on f.0 f.1 (eq_by_cmp path_cmp f.0 e.0), f.2, f.3, f.4)
 
-module _ (s : State) (w : IsWhole s) where
+module _ (dialect : Dialect) (s : State) (w : IsWhole s) where
   abbrev nodes : Nodes
   nodes = s.nodes
 
@@ -484,9 +499,9 @@ module _ (s : State) (w : IsWhole s) where
       let f = child_at table path name es e in
       (λ i. is_listed_at nodes (f.3 i) (f.4 i)) ∙ listed_at f.0 (sym (ap is_some (walk_find nodes f.0)) ∙ f.1) f.2
 
-  at : AreUnmarked es → (path : Bytes) → AreAt table rows path (find path_cmp path rows) (finmap.get nodes path)
+  at : KeepOwners dialect es → (path : Bytes) → AreAt dialect table rows path (find path_cmp path rows) (finmap.get nodes path)
   unfolding Alike
-  at unmarked path = by (find path_cmp path rows) (finmap.get nodes path) refl (alike path)
+  at owners path = by (find path_cmp path rows) (finmap.get nodes path) refl (alike path)
     where
       children : (n : Node) → finmap.get nodes path ≡ Some n → (name : Bytes)
           → set.contains n.children name ≡ list_any (is_child path name) rows
@@ -496,22 +511,28 @@ module _ (s : State) (w : IsWhole s) where
           (λ c. sym (ap (is_listed name) e) ∙ child_listed path name c)
 
       by : (r : Option ImageNode) (o : Option Node) → finmap.get nodes path ≡ o → Alike table o r
-          → AreAt table rows path r o
+          → AreAt dialect table rows path r o
       by None None e h = tt
       by (Some r) (Some n) e h = record {
         bytes = sym h.0;
-        stat = sym h.1;
-        mark = unmarked_at es path n unmarked (walk_find nodes path ∙ e);
-        acl = ap (list_named table) h.2
-            ∙ named table n.acl numbered (keyed_at table es path n keyed (walk_find nodes path ∙ e));
+        stat =
+            (λ i. record n.stat {
+              ephemeral_owner = sym (owner_at dialect es path n owners
+                  (walk_find nodes path ∙ e)).session i;
+            })
+            ∙ ap (loaded_stat dialect) (sym h.1);
+        mark =
+            sym (owner_at dialect es path n owners (walk_find nodes path ∙ e)).mark
+            ∙ ap (λ (t : StatPersisted). mark_in dialect t.ephemeral_owner) (sym h.1);
+        acl = is_there dialect _ n.acl (ap (list_named table) h.2
+            ∙ named table n.acl numbered (keyed_at table es path n keyed (walk_find nodes path ∙ e)));
         children = children n e;
       }
       by None (Some n) e h = absurd h
       by (Some r) None e h = absurd h
 
-  made : AreUnmarked es → IsMadeOf s ids table rows
-  made unmarked =
-      record { timeouts = λ id. finmap.get-entries s.sessions id; nodes = at unmarked; owners = w.owners }
+  made : KeepOwners dialect es → IsMadeOf dialect s ids table rows
+  made owners = record { timeouts = λ id. finmap.get-entries s.sessions id; nodes = at owners; owners = w.owners }
 
   -- ---- in order
 
@@ -521,20 +542,24 @@ module _ (s : State) (w : IsWhole s) where
   abbrev list_parts : List ImagePart
   list_parts = map list_part table
 
-  sessions_go : AreAllowedAfter [] session_parts
-  sessions_go = each_by session_part [] [] ids (λ ahead x bs e.
+  sessions_go : AreAllowedAfter dialect [] session_parts
+  sessions_go = each_by dialect session_part [] [] ids (λ ahead x bs e.
       ap (find int_cmp x.0) (each_of sessions_in session_part (λ y. y) (λ y. refl) ahead ∙ itself ahead)
       ∙ before_none int_cmp_total ahead x bs (subst (λ (l : SessionEntries). T (is_sorted int_cmp l)) e
       (finmap.entries_sorted s.sessions)))
 
-  lists_go : AreAllowedAfter session_parts list_parts
-  lists_go = subst (λ (f : List ImagePart). AreAllowedAfter f list_parts) (append-nil session_parts)
-      (each_by list_part session_parts [] table (λ ahead x bs e.
-      ap (find int_cmp x.0) (flat_map-append lists_in session_parts (map list_part ahead)
-      ∙ (λ i. none_of lists_in session_part (λ y. refl) ids i
-      ++ (each_of lists_in list_part (λ y. y) (λ y. refl) ahead ∙ itself ahead) i))
-      ∙ before_none int_cmp_total ahead x bs (subst (λ (l : Lists). T (is_sorted int_cmp l)) e
-      (sorted_numbered 0 table numbered))))
+  lists_go : AreAllowedAfter dialect session_parts list_parts
+  lists_go = subst (λ (f : List ImagePart). AreAllowedAfter dialect f list_parts) (append-nil session_parts)
+      (each_by dialect list_part session_parts [] table (λ ahead x bs e. (
+        ap (find int_cmp x.0) (flat_map-append lists_in session_parts (map list_part ahead)
+            ∙ (λ i. none_of lists_in session_part (λ y. refl) ids i
+            ++ (each_of lists_in list_part (λ y. y) (λ y. refl) ahead ∙ itself ahead) i))
+            ∙ before_none int_cmp_total ahead x bs (subst (λ (l : Lists). T (is_sorted int_cmp l)) e
+            (sorted_numbered 0 table numbered)),
+        subst (IsInTime dialect) (sym (flat_map-append rows_in session_parts (map list_part ahead)
+            ∙ (λ i. none_of rows_in session_part (λ y. refl) ids i ++ none_of rows_in list_part (λ y. refl) ahead i)))
+            (none_late dialect),
+      )))
 
   abbrev front : List ImagePart
   front = session_parts ++ list_parts
@@ -618,17 +643,18 @@ module _ (s : State) (w : IsWhole s) where
     has_place true e = root_first e ahead refl
     has_place false e = (new_path, parent_before e)
 
-    node_goes : IsAllowedAfter (front ++ map (node_part table) ahead) (node_part table x)
+    node_goes : IsAllowedAfter dialect (front ++ map (node_part table) ahead) (node_part table x)
     unfolding node_part
     node_goes = (
       subst (λ (r : Rows). HasPlace (is_root x.0) r x.0) (sym (rows_before ahead)) (has_place (is_root x.0) refl),
-      ap (λ (l : Lists). is_some (list_named l (key_of table x.1.acl))) (lists_before ahead)
-          ∙ ap is_some (named table x.1.acl numbered (keyed_in table ahead x bs (subst (AllKeyed table) is keyed))),
+      ap (λ (l : Lists). is_some (or_missing dialect (list_named l (key_of table x.1.acl)))) (lists_before ahead)
+          ∙ ap is_some (is_there dialect _ x.1.acl
+          (named table x.1.acl numbered (keyed_in table ahead x bs (subst (AllKeyed table) is keyed)))),
     )
 
-  nodes_go : AreAllowedAfter front (map (node_part table) es)
-  nodes_go = subst (λ (f : List ImagePart). AreAllowedAfter f (map (node_part table) es)) (append-nil front)
-      (each_by (node_part table) front [] es (λ ahead x bs e. node_goes ahead x bs e))
+  nodes_go : AreAllowedAfter dialect front (map (node_part table) es)
+  nodes_go = subst (λ (f : List ImagePart). AreAllowedAfter dialect f (map (node_part table) es)) (append-nil front)
+      (each_by dialect (node_part table) front [] es (λ ahead x bs e. node_goes ahead x bs e))
 
   abbrev whole_parts : List ImagePart
   whole_parts = session_parts ++ (list_parts ++ (map (node_part table) es ++ part.End ∷ []))
@@ -644,15 +670,15 @@ module _ (s : State) (w : IsWhole s) where
       ∙ ap (λ (r : List ImagePart). session_parts ++ r) (parts_of_map list_part table (node_values table es)
       ∙ ap (λ (r : List ImagePart). list_parts ++ r) (parts_of_nodes table es))
 
-  order : AreAllowedAfter [] whole_parts
+  order : AreAllowedAfter dialect [] whole_parts
   order =
-      each_append session_parts (list_parts ++ (map (node_part table) es ++ part.End ∷ [])) [] sessions_go
-      (each_append list_parts (map (node_part table) es ++ part.End ∷ []) session_parts lists_go
-      (each_append (map (node_part table) es) (part.End ∷ []) front nodes_go (tt, tt)))
+      each_append dialect session_parts (list_parts ++ (map (node_part table) es ++ part.End ∷ [])) [] sessions_go
+      (each_append dialect list_parts (map (node_part table) es ++ part.End ∷ []) session_parts lists_go
+      (each_append dialect (map (node_part table) es) (part.End ∷ []) front nodes_go (tt, tt)))
 
-  made_of_parts : AreUnmarked es → IsMadeOfParts s whole_parts
-  made_of_parts unmarked =
-      subst (λ (ps : List ImagePart). IsMadeOfParts s ps) (sym turned) (moved
+  made_of_parts : KeepOwners dialect es → IsMadeOfParts dialect s whole_parts
+  made_of_parts owners =
+      subst (λ (ps : List ImagePart). IsMadeOfParts dialect s ps) (sym turned) (moved
       (gone sessions_in refl ∙ sessions_before es)
       (gone lists_in refl ∙ lists_before es)
       (gone rows_in refl ∙ rows_before es))
@@ -665,32 +691,35 @@ module _ (s : State) (w : IsWhole s) where
           ∙ ap (λ (r : List _). flat_map f (front ++ map (node_part table) es) ++ (r ++ [])) e
           ∙ append-nil (flat_map f (front ++ map (node_part table) es))
 
-      moved : {t : SessionEntries} {l : Lists} {r : Rows} → t ≡ ids → l ≡ table → r ≡ rows → IsMadeOf s t l r
+      moved : {t : SessionEntries} {l : Lists} {r : Rows} → t ≡ ids → l ≡ table → r ≡ rows → IsMadeOf dialect s t l r
       moved {t} {l} {r} e f g =
-          subst (λ (x : SessionEntries). IsMadeOf s x l r) (sym e) (subst (λ (x : Lists). IsMadeOf s ids x r) (sym f)
-          (subst (λ (x : Rows). IsMadeOf s ids table x) (sym g) (made unmarked)))
+          subst (λ (x : SessionEntries). IsMadeOf dialect s x l r) (sym e) (subst (λ (x : Lists). IsMadeOf dialect s ids x r) (sym f)
+          (subst (λ (x : Rows). IsMadeOf dialect s ids table x) (sym g) (made owners)))
 
   ends_once : EndsOnce image_load (values_of s)
   ends_once =
       part_ends session_part (λ x. refl) ids (counted_values list_part table ++ node_values table es)
       (part_ends list_part (λ x. refl) table (node_values table es) (node_ends table es))
 
-unmarked : (lists : Lists) (es : List (Bytes × Node))
+owners_kept : (dialect : Dialect) (lists : Lists) (es : List (Bytes × Node))
     → AllByRecursion (λ (e : Bytes × Node).
-    node_body.Fits (e.1.bytes, (key_of lists e.1.acl, e.1.stat)) × (e.1.mark ≡ pos 0)) es
-    → AreUnmarked es
-unmarked lists [] h = tt
-unmarked lists (e ∷ es) h = (h.0.1, unmarked lists es h.1)
+    node_body.Fits (e.1.bytes, (key_of lists e.1.acl, stored_stat e.1)) × KeepsOwner dialect e.1) es
+    → KeepOwners dialect es
+owners_kept dialect lists [] h = tt
+owners_kept dialect lists (e ∷ es) h = (h.0.1, owners_kept dialect lists es h.1)
 
-pub image_written : WritesSpellings image_format
-image_written s fits =
-    let st = stand_written (values_of s) SessionCount (values_fit s fits.0 fits.1) in
+pub written_in : (dialect : Dialect) → WritesSpellings (image_in dialect)
+written_in dialect s fits =
+    let st = stand_written (values_of s) SessionCount (values_fit dialect s fits.0 fits.1) in
     record {
       found = values_of s;
       end = st.0;
       stand = st.1;
-      ends = ends_once s fits.0;
-      order = subst (AreAllowedAfter []) (sym (parts_are s fits.0)) (order s fits.0);
-      made = subst (IsMadeOfParts s) (sym (parts_are s fits.0)) (made_of_parts s fits.0
-          (unmarked (lists_of s.nodes) (walk_of s.nodes) fits.1.nodes));
+      ends = ends_once dialect s fits.0;
+      order = subst (AreAllowedAfter dialect []) (sym (parts_are dialect s fits.0)) (order dialect s fits.0);
+      made = subst (IsMadeOfParts dialect s) (sym (parts_are dialect s fits.0)) (made_of_parts dialect s fits.0
+          (owners_kept dialect (lists_of s.nodes) (walk_of s.nodes) fits.1.nodes));
     }
+
+pub image_written : WritesSpellings image_format
+image_written = written_in Zk34

@@ -1,5 +1,6 @@
 pub mod Parts
 pub mod AclLists
+pub mod Dialects
 pub mod Made
 pub mod Written
 pub mod Totals

@@ -1,10 +1,11 @@
 -- The contracts of reading and loading.
 use Rattle.std.specs.Prelude.{◌≡◌, ◌<◌, ◌≤◌, ℕ, List, Option, Some, None, Result, Ok, Err, drop, length}
+use Rattle.settings.specs.declared.dialect.Dialect.{Dialect}
 use Rattle.values.specs.declared.fault.ReadError.{ReadError}
 use Rattle.jute.specs.Loading.{load_from, unless_last}
 use Rattle.jute.specs.Reads.{IsFailureOf}
 use Rattle.data_tree.specs.State.{State}
-use Rattle.snapshot_codec.specs.Image.{image_read}
+use Rattle.snapshot_codec.specs.Image.{image_read_in}
 use Rattle.snapshot_codec.specs.Made.{LoadedParts, Loading, with_loaded, image_load}
 use Rattle.snapshot_codec.specs.Parts.{Value, Path, Close, part_format, part_after, part_in}
 use Rattle.snapshot_codec.specs.declared.part.ImagePart.{ImagePart}
@@ -23,9 +24,9 @@ TakesPart (Ok u) part old new = with_loaded old part ≡ Ok new
 TakesPart (Err e) part old new = IsFailureOf e (with_loaded old part) × (new ≡ old)
 
 -- A state, and the number of bytes that its image takes.
-abbrev pub ReadsImage : Result (State × ℕ) ReadError → List ℕ → Type 0
-ReadsImage (Ok x) bytes = (image_read bytes ≡ Ok (x.0, drop x.1 bytes)) × (x.1 ≤ length bytes)
-ReadsImage (Err e) bytes = IsFailureOf e (image_read bytes)
+abbrev pub ReadsImage : Dialect → Result (State × ℕ) ReadError → List ℕ → Type 0
+ReadsImage dialect (Ok x) bytes = (image_read_in dialect bytes ≡ Ok (x.0, drop x.1 bytes)) × (x.1 ≤ length bytes)
+ReadsImage dialect (Err e) bytes = IsFailureOf e (image_read_in dialect bytes)
 
 -- The value for the path of a further node, or for the path "/".
 abbrev pub path_or_close : Option (List ℕ) → Value

@@ -1,5 +1,5 @@
 -- The contracts of the functions that write an image.
-use Rattle.std.specs.Prelude.{◌≡◌, ◌≢◌, ℕ, ℤ, pos, List, [], ◌++◌, map, length, Some, Result, Ok, Err, if◌then◌else◌}
+use Rattle.std.specs.Prelude.{◌≡◌, ◌≢◌, ℕ, ℤ, List, [], ◌++◌, map, length, Some, Result, Ok, Err, if◌then◌else◌}
 use Rattle.std.specs.Borrow.{Bor}
 use Rattle.std.specs.BTreeMap as tree
 use Rattle.std.specs.BTreeMap.{btree_map_len}
@@ -7,6 +7,7 @@ use Rattle.std.specs.Cmp.Lexicographic.{slice_cmp}
 use Rattle.std.specs.List.{flat_map, AllByRecursion}
 use Rattle.std.specs.Ordering.{nat_cmp}
 use Rattle.std.specs.declared.vec.Vec.{Vec}
+use Rattle.settings.specs.declared.dialect.Dialect.{Dialect}
 use Rattle.ephemerals.specs.Orders.{Bytes}
 use Rattle.jute.specs.Codes.{open_acl}
 use Rattle.jute.specs.Format.{int, long, count_format, count_limit, text_format, vector_of, pair_of}
@@ -14,6 +15,7 @@ use Rattle.jute.specs.Owned.{acl_format}
 use Rattle.jute.specs.declared.owned.Acl.{Acl}
 use Rattle.paths_and_acls.specs.Paths.{is_root}
 use Rattle.node_map.specs.declared.node.Node.{Node}
+use Rattle.snapshot_codec.specs.Dialects.{stored_stat, KeepsOwner}
 use Rattle.snapshot_codec.specs.Parts.{node_body}
 use Rattle.snapshot_codec.specs.Written.{Lists, key_in, with_list, key_of}
 use Rattle.snapshot_codec.specs.declared.depth_first.WalkPath.{WalkPath}
@@ -92,17 +94,18 @@ NamesKey (Err NoMemory) lists list = Unit {0}
 abbrev pub shown_rows : List (WalkPath × Bor Node) → List (Bytes × Node)
 shown_rows rows = map (λ e. (e.0.text.now, e.1.now)) rows
 
-abbrev pub FitsNode : Bytes → Node → ℤ → Type 0
-FitsNode path node key =
-    text_format.Fits (Some path) × (node_body.Fits (node.bytes, (key, node.stat)) × (node.mark ≡ pos 0))
+abbrev pub FitsNode : Dialect → Bytes → Node → ℤ → Type 0
+FitsNode dialect path node key =
+    text_format.Fits (Some path) × (node_body.Fits (node.bytes, (key, stored_stat node)) × KeepsOwner dialect node)
 
 -- The root's path is written as the empty path.
 abbrev pub node_bytes : Bytes → Node → ℤ → List ℕ
 node_bytes path node key =
-    text_format.written (Some (if is_root path then [] else path)) ++ node_body.written (node.bytes, (key, node.stat))
+    text_format.written (Some (if is_root path then [] else path))
+    ++ node_body.written (node.bytes, (key, stored_stat node))
 
-abbrev pub FitNodes : Lists → List (Bytes × Node) → Type 0
-FitNodes lists es = AllByRecursion (λ (e : Bytes × Node). FitsNode e.0 e.1 (key_of lists e.1.acl)) es
+abbrev pub FitNodes : Dialect → Lists → List (Bytes × Node) → Type 0
+FitNodes dialect lists es = AllByRecursion (λ (e : Bytes × Node). FitsNode dialect e.0 e.1 (key_of lists e.1.acl)) es
 
 abbrev pub nodes_bytes : Lists → List (Bytes × Node) → List ℕ
 nodes_bytes lists es = flat_map (λ (e : Bytes × Node). node_bytes e.0 e.1 (key_of lists e.1.acl)) es

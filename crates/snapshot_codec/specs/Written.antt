@@ -1,6 +1,6 @@
 -- The image that is written for a state: its sessions in ascending order of their ids; the ACL lists of its nodes
 -- except the open one, each under a key; the nodes in the order of a walk; and the end.
-use Rattle.std.specs.Prelude.{◌≡◌, ℕ, suc, ℤ, pos, negsuc, Bool, ◌&&◌, ◌||◌, ◌==◌, List, [], ◌∷◌, ◌++◌, map, length, Option, Some, None, is_some, if◌then◌else◌}
+use Rattle.std.specs.Prelude.{ℕ, suc, ℤ, pos, negsuc, Bool, ◌&&◌, ◌||◌, ◌==◌, List, [], ◌∷◌, ◌++◌, map, length, Option, Some, None, is_some, if◌then◌else◌}
 use Rattle.std.specs.Cmp.Lexicographic.{pointwise, slice_cmp}
 use Rattle.std.specs.FinMap as finmap
 use Rattle.std.specs.List.{AllByRecursion}
@@ -8,6 +8,8 @@ use Rattle.std.specs.Option.{unwrap_or}
 use Rattle.std.specs.Ordering.{int_eq, nat_cmp, on}
 use Rattle.std.specs.Str.{bytes_eq}
 use Rattle.std.specs.declared.cmp.Ordering.{Ordering}
+use Rattle.settings.specs.declared.dialect.Dialect.{Dialect}
+use Rattle.settings.specs.declared.dialect.Dialect.TheVariants.{Zk34}
 use Rattle.ephemerals.specs.Orders.{Bytes}
 use Rattle.jute.specs.Codes.{open_acl}
 use Rattle.jute.specs.Format.{int, long, count_format, count_limit, text_format, vector_of, pair_of}
@@ -16,6 +18,7 @@ use Rattle.jute.specs.declared.owned.Acl.{Acl}
 use Rattle.node_map.specs.declared.node.Node.{Node}
 use Rattle.data_tree.specs.State.{State, Nodes}
 use Rattle.data_tree.specs.Whole.{IsWhole}
+use Rattle.snapshot_codec.specs.Dialects.{stored_stat, KeepsOwner}
 use Rattle.snapshot_codec.specs.Parts.{Value, Count, Path, Close, Part, node_body, part_format, part_after}
 use Rattle.snapshot_codec.specs.declared.part.ImageNode.{ImageNode}
 use Rattle.snapshot_codec.specs.declared.part.ImagePart.{ImagePart}
@@ -81,7 +84,8 @@ abbrev pub list_part : ℤ × List Acl → ImagePart
 list_part l = part.Acl (record { key = l.0; list = Some l.1 })
 
 abbrev pub image_node_of : Lists → Bytes × Node → ImageNode
-image_node_of lists e = record { path = e.0; bytes = e.1.bytes; acl = key_of lists e.1.acl; stat = e.1.stat }
+image_node_of lists e =
+    record { path = e.0; bytes = e.1.bytes; acl = key_of lists e.1.acl; stat = stored_stat e.1 }
 
 abbrev pub node_values : Lists → List (Bytes × Node) → List Value
 node_values lists [] = Close ∷ Part part.End ∷ []
@@ -107,16 +111,20 @@ image_bytes s = bytes_from SessionCount (values_of s)
 
 -- ---- the limits
 
--- No count, session, list, path or node exceeds a limit of its format. The leader deletes none of the nodes by itself.
-pub record IsWithinLimits (ids : List (ℤ × ℤ)) (keyed : Lists) (walked : List (Bytes × Node)) : Type 0 where
+-- No count, session, list, path or node exceeds a limit of its format. The owner of each node is one of the dialect.
+pub record IsWithinLimits (dialect : Dialect) (ids : List (ℤ × ℤ)) (keyed : Lists) (walked : List (Bytes × Node)) : Type 0 where
   pub session_count : (count_format count_limit).Fits (Some (length ids))
   pub sessions : AllByRecursion (pair_of long int).Fits ids
   pub list_count : (count_format count_limit).Fits (Some (length keyed))
   pub lists : AllByRecursion (λ (l : ℤ × List Acl). (pair_of long (vector_of acl_format)).Fits (l.0, Some l.1)) keyed
   pub paths : AllByRecursion (λ (e : Bytes × Node). text_format.Fits (Some e.0)) walked
   pub nodes : AllByRecursion (λ (e : Bytes × Node).
-      node_body.Fits (e.1.bytes, (key_of keyed e.1.acl, e.1.stat)) × (e.1.mark ≡ pos 0)) walked
+      node_body.Fits (e.1.bytes, (key_of keyed e.1.acl, stored_stat e.1)) × KeepsOwner dialect e.1) walked
 
 -- The tree is whole, and exceeds no limit.
+abbrev pub FitsImageIn : Dialect → State → Type 0
+FitsImageIn dialect s = IsWhole s × IsWithinLimits dialect (finmap.entries s.sessions) (lists_of s.nodes) (walk_of s.nodes)
+
+-- The same for an image of ZooKeeper 3.4.
 abbrev pub FitsImage : State → Type 0
-FitsImage s = IsWhole s × IsWithinLimits (finmap.entries s.sessions) (lists_of s.nodes) (walk_of s.nodes)
+FitsImage = FitsImageIn Zk34

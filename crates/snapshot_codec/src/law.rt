@@ -8,12 +8,14 @@ ghost use Rattle.jute.specs.Loading.{AreSound, NeverWaits};
 ghost use Rattle.jute.specs.Stream.{ComesInPieces, IsStreamable};
 ghost use Rattle.values.specs.declared.fault.Fault.{Fault as TheFault};
 ghost use Rattle.values.specs.declared.fault.Fault.TheVariants.{Short};
-ghost use Rattle.snapshot_codec.specs.Image.{SpellsImage, image_format, image_read};
+ghost use Rattle.snapshot_codec.specs.Image.{SpellsImage, SpellsImageIn, image_format, image_in, image_read, image_read_in};
 ghost use Rattle.snapshot_codec.specs.Made.{image_load};
 ghost use Rattle.snapshot_codec.specs.Parts.{part_stream};
 ghost use Rattle.snapshot_codec.specs.Rows.{WorkedImages};
 ghost use Rattle.snapshot_codec.specs.Walks.{IsWalk};
 ghost use Rattle.snapshot_codec.specs.Written.{walk_of};
+
+use settings::Dialect;
 
 /// A value of a phase is read exactly if the bytes spell one, however they are cut, and a refusal names the first field
 /// that no bytes at its place spell. No part is refused for want of bytes.
@@ -40,6 +42,19 @@ pub fn images()
     ensures back { (s : State) (rest : List ℕ) → image_format.Fits s
         → image_read (image_format.written s ++ rest) ≡ Ok (s, rest) }
     ensures whole { (s : State) (text : List ℕ) → SpellsImage s text → IsWhole s }
+{
+    data_tree::law::names();
+}
+
+/// The images of this dialect are sound, as those of ZooKeeper 3.4 are.
+pub fn images_in(dialect: Dialect)
+    ensures taken { TakesSpellings (image_in dialect) }
+    ensures again { (s : State) (text rest : List ℕ) → SpellsImageIn dialect s text
+        → image_read_in dialect (text ++ rest) ≡ Ok (s, rest) }
+    ensures streamed { IsStreamable (image_in dialect) }
+    ensures named { NamesFaults (image_in dialect) }
+    ensures writes { WritesSpellings (image_in dialect) }
+    ensures whole { (s : State) (text : List ℕ) → SpellsImageIn dialect s text → IsWhole s }
 {
     data_tree::law::names();
 }

@@ -1,22 +1,24 @@
 //! A tree that is built from the parts of an image.
 
 ghost use Rattle.std.specs.Prelude.{◌≡◌, false};
-ghost use Rattle.snapshot_codec.specs.Made.{no_loaded_parts, node_with};
+ghost use Rattle.snapshot_codec.specs.Made.{no_loaded_parts, no_parts_in};
 ghost use Rattle.snapshot_codec.specs.Reads.{TakesPart};
 
 use crate::acl_table::AclTable;
+use crate::owner::{comes_late, loaded_stat, mark_in, or_missing};
 use crate::part::{ImageAcl, ImageNode, ImagePart, ImageSession};
 use data_tree::{Node, Tree};
 use ephemerals::TextSet;
-use jute::StatPersisted;
+use settings::Dialect;
 use std::alloc::Global;
 use std::marker::Model;
 use paths_and_acls::AclList;
-use values::{Blob, Fault, ReadError};
+use values::{Fault, ReadError};
 
 /// A tree that is built from the parts of an image, one by one and in their order.
 #[derive(Drop)]
 pub struct Loader {
+    dialect: Dialect,
     tree: Tree,
     lists: AclTable,
     ended: bool,
@@ -29,17 +31,30 @@ impl Model for Loader {
 
     ghost Value = { Loading };
 
-    ghost coded = { loading_code node.the_row.coded acl.the_row.coded };
+    ghost use Rattle.settings.specs.contracts.dialect.Dialect as of_dialect;
 
-    ghost view = { λ l. record { made = record { state = l.tree; lists = l.lists }; ended = l.ended } };
+    ghost coded = { loading_code of_dialect.the_row.coded node.the_row.coded acl.the_row.coded };
+
+    ghost view = { λ l. record {
+      made = record { dialect = l.dialect; state = l.tree; lists = l.lists };
+      ended = l.ended;
+    } };
 }
 
 impl Loader {
-    /// The start of an image. Allocates nothing.
+    /// The start of an image of ZooKeeper 3.4. Allocates nothing.
     pub fn new(alloc: Global) -> Loader
         ensures { result ≡ record { made = no_loaded_parts; ended = false } }
     {
+        Loader::in_dialect(Dialect::Zk34, alloc)
+    }
+
+    /// The start of an image of a leader of this dialect. Allocates nothing.
+    pub fn in_dialect(dialect: Dialect, alloc: Global) -> Loader
+        ensures { result ≡ record { made = no_parts_in dialect; ended = false } }
+    {
         Loader {
+            dialect,
             tree: Tree::empty(alloc),
             lists: AclTable::new(alloc),
             ended: false,
@@ -48,6 +63,7 @@ impl Loader {
 
     /// Takes the next part. The fault is `BadImage` if it doesn't fit the parts before it: its session, its ACL key or
     /// its path occurred already; its node refers to a key or a parent that didn't occur; or the first node isn't "/".
+    /// In a later dialect a node may refer to any key, and no list comes after a node.
     /// A refused part leaves the loader as it was. Fails with `NoMemory` if an allocation is refused.
     pub fn part(&mut self, alloc: Global, part: ImagePart) -> Result<(), ReadError>
         ensures { TakesPart result part self.old self.new }
@@ -61,21 +77,22 @@ impl Loader {
                 self.ended = false;
             }
             ImagePart::Acl(entry) => {
-                if self.lists.contains(entry.key) {
+                if comes_late(self.dialect, &self.tree) || self.lists.contains(entry.key) {
                     return Err(ReadError::Fault(Fault::BadImage));
                 }
                 self.lists.insert(entry.key, AclList::new(entry.list))?;
                 self.ended = false;
             }
             ImagePart::Node(node) => {
-                let Some(acl) = self.lists.list(node.acl)? else {
+                let listed = self.lists.list(node.acl)?;
+                let Some(acl) = or_missing(self.dialect, alloc, listed) else {
                     return Err(ReadError::Fault(Fault::BadImage));
                 };
                 let placed = Node {
                     bytes: node.bytes,
                     acl,
-                    stat: node.stat,
-                    mark: 0,
+                    stat: loaded_stat(self.dialect, node.stat),
+                    mark: mark_in(self.dialect, node.stat.ephemeral_owner),
                     children: TextSet::new(alloc),
                 };
                 if !self.tree.put_node(alloc, &node.path, placed)? {

@@ -6,6 +6,8 @@ mod feed_rows;
 #[cfg(test)]
 mod image_rows;
 #[cfg(test)]
+mod later_images;
+#[cfg(test)]
 mod part_rows;
 #[cfg(test)]
 mod pieces;

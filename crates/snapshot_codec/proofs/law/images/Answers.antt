@@ -1,3 +1,4 @@
+use Rattle.settings.specs.declared.dialect.Dialect.TheVariants.{Zk34}
 use Rattle.snapshot_codec.specs.Image.{image_format}
 use Rattle.snapshot_codec.proofs.Images.{image_taken, image_again, image_streamed, image_named, begins_none}
 use Rattle.snapshot_codec.proofs.Whole.{image_whole}
@@ -10,8 +11,8 @@ returns c = record {
   again = image_again;
   streamed = image_streamed;
   named = image_named;
-  refused = begins_none;
+  refused = begins_none Zk34;
   writes = image_written;
   back = λ s rest fits. image_again s (image_format.written s) rest (image_written s fits);
-  whole = image_whole c.names.ensures.paths;
+  whole = image_whole Zk34 c.names.ensures.paths;
 }

@@ -1,7 +1,8 @@
-use Rattle.std.proofs.Common.{rules, ◌≡◌, ◌++◌, Some, to_z, of_z, w64, ap, ◌∙◌, List, ℕ, ℤ}
+use Rattle.std.proofs.Common.{rules, ◌≡◌, ◌++◌, Some, to_z, of_z, w64, ap, subst, ◌∙◌, List, ℕ, ℤ}
 use Rattle.jute.specs.Format.{buffer, long}
 use Rattle.jute.specs.Records.{stat_persisted}
 use Rattle.jute.specs.declared.stat.StatPersisted.{StatPersisted}
+use Rattle.snapshot_codec.specs.Dialects.{stored_stat}
 use Rattle.snapshot_codec.proofs.Nodes.{stat_writable, four}
 use Rattle.snapshot_codec.proofs.writer.put_node.Goals as goal
 
@@ -10,7 +11,7 @@ write-requires c = stat_writable c.numbers.result
 
 pub returns : goal.returns
 returns c =
-    let stat = c.args.node.now.stat in
+    let stat = stored_stat c.args.node.now in
     let key = c.args.key.now in
     let same : to_z w64 (of_z w64 key) ≡ key = search rules in (
       four c.args.out.now.items _ (buffer.written c.args.node.now.bytes) (long.written key)
@@ -21,7 +22,7 @@ returns c =
           c.in_ok-put_blob.ensures
           (c.in_ok-put_long.ensures ∙ ap (λ (k : ℤ). c.put_blob.new.out.items ++ long.written k) same)
           (c.in_ok-write.ensures ∙ ap (λ (s : StatPersisted). c.put_long.new.out.items ++ stat_persisted.written s)
-          c.numbers.ensures.same),
+          (c.numbers.ensures.same ∙ c.stored_stat-stat.ensures)),
       (
         c.fits_text.ensures.0 (search rules),
         (
@@ -29,10 +30,10 @@ returns c =
             c.fits_bytes.ensures.0 (search rules),
             (
               search rules,
-              c.numbers.ensures.fit,
+              subst stat_persisted.Fits c.stored_stat-stat.ensures c.numbers.ensures.fit,
             ),
           ),
-          search rules,
+          c.keeps_owner.ensures.0 (search rules),
         ),
       ),
     )

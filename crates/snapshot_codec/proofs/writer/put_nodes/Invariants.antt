@@ -11,6 +11,6 @@ invariant-loop-path l =
     let lists = lists_from [] walked in
     (goal.iterator-loop-path).can_next l.path-iterator
     × (goal.iterator-loop-path).is_finite l.path-iterator
-    × Left (λ e. node_bytes e.0 e.1 (key_of lists e.1.acl)) (λ e. FitsNode e.0 e.1 (key_of lists e.1.acl))
+    × Left (λ e. node_bytes e.0 e.1 (key_of lists e.1.acl)) (λ e. FitsNode l.dialect e.0 e.1 (key_of lists e.1.acl))
     l.fn.out.items walked l.out.items (shown_rows l.path-iterator)
     × AllKeyed lists (shown_rows l.path-iterator)
