@@ -14,6 +14,8 @@ reads_of dialect = record {
   lists_paths = is_later dialect;
   lenient_parts = is_later dialect;
   extended_types = is_later dialect;
+  moved_sessions = is_later dialect;
+  later_requests = is_later dialect;
 }
 
 abbrev pub default_dialect : Dialect

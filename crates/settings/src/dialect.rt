@@ -12,7 +12,7 @@ pub enum Dialect {
     Zk38,
 }
 
-/// What is read of a leader that ZooKeeper 3.4 doesn't write.
+/// What is read of a leader and of its clients that those of ZooKeeper 3.4 don't write.
 #[derive(Clone, Copy, Debug)]
 pub struct Reads {
     /// A digest of the leader's tree may follow a transaction.
@@ -23,6 +23,10 @@ pub struct Reads {
     pub lenient_parts: bool,
     /// There are creates that ask for the Stat, containers, nodes with a time to live, and reconfigs.
     pub extended_types: bool,
+    /// A client may bring its session from another server, and the leader is asked for it.
+    pub moved_sessions: bool,
+    /// There are requests for creates that are answered with the Stat, for containers and for nodes with a time to live.
+    pub later_requests: bool,
 }
 
 impl Dialect {
@@ -36,6 +40,8 @@ impl Dialect {
             lists_paths: is_later,
             lenient_parts: is_later,
             extended_types: is_later,
+            moved_sessions: is_later,
+            later_requests: is_later,
         }
     }
 }
