@@ -1,2 +1,3 @@
 pub mod Acls
+pub mod Fields
 pub mod Paths

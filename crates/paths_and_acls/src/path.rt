@@ -2,8 +2,10 @@
 
 ghost use Rattle.std.specs.Prelude.{◌≡◌, List, ℕ, string_bytes, IsTrue, IfOk, Some, None, if◌then◌else◌};
 ghost use Rattle.jute.specs.Reads.{ReadsOwnedWhole};
+ghost use Rattle.paths_and_acls.specs.Fields.{child_path};
 ghost use Rattle.paths_and_acls.specs.Paths.{are_names, is_path, is_child_path, checked_path, checked_child_path, parent_of, name_of, child_of};
 
+use jute::{WriteRecord, put_string};
 use std::alloc::Global;
 use std::marker::Model;
 use values::{Fault, NoMemory, ReadError};
@@ -149,5 +151,19 @@ impl Path {
         ensures { result.now ≡ name_of self.now }
     {
         name_of(self.as_str())
+    }
+}
+
+// As the path of a node that has a parent.
+impl WriteRecord for Path {
+    ghost format = { child_path };
+
+    #[tactic(auto, unfolding(jute::specs::Format::number_bytes))]
+    fn written_len(&self) -> usize {
+        4 + self.as_str().len()
+    }
+
+    fn write(&self, out: &mut Vec<u8>) -> Result<(), NoMemory> {
+        put_string(out, self.as_str())
     }
 }

@@ -20,7 +20,7 @@ use Rattle.txn_codec.specs.declared.txn.Body.TheVariants as bodies
 use Rattle.txn_codec.specs.Kinds.{create_kind, operation_kind, body_kind}
 use Rattle.paths_and_acls.specs.Paths.{is_child_path}
 use Rattle.txn_codec.specs.Endings.{with_trailer_if, closing_if}
-use Rattle.txn_codec.specs.Fields.{child_path}
+use Rattle.paths_and_acls.specs.Fields.{child_path}
 use Rattle.txn_codec.specs.Spelling.{last_field, kind_format_in, part_kind_in, owner_if, owner_format, shows_stat, create_with, set_data, set_acl, check_format, header_in, as_create, as_delete, as_set_data, as_check, as_error, created_operation, operation_format, is_lenient, part_content, part_format_in, parts_format_in, as_single, as_set_acl, as_multi, as_session, as_close, has_own_end, body_fields, body_content, body_in, txn_in}
 use Rattle.txn_codec.proofs.Closing.{closing_if_sound}
 use Rattle.txn_codec.proofs.Endings.{trailer_if_sound, in_buffer_sound, before_trailer, buffered}

@@ -9,7 +9,7 @@ use Rattle.jute.specs.Format.{◌>>=◌, SpellsEach, text_format, vector_of, cou
 use Rattle.jute.specs.Laws.{IsBytes, TakesSpelling, IsSound, IsSoundAtEnd}
 use Rattle.jute.proofs.Public.{ok_is, not_refused, text_sound, vector_sound}
 use Rattle.paths_and_acls.specs.Paths.{is_child_path}
-use Rattle.txn_codec.specs.Fields.{child_path}
+use Rattle.paths_and_acls.specs.Fields.{child_path}
 use Rattle.txn_codec.specs.Endings.{digest_length, lists_nothing, starts_as_digest, Texts, listed_texts, listed_path, listed_paths, with_paths, closing_bytes, closing_format, unlisted_format, closing_if}
 use Rattle.txn_codec.proofs.Endings.{trailer_sound, ended, number_long}
 use Rattle.txn_codec.proofs.Spelled.{tested_is, path_sound}

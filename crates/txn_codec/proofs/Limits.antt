@@ -21,7 +21,7 @@ use Rattle.txn_codec.specs.declared.txn.Txn.{Txn}
 use Rattle.txn_codec.specs.Kinds.{operation_kind, body_kind}
 use Rattle.txn_codec.specs.Parents.{HasParent, HaveParents}
 use Rattle.paths_and_acls.specs.Paths.{is_child_path}
-use Rattle.txn_codec.specs.Fields.{child_path}
+use Rattle.paths_and_acls.specs.Fields.{child_path}
 use Rattle.txn_codec.specs.Spelling.{last_field, created_operation, operation_format, is_lenient, part_format_in, parts_format_in, has_own_end, body_fields, body_in, txn_in}
 use Rattle.txn_codec.proofs.Bodies.{txn_at_end}
 use Rattle.txn_codec.proofs.Closing.{closing_children}

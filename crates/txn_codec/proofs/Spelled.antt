@@ -18,7 +18,7 @@ use Rattle.txn_codec.specs.declared.place.Place.TheVariants.{Alone, Part}
 use Rattle.txn_codec.specs.Kinds.{txn_kinds, kind_of, later_kind_of, kind_at, code_of, is_part_kind, part_kind_of}
 use Rattle.txn_codec.specs.Endings.{or_end, with_trailer_if}
 use Rattle.paths_and_acls.specs.Paths.{is_path, is_child_path}
-use Rattle.txn_codec.specs.Fields.{tested_text, path_by, path_format, child_path}
+use Rattle.paths_and_acls.specs.Fields.{tested_text, path_by, path_format, child_path}
 use Rattle.txn_codec.specs.Spelling.{kind_format_in, part_kind_in, owner_if, with_flag, flagged_owner, owner_format, fields_of, create_with, set_data, set_acl, check_format, header_of, header_numbers, header_in}
 use Rattle.txn_codec.proofs.Endings.{number_long, trailer_if_sound, last_at_end}
 

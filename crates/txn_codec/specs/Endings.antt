@@ -6,7 +6,7 @@ use Rattle.values.specs.declared.fault.Fault.TheVariants.{Short, TrailingBytes}
 use Rattle.jute.specs.Format.{Format, ◌>>=◌, SpellsFront, judged_at, buffer, buffer_at, buffer_limit, text_format, vector_of, or_empty, pair_of}
 use Rattle.jute.specs.Sums.{empty_format, held_value, held_in_buffer}
 use Rattle.paths_and_acls.specs.Paths.{is_child_path}
-use Rattle.txn_codec.specs.Fields.{child_path}
+use Rattle.paths_and_acls.specs.Fields.{child_path}
 
 -- ---- the digest of the leader's tree
 

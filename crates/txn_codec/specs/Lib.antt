@@ -1,5 +1,4 @@
 pub mod Kinds
-pub mod Fields
 pub mod Endings
 pub mod Spelling
 pub mod Parents

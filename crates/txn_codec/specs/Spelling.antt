@@ -27,7 +27,7 @@ use Rattle.txn_codec.specs.declared.txn.Body.{Body}
 use Rattle.txn_codec.specs.declared.txn.Body.TheVariants as bodies
 use Rattle.txn_codec.specs.declared.txn.Txn.{Txn}
 use Rattle.txn_codec.specs.Kinds.{kind_at, code_of, part_kind_of, operation_kind, body_kind}
-use Rattle.txn_codec.specs.Fields.{path_format, child_path}
+use Rattle.paths_and_acls.specs.Fields.{path_format, child_path}
 use Rattle.txn_codec.specs.Endings.{or_end, with_trailer_if, closing_if, in_buffer}
 
 -- ---- fields

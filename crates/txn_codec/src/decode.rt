@@ -4,7 +4,7 @@ ghost use Rattle.std.specs.Prelude.{◌≡◌, IfOk, IfErr, Ok, Some};
 ghost use Rattle.jute.specs.Reads.{ReadsOwned, ReadsOwnedWhole};
 ghost use Rattle.jute.specs.Format.{int, read_n};
 ghost use Rattle.txn_codec.specs.Endings.{value_in_buffer};
-ghost use Rattle.txn_codec.specs.Fields.{path_format, child_path};
+ghost use Rattle.paths_and_acls.specs.Fields.{path_format, child_path};
 ghost use Rattle.txn_codec.specs.Spelling.{last_field, kind_format_in, part_kind_in, flagged_owner, timed_owner, owner_format, create_with, created_operation, create_format, set_data as set_data_format, set_acl as set_acl_format, check_format, header_in, operation_format, is_lenient, multi_part, part_content, part_format_in, parts_format_in, body_fields, body_content, body_in, txn_in, txn_format, value_of_whole};
 ghost use Rattle.txn_codec.specs.Parents.{HaveParents};
 ghost use Rattle.txn_codec.specs.Refusals.{IfFault, AgainstIn, AgainstTxn};

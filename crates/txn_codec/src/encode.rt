@@ -5,7 +5,7 @@ ghost use Rattle.values.specs.Gains.{Puts};
 ghost use Rattle.jute.specs.Format.{buffer, vector_of};
 ghost use Rattle.jute.specs.Owned.{acl_format};
 ghost use Rattle.jute.specs.Sums.{held_in_buffer};
-ghost use Rattle.txn_codec.specs.Fields.{child_path};
+ghost use Rattle.paths_and_acls.specs.Fields.{child_path};
 ghost use Rattle.txn_codec.specs.Endings.{closing_bytes};
 ghost use Rattle.txn_codec.specs.Inner.{owner_bytes, create_bytes};
 ghost use Rattle.txn_codec.specs.Spelling.{create_format, set_data as set_data_format, set_acl as set_acl_format, check_format, txn_header as header_format, kind_format, format_of_operation, multi_part as part_format, multi_parts as parts_format, format_of_body, txn_format};
@@ -215,19 +215,6 @@ impl WriteRecord for Operation {
     fn write(&self, out: &mut Vec<u8>) -> Result<(), NoMemory> {
         put_kind(out, self.kind())?;
         put_buffered(out, self)
-    }
-}
-
-impl WriteRecord for Path {
-    ghost format = { child_path };
-
-    #[tactic(auto, unfolding(jute::specs::Format::number_bytes))]
-    fn written_len(&self) -> usize {
-        4 + self.as_str().len()
-    }
-
-    fn write(&self, out: &mut Vec<u8>) -> Result<(), NoMemory> {
-        put_string(out, self.as_str())
     }
 }
 

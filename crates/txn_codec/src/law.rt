@@ -3,7 +3,7 @@
 ghost use Rattle.std.specs.Prelude.{◌≡◌, ℕ, List, Ok, Err};
 ghost use Rattle.values.specs.declared.fault.Fault.{Fault as TheFault};
 ghost use Rattle.jute.specs.Laws.{IsBytes, IsSound, IsSoundAtEnd};
-ghost use Rattle.txn_codec.specs.Fields.{path_format, child_path};
+ghost use Rattle.paths_and_acls.specs.Fields.{path_format, child_path};
 ghost use Rattle.txn_codec.specs.Refusals.{AgainstIn, AgainstTxn};
 ghost use Rattle.txn_codec.specs.Spelling.{header_in, kind_format_in, part_kind_in, part_format_in, parts_format_in, body_in, txn_in, kind_format, part_kind, create_format, set_data, set_acl, check_format, txn_header, multi_part, multi_parts, body_format, txn_format, value_of_whole};
 ghost use Rattle.txn_codec.specs.declared.txn.Txn.{Txn as TheTxn};
