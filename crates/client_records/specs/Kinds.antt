@@ -1,10 +1,13 @@
 -- The codes of requests (the operation codes of ZooDefs.OpCode).
-use Rattle.std.specs.Prelude.{List, [], ◌∷◌, Option, ℤ, pos, negsuc, find}
+use Rattle.std.specs.Prelude.{List, [], ◌∷◌, ◌++◌, Option, ℤ, pos, negsuc, find, if◌then◌else◌}
 use Rattle.std.specs.Ordering.{int_eq}
+use Rattle.settings.specs.Dialects.{reads_of}
+use Rattle.settings.specs.declared.dialect.Dialect.{Dialect}
+use Rattle.settings.specs.declared.dialect.Reads.{Reads}
 use Rattle.client_records.specs.declared.kind.ReadKind.{ReadKind}
 use Rattle.client_records.specs.declared.kind.ReadKind.TheVariants.{Exists, GetData, GetAcl, GetChildren, GetChildren2}
 use Rattle.client_records.specs.declared.kind.RequestKind.{RequestKind}
-use Rattle.client_records.specs.declared.kind.RequestKind.TheVariants.{Create, Delete, Read, SetData, SetAcl, Sync, Ping, Check, Multi, Auth, SetWatches, AddWatch, CloseSession}
+use Rattle.client_records.specs.declared.kind.RequestKind.TheVariants.{Create, Delete, Read, SetData, SetAcl, Sync, Ping, Check, Multi, Auth, SetWatches, AddWatch, CloseSession, Create2, Reconfig, CreateContainer, DeleteContainer, CreateTtl}
 
 abbrev pub code_of_read : ReadKind → ℤ
 code_of_read Exists = pos 3
@@ -27,10 +30,28 @@ code_of Auth = pos 100
 code_of SetWatches = pos 101
 code_of AddWatch = pos 106
 code_of CloseSession = negsuc 10
+code_of Create2 = pos 15
+code_of Reconfig = pos 16
+code_of CreateContainer = pos 19
+code_of DeleteContainer = pos 20
+code_of CreateTtl = pos 21
 
+-- Those of ZooKeeper 3.4, and addWatch.
 abbrev pub request_kinds : List RequestKind
 request_kinds = Create ∷ Delete ∷ Read Exists ∷ Read GetData ∷ SetData ∷ Read GetAcl ∷ SetAcl ∷ Read GetChildren ∷ Sync
     ∷ Ping ∷ Read GetChildren2 ∷ Check ∷ Multi ∷ Auth ∷ SetWatches ∷ AddWatch ∷ CloseSession ∷ []
 
-unfoldable pub kind_of : ℤ → Option RequestKind
-kind_of code = find (λ k. int_eq code (code_of k)) request_kinds
+-- Those that only later clients send, where these are read.
+abbrev pub later_kinds : Reads → List RequestKind
+later_kinds reads =
+    if reads.later_requests then Create2 ∷ Reconfig ∷ CreateContainer ∷ DeleteContainer ∷ CreateTtl ∷ [] else []
+
+abbrev pub known_kinds : Reads → List RequestKind
+known_kinds reads = request_kinds ++ later_kinds reads
+
+unfoldable pub kind_among : List RequestKind → ℤ → Option RequestKind
+kind_among kinds code = find (λ k. int_eq code (code_of k)) kinds
+
+-- The type with this code in a dialect.
+abbrev pub kind_in : Dialect → ℤ → Option RequestKind
+kind_in dialect code = kind_among (known_kinds (reads_of dialect)) code

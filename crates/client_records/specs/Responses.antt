@@ -10,6 +10,7 @@ use Rattle.client_records.specs.declared.response.GetChildrenResponse.{GetChildr
 use Rattle.client_records.specs.declared.response.GetChildren2Response.{GetChildren2Response}
 use Rattle.client_records.specs.declared.response.GetAclResponse.{GetAclResponse}
 use Rattle.client_records.specs.declared.response.PathResponse.{PathResponse}
+use Rattle.client_records.specs.declared.response.Create2Response.{Create2Response}
 
 unfoldable pub connect_response : Format ConnectResponse
 connect_response =
@@ -40,6 +41,10 @@ get_acl_response = mapped_format (λ v. record { acl = v.0; stat = v.1 }) (λ r.
 -- Of CreateResponse and SyncResponse.
 unfoldable pub path_response : Format PathResponse
 path_response = mapped_format (λ v. record { path = v }) (λ r. r.path) text_format
+
+unfoldable pub create2_response : Format Create2Response
+create2_response = mapped_format (λ v. record { path = v.0; stat = v.1 }) (λ r. (r.path, r.stat))
+    (pair_of text_format stat_format)
 
 unfoldable pub watcher_event : Format WatcherEvent
 watcher_event =

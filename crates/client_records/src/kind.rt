@@ -1,7 +1,11 @@
 //! The types of a client's requests.
 
 ghost use Rattle.std.specs.Prelude.{◌≡◌, Some};
-ghost use Rattle.client_records.specs.Kinds.{code_of, kind_of};
+ghost use Rattle.settings.specs.Dialects.{reads_of};
+ghost use Rattle.settings.specs.declared.dialect.Dialect.TheVariants.{Zk38};
+ghost use Rattle.client_records.specs.Kinds.{code_of, later_kinds, kind_among, kind_in};
+
+use settings::Dialect;
 
 /// The types of reads, by what they show of a node.
 #[derive(Clone, Copy, Debug, PartialEq, Eq)]
@@ -47,13 +51,41 @@ pub enum RequestKind {
     AddWatch,
     /// End the client's session.
     CloseSession,
+    /// Create a node, and be shown its Stat.
+    Create2,
+    /// Change the servers of the ensemble.
+    Reconfig,
+    /// Create a node that is deleted once it has no children any more.
+    CreateContainer,
+    /// Delete such a node.
+    DeleteContainer,
+    /// Create a node with a time to live.
+    CreateTtl,
 }
 
 impl RequestKind {
-    /// The type with this code; `None` for an unknown code.
-    #[tactic(auto, unfolding(crate::specs::Kinds::kind_of))]
-    pub fn from_code(code: i32) -> Option<RequestKind>
-        ensures { result ≡ kind_of code }
+    // The type with this code among those that only later clients send.
+    #[tactic(auto, unfolding(crate::specs::Kinds::kind_among))]
+    fn later(dialect: Dialect, code: i32) -> Option<RequestKind>
+        ensures { result ≡ kind_among (later_kinds (reads_of dialect)) code }
+    {
+        if !dialect.reads().later_requests {
+            return None;
+        }
+        match code {
+            15 => Some(RequestKind::Create2),
+            16 => Some(RequestKind::Reconfig),
+            19 => Some(RequestKind::CreateContainer),
+            20 => Some(RequestKind::DeleteContainer),
+            21 => Some(RequestKind::CreateTtl),
+            _ => None,
+        }
+    }
+
+    /// The type with this code in a dialect; `None` for a code that is unknown there.
+    #[tactic(auto, unfolding(crate::specs::Kinds::kind_among))]
+    pub fn from_code(dialect: Dialect, code: i32) -> Option<RequestKind>
+        ensures { result ≡ kind_in dialect code }
     {
         match code {
             1 => Some(RequestKind::Create),
@@ -73,15 +105,15 @@ impl RequestKind {
             101 => Some(RequestKind::SetWatches),
             106 => Some(RequestKind::AddWatch),
             -11 => Some(RequestKind::CloseSession),
-            _ => None,
+            _ => RequestKind::later(dialect, code),
         }
     }
 
     /// The code in a request's header.
-    #[tactic(auto, unfolding(crate::specs::Kinds::kind_of))]
+    #[tactic(auto, unfolding(crate::specs::Kinds::kind_among))]
     pub fn code(self) -> i32
         ensures code { result ≡ code_of self }
-        ensures back { kind_of result ≡ Some self }
+        ensures back { kind_in Zk38 result ≡ Some self }
     {
         match self {
             RequestKind::Create => 1,
@@ -97,6 +129,11 @@ impl RequestKind {
             RequestKind::SetWatches => 101,
             RequestKind::AddWatch => 106,
             RequestKind::CloseSession => -11,
+            RequestKind::Create2 => 15,
+            RequestKind::Reconfig => 16,
+            RequestKind::CreateContainer => 19,
+            RequestKind::DeleteContainer => 20,
+            RequestKind::CreateTtl => 21,
         }
     }
 }

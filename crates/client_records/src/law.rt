@@ -2,7 +2,7 @@
 
 ghost use Rattle.jute.specs.Laws.{IsSound};
 ghost use Rattle.client_records.specs.Requests.{connect_request, exists_request, get_data_request, get_children_request, get_children2_request, get_acl_request, set_watches, add_watch, auth_packet};
-ghost use Rattle.client_records.specs.Responses.{connect_response, exists_response, get_data_response, get_children_response, get_children2_response, get_acl_response, path_response, watcher_event};
+ghost use Rattle.client_records.specs.Responses.{connect_response, exists_response, get_data_response, get_children_response, get_children2_response, get_acl_response, path_response, create2_response, watcher_event};
 
 /// Every format here is sound: what is read was spelled so, a spelling is read whatever follows it, what is written is
 /// the shortest spelling, and a refusal names the first field that isn't spelled.
@@ -23,5 +23,6 @@ pub fn records()
     ensures get_children2_response { IsSound get_children2_response }
     ensures get_acl_response { IsSound get_acl_response }
     ensures path_response { IsSound path_response }
+    ensures create2_response { IsSound create2_response }
     ensures watcher_event { IsSound watcher_event }
 {}

@@ -1,5 +1,5 @@
-//! The records of a client's frames (zookeeper.jute of ZooKeeper 3.4, and AddWatchRequest of 3.6), which follow the
-//! headers of `jute`.
+//! The records of a client's frames (zookeeper.jute of ZooKeeper 3.4, and AddWatchRequest and Create2Response of later
+//! releases), which follow the headers of `jute`.
 //!
 //! Requests are read, and borrow their texts and data from the frame; responses and events are written from the tree.
 //! `specs/Requests.antt` and `specs/Responses.antt` define each record's format by jute's combinators, and
@@ -28,6 +28,6 @@ pub use fields::{Name, put_list, put_names, read_list};
 pub use kind::{ReadKind, RequestKind};
 pub use request::{AddWatch, AuthPacket, PathAlone, PathAndWatch, SetWatches};
 pub use response::{
-    Acls, ExistsResponse, GetAclResponse, GetChildren2Response, GetChildrenResponse,
+    Acls, Create2Response, ExistsResponse, GetAclResponse, GetChildren2Response, GetChildrenResponse,
     GetDataResponse, PathResponse,
 };

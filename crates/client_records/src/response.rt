@@ -1,7 +1,7 @@
 //! The responses to a client's requests, after the header of the frame.
 
 ghost use Rattle.std.specs.Prelude.{◌≡◌};
-ghost use Rattle.client_records.specs.Responses.{exists_response, get_data_response, get_children_response, get_children2_response, get_acl_response, path_response};
+ghost use Rattle.client_records.specs.Responses.{exists_response, get_data_response, get_children_response, get_children2_response, get_acl_response, path_response, create2_response};
 
 use crate::fields::{Name, buffer_len, put_buffer, put_list, put_text, read_list, text_len};
 use jute::{Acl, ReadRecord, Reader, Stat, WriteRecord, items_len};
@@ -212,5 +212,28 @@ impl<'a> WriteRecord for PathResponse<'a> {
     #[tactic(auto, unfolding(crate::specs::Responses::path_response))]
     fn write(&self, out: &mut Vec<u8>) -> Result<(), NoMemory> {
         put_text(out, &self.path)
+    }
+}
+
+/// The Create2Response of zookeeper.jute, which answers a create of later clients. It is only written.
+#[derive(Drop)]
+pub struct Create2Response<'a> {
+    /// The path of the new node; `None` is null.
+    pub path: Option<Str<'a>>,
+    pub stat: Stat,
+}
+
+impl<'a> WriteRecord for Create2Response<'a> {
+    ghost format = { create2_response };
+
+    #[tactic(auto, unfolding(crate::specs::Responses::create2_response))]
+    fn written_len(&self) -> usize {
+        text_len(&self.path) + self.stat.written_len()
+    }
+
+    #[tactic(auto, unfolding(crate::specs::Responses::create2_response))]
+    fn write(&self, out: &mut Vec<u8>) -> Result<(), NoMemory> {
+        put_text(out, &self.path)?;
+        self.stat.write(out)
     }
 }

@@ -6,7 +6,7 @@ use Rattle.jute.specs.Laws.{IsSound}
 use Rattle.jute.proofs.Public.{int_sound, long_sound, boolean_sound, buffer_sound, text_sound, name_sound, acl_sound, stat_sound, null_vector_sound, both_sound, mapped_sound}
 use Rattle.client_records.specs.Fields.{names_format}
 use Rattle.client_records.specs.Requests.{connect_request, path_and_watch, path_alone, set_watches, add_watch, auth_packet}
-use Rattle.client_records.specs.Responses.{connect_response, exists_response, get_data_response, get_children_response, get_children2_response, get_acl_response, path_response, watcher_event}
+use Rattle.client_records.specs.Responses.{connect_response, exists_response, get_data_response, get_children_response, get_children2_response, get_acl_response, path_response, create2_response, watcher_event}
 use Rattle.client_records.proofs.law.records.Goals as goal
 
 names_sound : IsSound names_format
@@ -79,6 +79,10 @@ path_response_sound : IsSound path_response
 unfolding path_response
 path_response_sound = mapped_sound _ _ _ (λ v. refl) (λ r. refl) text_sound
 
+create2_response_sound : IsSound create2_response
+unfolding create2_response
+create2_response_sound = mapped_sound _ _ _ (λ v. refl) (λ r. refl) (both_sound _ _ text_sound stat_sound)
+
 watcher_event_sound : IsSound watcher_event
 unfolding watcher_event
 watcher_event_sound =
@@ -102,5 +106,6 @@ returns c = record {
   get_children2_response = get_children2_response_sound;
   get_acl_response = get_acl_response_sound;
   path_response = path_response_sound;
+  create2_response = create2_response_sound;
   watcher_event = watcher_event_sound;
 }
