@@ -9,6 +9,9 @@ pub const UNIMPLEMENTED: i32 = -6;
 /// The error of an auth packet whose scheme or data is refused.
 pub const AUTH_FAILED: i32 = -115;
 
+/// The error of a write whose session another server has by now.
+pub const SESSION_MOVED: i32 = -118;
+
 /// The error of a request that would change the tree.
 pub const NOT_READ_ONLY: i32 = -119;
 

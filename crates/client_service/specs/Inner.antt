@@ -45,12 +45,12 @@ abbrev pub stage_with_rest : ℕ → List ℕ → StepResult World → StepResul
 stage_with_rest n rest h = record { outputs = h.outputs; after = world_with_rest n rest h.after }
 
 -- What a frame asks in the session of its connection: it is a call, or its header can't be read.
-abbrev pub call_of_session : List ℕ → Option ℤ → Option SessionCall
-call_of_session frame None = None
-call_of_session frame (Some session) = Some (record { session = session; read = call_in frame })
+abbrev pub call_of_session : Result Call Fault → Option ℤ → Option SessionCall
+call_of_session read None = None
+call_of_session read (Some session) = Some (record { session = session; read = read })
 
 abbrev pub session_call : ℕ → World → List ℕ → Option SessionCall
-session_call n w frame = call_of_session frame (session_of_connection w.clients.sessions n)
+session_call n w frame = call_of_session (call_of w frame) (session_of_connection w.clients.sessions n)
 
 abbrev pub read_of_session : Option SessionCall → Option (Result Call Fault)
 read_of_session None = None

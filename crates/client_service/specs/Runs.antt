@@ -89,7 +89,7 @@ pub record RunsAreReads : Type 0 where
       → is_heard n w.clients ≡ true
       → session_of_connection w.clients.sessions n ≡ Some session
       → is_idle w.clients.pending n ≡ true
-      → call_in frame ≡ Ok (record { xid = xid; body = bodies.Local (locals.Read r) })
+      → call_of w frame ≡ Ok (record { xid = xid; body = bodies.Local (locals.Read r) })
       → and_then (answer_all_asked asked w) (λ u. serve_all serving n u (with_first frame others))
       ≡ and_then (answer_all_asked (asked ++ record { number = n; xid = xid; request = r } ∷ []) w)
       (λ u. serve_all serving n u others)

@@ -12,7 +12,8 @@ use Rattle.client_records.specs.declared.codes.TheConstants.{OK, UNIMPLEMENTED, 
 use Rattle.client_records.specs.declared.connect.ConnectRequest.{ConnectRequest}
 use Rattle.client_records.specs.declared.request.AuthPacket.{AuthPacket}
 use Rattle.sessions.specs.State.{SessionTable as Sessions}
-use Rattle.sessions.specs.Sessions.{session_of_connection, ids_of, ConnectResult, connect_session, refusal_response, AuthResult, add_auth, expire_owner}
+use Rattle.settings.specs.Dialects.{reads_of}
+use Rattle.sessions.specs.Sessions.{session_of_connection, connection_of, ids_of, ConnectResult, connect_session, claimed_session, refusal_response, AuthResult, add_auth, expire_owner}
 use Rattle.sessions.specs.declared.request.Connected.{Connected}
 use Rattle.sessions.specs.declared.request.SessionResponse.{SessionResponse}
 use Rattle.watch_manager.specs.Watching.{WatchTables, with_lasting_watch}
@@ -39,10 +40,11 @@ use Rattle.client_frames.specs.declared.call.CallBody.TheVariants as bodies
 use Rattle.client_frames.specs.declared.call.LocalCall.{LocalCall}
 use Rattle.client_frames.specs.declared.call.LocalCall.TheVariants as locals
 use Rattle.forwarding.specs.State.{PendingTable}
+use Rattle.forwarding.specs.declared.request.ConnectKind.TheVariants.{New, Claimed}
 use Rattle.forwarding.specs.declared.request.WriteKind.{WriteKind}
 use Rattle.forwarding.specs.Queue.{is_close}
 use Rattle.forwarding.specs.Pending.{is_idle, is_full, connecting_to, push_connect, push_write, push_sync, hold_frame, touch_session}
-use Rattle.learner_sync.specs.Answers.{request_of, session_request}
+use Rattle.learner_sync.specs.Answers.{request_of, session_request, session_question}
 use Rattle.client_frames.specs.declared.connecting.Connecting.{Connecting}
 use Rattle.world.specs.World.{OpenConnection, Clients, World}
 use Rattle.client_frames.specs.Call.{call_in}
@@ -115,6 +117,9 @@ send_connect_response n has_byte response w =
     let frame = Some (answer_to_connect response has_byte) in
     if int_eq response.session_id (pos 0) then send_last n w frame else send_or_close n w frame
 
+abbrev pub refuse_connect : ℕ → Bool → World → StepResult World
+refuse_connect n has_byte w = send_connect_response n has_byte refusal_response w
+
 -- The response to a connect. An older connection of its session is closed first.
 abbrev pub answer_connect : ℕ → Bool → World → Connected → StepResult World
 answer_connect n has_byte w connected =
@@ -124,13 +129,18 @@ answer_connect n has_byte w connected =
 abbrev pub ask_for_session : ℕ → Bool → World → SessionResponse → StepResult World
 ask_for_session n has_byte w response =
     if is_some (connecting_to w.clients.pending response.session_id)
-    then send_connect_response n has_byte refusal_response w
+    then refuse_connect n has_byte w
     else record {
       outputs = to_leader (session_request response.session_id response.time_out) ∷ [];
       after =
           with_pending w
           (push_connect w.clients.pending n
-          (record { session = response.session_id; time_out = response.time_out; has_read_only = has_byte }));
+          (record {
+            kind = New;
+            session = response.session_id;
+            time_out = response.time_out;
+            has_read_only = has_byte;
+          }));
     }
 
 -- The client wants a new session, and there is an id for it.
@@ -147,6 +157,42 @@ ask_or_answer n asked connected w =
 abbrev pub finish_connect : ℕ → World → Connecting → ConnectResult → StepResult World
 finish_connect n w asked c = ask_or_answer n asked c.connected (with_sessions w c.after)
 
+-- The leader is asked whether the session lives, and the connect waits for its answer.
+abbrev pub ask_about_session : ℕ → Bool → SessionResponse → World → StepResult World
+ask_about_session n has_byte response w = record {
+  outputs = to_leader (session_question response.session_id response.time_out) ∷ [];
+  after =
+      with_pending w
+      (push_connect w.clients.pending n
+      (record {
+        kind = Claimed;
+        session = response.session_id;
+        time_out = response.time_out;
+        has_read_only = has_byte;
+      }));
+}
+
+-- The connection that has the session is closed, and then the one whose connect waits for it.
+abbrev pub close_others : ℤ → World → StepResult World
+close_others session w =
+    and_then (close_client_if_some w (connection_of w.clients.sessions session))
+    (λ v. close_client_if_some v (connecting_to v.clients.pending session))
+
+-- The client takes the place of others that have the session, or ask for it.
+abbrev pub claim_session : ℕ → Bool → World → SessionResponse → StepResult World
+claim_session n has_byte w response =
+    and_then (close_others response.session_id w) (ask_about_session n has_byte response)
+
+-- A client that claims a session without its password is refused.
+abbrev pub claim_or_refuse : ℕ → Bool → World → Option SessionResponse → StepResult World
+claim_or_refuse n has_byte w None = refuse_connect n has_byte w
+claim_or_refuse n has_byte w (Some response) = claim_session n has_byte w response
+
+-- Where sessions move between servers, a client that names a session claims it: only the leader knows whether it lives,
+-- and which server has it.
+abbrev pub is_claim : World → ConnectRequest → Bool
+is_claim w request = (reads_of w.settings.dialect).moved_sessions && not (int_eq request.session_id (pos 0))
+
 -- A client may connect where clients are served, if it hasn't seen a zxid above the last one.
 abbrev pub may_connect : Bool → World → ConnectRequest → Bool
 may_connect serving w request = serving && not (int_lt w.replica.learner.last_zxid request.last_zxid_seen)
@@ -160,11 +206,17 @@ abbrev pub connect_result : ℕ → World → ConnectRequest → ConnectResult
 connect_result n w request =
     connect_session w.clients.sessions n (is_live request.session_id w) (session_request_of request)
 
+-- A client that may connect claims the session that it names, or is connected by what this server knows.
+abbrev pub connect_client : ℕ → World → Connecting → StepResult World
+connect_client n w c =
+    if is_claim w c.request
+    then claim_or_refuse n c.has_byte w (claimed_session w.clients.sessions (session_request_of c.request))
+    else finish_connect n w c (connect_result n w c.request)
+
 abbrev pub handle_connect : Bool → ℕ → World → Result Connecting Fault → StepResult World
 handle_connect serving n w (Err e) = close_client n w
 handle_connect serving n w (Ok c) =
-    if may_connect serving w c.request
-    then finish_connect n w c (connect_result n w c.request) else close_client n w
+    if may_connect serving w c.request then connect_client n w c else close_client n w
 
 -- ---- requests that this server answers
 
@@ -224,9 +276,13 @@ connect_or_hold serving n w frame =
     if is_idle w.clients.pending n then handle_connect serving n w (connecting_in frame)
     else no_output (with_pending w (hold_frame w.clients.pending n frame))
 
+-- The call of a frame, in the dialect of the clients.
+abbrev pub call_of : World → List ℕ → Result Call Fault
+call_of w frame = call_in w.settings.dialect frame
+
 abbrev pub serve_by : Bool → ℕ → World → List ℕ → Option ℤ → StepResult World
 serve_by serving n w frame None = connect_or_hold serving n w frame
-serve_by serving n w frame (Some session) = serve_as n session w frame (call_in frame)
+serve_by serving n w frame (Some session) = serve_as n session w frame (call_of w frame)
 
 -- The bytes of a request's header.
 abbrev pub header_len : ℕ

@@ -5,8 +5,7 @@ ghost use Rattle.jute.specs.Stream.{items_in, place_at};
 ghost use Rattle.forwarding.specs.Pending.{is_idle, is_full};
 ghost use Rattle.read_processor.specs.Asking.{LooksAtAsks};
 ghost use Rattle.world.specs.Clients.{heard_connection, is_heard, rest_at};
-ghost use Rattle.client_service.specs.Serve.{serve_as, serve_frame, serve_all, frames_of_client, client_frame_limit, take_client_bytes, open_client, end_client};
-ghost use Rattle.client_frames.specs.Call.{call_in};
+ghost use Rattle.client_service.specs.Serve.{call_of, serve_as, serve_frame, serve_all, frames_of_client, client_frame_limit, take_client_bytes, open_client, end_client};
 ghost use Rattle.client_service.specs.Runs.{MakesOwing, serve_if_heard};
 ghost use Rattle.client_service.specs.Inner.{session_call, IsFirstFrame, waiting_bytes, stage_with_rest, close_if_heard, tell_if_heard};
 ghost use Rattle.world.specs.Results.{MakesStep};
@@ -68,9 +67,9 @@ pub fn serve_call(
 ) -> Result<(), NoMemory>
     requires fits { length frame.now ≤ client_frame_limit }
     requires room { is_full stage.old.after.clients.pending number ≡ false }
-    ensures { MakesStep result stage.old (λ w. serve_as number session w frame.now (call_in frame.now)) stage.new }
+    ensures { MakesStep result stage.old (λ w. serve_as number session w frame.now (call_of w frame.now)) stage.new }
 {
-    let read = call_in(alloc, frame)?;
+    let read = call_in(alloc, stage.world.settings.dialect, frame)?;
     let idle = stage.world.clients.pending.is_idle(number);
     serve_read_call(alloc, number, idle, session, stage, frame, &read)
 }

@@ -2,10 +2,10 @@
 
 ghost use Rattle.std.specs.Prelude.{◌≡◌, None, true, false, IfOk, OnOk};
 ghost use Rattle.std.specs.FinMap as finmap;
-ghost use Rattle.client_frames.specs.Connect.{connecting_in};
 ghost use Rattle.world.specs.Sending.{with_sessions};
-ghost use Rattle.client_service.specs.Serve.{send_connect_response, answer_connect, ask_for_session, is_new_session, ask_or_answer, finish_connect, may_connect, is_live, connect_result, handle_connect, connect_or_hold};
-ghost use Rattle.sessions.specs.Sessions.{refusal_response};
+ghost use Rattle.client_service.specs.Serve.{send_connect_response, refuse_connect, answer_connect, ask_for_session, ask_about_session, close_others, claim_session, claim_or_refuse, is_claim, is_new_session, ask_or_answer, finish_connect, may_connect, is_live, connect_result, connect_client, handle_connect, connect_or_hold};
+ghost use Rattle.client_frames.specs.Connect.{connecting_in, session_request_of};
+ghost use Rattle.sessions.specs.Sessions.{claimed_session, refusal_response};
 ghost use Rattle.forwarding.specs.Pending.{is_idle, is_full};
 ghost use Rattle.world.specs.Results.{MakesStep};
 
@@ -13,8 +13,8 @@ use crate::calls::hold;
 use crate::session::touch_client;
 use client_frames::{Connecting, answer_to_connect, read_connecting, session_request_of};
 use client_records::ConnectRequest;
-use forwarding::PendingConnect;
-use learner_sync::session_request;
+use forwarding::{ConnectKind, PendingConnect};
+use learner_sync::{session_question, session_request};
 use sessions::{Connected, PASSWORD_LEN, SessionResponse};
 use std::alloc::Global;
 use values::{NoMemory, ReadError};
@@ -71,6 +71,20 @@ fn refusal_response() -> SessionResponse
     }
 }
 
+/// Refuses a connect: sends the response without a session, and closes the connection.
+///
+/// Fails only if an allocation is refused; then a prefix of the outputs has been appended.
+pub fn refuse_connect(
+    alloc: Global,
+    number: u64,
+    has_byte: bool,
+    stage: &mut Stage,
+) -> Result<(), NoMemory>
+    ensures { MakesStep result stage.old (refuse_connect number has_byte) stage.new }
+{
+    send_connect_response(alloc, number, has_byte, &refusal_response(), stage)
+}
+
 // Asks the leader for the session that the response names. The connect waits until the leader has created it.
 fn ask_for_session(
     alloc: Global,
@@ -85,12 +99,12 @@ fn ask_for_session(
     let session = response.session_id;
     let time_out = response.time_out;
     if stage.world.clients.pending.connecting(session).is_some() {
-        let refusal = refusal_response();
-        return send_connect_response(alloc, number, has_byte, &refusal, stage);
+        return refuse_connect(alloc, number, has_byte, stage);
     }
     let request = session_request(alloc, session, time_out)?;
     send_to_leader(alloc, &request, &mut stage.outputs)?;
     let connect = PendingConnect {
+        kind: ConnectKind::New,
         session,
         time_out,
         has_read_only: has_byte,
@@ -151,7 +165,86 @@ fn ask_or_answer(
     answer_connect(alloc, number, has_byte, stage, connected)
 }
 
-// Connects a client that may connect: it waits for a new session, or is answered at once.
+// Asks the leader whether the session of the response lives. The connect waits for its answer.
+fn ask_about_session(
+    alloc: Global,
+    number: u64,
+    has_byte: bool,
+    stage: &mut Stage,
+    response: &SessionResponse,
+) -> Result<(), NoMemory>
+    requires { is_idle stage.old.after.clients.pending number ≡ true }
+    ensures { MakesStep result stage.old (ask_about_session number has_byte response.now) stage.new }
+{
+    let session = response.session_id;
+    let time_out = response.time_out;
+    let question = session_question(alloc, session, time_out)?;
+    send_to_leader(alloc, &question, &mut stage.outputs)?;
+    let connect = PendingConnect {
+        kind: ConnectKind::Claimed,
+        session,
+        time_out,
+        has_read_only: has_byte,
+    };
+    let pending = &mut stage.world.clients.pending;
+    pending.push_connect(alloc, number, connect)
+}
+
+// Closes the connection that has the session, and then the one whose connect waits for it.
+#[tactic(auto, using(world::proofs::Steps::then_meets, world::proofs::Steps::first_stops))]
+fn close_others(stage: &mut Stage, session: i64) -> Result<(), NoMemory>
+    ensures { MakesStep result stage.old (close_others session) stage.new }
+{
+    let holder = stage.world.clients.sessions.connection(session);
+    stage.close_client_if_some(holder)?;
+    let waiting = stage.world.clients.pending.connecting(session);
+    stage.close_client_if_some(waiting)
+}
+
+// Claims a session for a client that has its password: its other connections are closed, and the leader is asked.
+#[tactic(auto, using(world::proofs::Steps::then_meets, world::proofs::Steps::first_stops))]
+fn claim_session(
+    alloc: Global,
+    number: u64,
+    has_byte: bool,
+    stage: &mut Stage,
+    response: &SessionResponse,
+) -> Result<(), NoMemory>
+    requires { is_idle stage.old.after.clients.pending number ≡ true }
+    ensures { MakesStep result stage.old (λ w. claim_session number has_byte w response.now) stage.new }
+{
+    close_others(stage, response.session_id)?;
+    ask_about_session(alloc, number, has_byte, stage, response)
+}
+
+// Claims the session that a client names, or refuses the client if the password is wrong.
+fn claim_or_refuse(
+    alloc: Global,
+    number: u64,
+    stage: &mut Stage,
+    connecting: &Connecting<'_>,
+) -> Result<(), NoMemory>
+    requires { is_idle stage.old.after.clients.pending number ≡ true }
+    ensures { MakesStep result stage.old
+        (λ w. let asked = session_request_of connecting.now.request in
+        claim_or_refuse number connecting.now.has_byte w (claimed_session w.clients.sessions asked))
+        stage.new }
+{
+    let request = session_request_of(&connecting.request);
+    match stage.world.clients.sessions.claimed(&request) {
+        None => refuse_connect(alloc, number, connecting.has_byte, stage),
+        Some(response) => { claim_session(alloc, number, connecting.has_byte, stage, &response) }
+    }
+}
+
+// Whether the client claims a session, of which only the leader knows whether it lives.
+fn is_claim(world: &World, request: &ConnectRequest<'_>) -> bool
+    ensures { result ≡ is_claim world.now request.now }
+{
+    world.settings.dialect.reads().moved_sessions && request.session_id != 0
+}
+
+// Connects a client by what this server knows: it waits for a new session, or is answered at once.
 fn connect_and_answer(
     alloc: Global,
     number: u64,
@@ -166,6 +259,23 @@ fn connect_and_answer(
 {
     let connected = connect(alloc, number, &mut stage.world, &connecting.request)?;
     ask_or_answer(alloc, number, stage, connecting, &connected)
+}
+
+// Connects a client that may connect: it claims the session that it names, or is connected by what this server knows.
+fn connect_client(
+    alloc: Global,
+    number: u64,
+    stage: &mut Stage,
+    connecting: &Connecting<'_>,
+) -> Result<(), NoMemory>
+    requires none { finmap.get stage.old.after.clients.sessions.connections number ≡ None }
+    requires idle { is_idle stage.old.after.clients.pending number ≡ true }
+    ensures { MakesStep result stage.old (λ w. connect_client number w connecting.now) stage.new }
+{
+    if is_claim(&stage.world, &connecting.request) {
+        return claim_or_refuse(alloc, number, stage, connecting);
+    }
+    connect_and_answer(alloc, number, stage, connecting)
 }
 
 // Serves the first frame of a connection: asks for the session that its ConnectRequest names, or closes it.
@@ -185,7 +295,7 @@ fn handle_connect(
             if !may_connect(serving, &stage.world, &connecting.request) {
                 return stage.close_client(number);
             }
-            connect_and_answer(alloc, number, stage, &connecting)
+            connect_client(alloc, number, stage, &connecting)
         }
         Err(ReadError::NoMemory) => Err(NoMemory),
         Err(ReadError::Fault(_)) => stage.close_client(number),

@@ -6,7 +6,8 @@
 //! A frame of a client is a step (specs/Serve), answered at the present state, and touches the session of its
 //! connection: the leader is told later whose clients were heard. The first frame of a connection asks for a session. A
 //! new session is the leader's to create: it is asked, and the connect waits, and so do the frames after it, which are
-//! held whole. A session that lives in the replica's tree is taken up at once. The other frames read and leave watches,
+//! held whole. A session that lives in the replica's tree is taken up at once; in the dialect of later ensembles, where
+//! sessions move between servers, the leader is asked for each, and the connect waits likewise. The other frames read and leave watches,
 //! add an id, set watches again, write, or ask for the end of the session; after that nothing more is taken of the
 //! connection. The caller says whether clients are served; while they aren't, no client gets a session. A connection
 //! that has asked for no session yet may begin with a four-letter word in place of a frame: it is answered, whether
@@ -51,7 +52,7 @@ mod word;
 pub use asked::AskedRead;
 pub use calls::answer_local;
 pub use client::{CLIENT_FRAME_LIMIT, end_client, open_client, serve_call, take_client_bytes};
-pub use joining::answer_connect;
+pub use joining::{answer_connect, refuse_connect};
 pub use law::runs_of_reads;
 pub use session::expire_session;
 pub use settling::settle_reads;

@@ -29,7 +29,7 @@ pub(crate) fn session_call<'a>(
     let Some(session) = world.clients.sessions.session(number) else {
         return Ok(None);
     };
-    let read = call_in(alloc, frame)?;
+    let read = call_in(alloc, world.settings.dialect, frame)?;
     Ok(Some(SessionCall { session, read }))
 }
 

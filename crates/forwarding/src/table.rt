@@ -120,9 +120,10 @@ impl Pending {
         self.queues.answered_write(number, xid, txn_kind)
     }
 
-    /// The connection whose connect waits for the session.
+    /// The connection whose connect waits for the session. No other one does.
     pub fn connecting(&self, session: i64) -> Option<u64>
-        ensures { result ≡ connecting_to self.now session }
+        ensures connecting { result ≡ connecting_to self.now session }
+        ensures only { IfSome result (λ n. connecting_to (drop_connection self.now n) session ≡ None) }
     {
         self.connects.get(session)
     }

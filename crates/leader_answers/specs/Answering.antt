@@ -1,6 +1,9 @@
 -- What the leader's stream answers: connects, writes and syncs that wait, and the frames that are held until then.
 use Rattle.std.specs.List.{slice_get}
-use Rattle.std.specs.Prelude.{ℕ, zero, suc, ℤ, List, [], ◌∷◌, Option, Some, None, Result, Ok, Err, Bool, true, false, ◌||◌, length, nat_lt, if◌then◌else◌}
+use Rattle.std.specs.Option.{option_or}
+use Rattle.std.specs.Ordering.{int_eq}
+use Rattle.settings.specs.Dialects.{reads_of}
+use Rattle.std.specs.Prelude.{ℕ, zero, suc, ℤ, List, [], ◌∷◌, Option, Some, None, Result, Ok, Err, Bool, true, false, ◌&&◌, ◌||◌, length, nat_lt, if◌then◌else◌}
 use Rattle.values.specs.declared.fault.Fault.{Fault}
 use Rattle.txn_codec.specs.declared.txn.Txn.{Txn}
 use Rattle.txn_codec.specs.declared.row.SessionChange.{SessionChange}
@@ -10,27 +13,28 @@ use Rattle.txn_codec.specs.Kinds.{code_of, body_kind}
 use Rattle.quorum_packet.specs.declared.packet.QuorumPacket.{QuorumPacket}
 use Rattle.learner_sync.specs.Answers.{ping_reply, session_rows}
 use Rattle.sessions.specs.Sessions.{connection_of, ConnectResult, close_connection, give_session}
-use Rattle.client_records.specs.declared.codes.TheConstants.{OK}
+use Rattle.client_records.specs.declared.codes.TheConstants.{OK, SESSION_MOVED}
 use Rattle.read_processor.specs.Look.{look_of_path, without_body}
 use Rattle.read_processor.specs.Reply.{reply_frame}
 use Rattle.client_frames.specs.declared.call.Call.{Call}
 use Rattle.client_frames.specs.declared.call.CallBody.{CallBody}
 use Rattle.client_frames.specs.declared.call.CallBody.TheVariants as calls
-use Rattle.client_frames.specs.Call.{call_in}
 use Rattle.write_replies.specs.Replies.{write_look}
 use Rattle.forwarding.specs.declared.request.WriteKind.{WriteKind}
 use Rattle.forwarding.specs.declared.request.AnsweredWrite.{AnsweredWrite}
+use Rattle.forwarding.specs.declared.request.ConnectKind.TheVariants.{New, Claimed}
 use Rattle.forwarding.specs.declared.request.PendingConnect.{PendingConnect}
 use Rattle.forwarding.specs.declared.request.Ready.{Ready}
 use Rattle.forwarding.specs.declared.request.Ready.TheVariants.{SettledSync, HeldFrame}
 use Rattle.forwarding.specs.declared.request.Settled.{Settled}
 use Rattle.forwarding.specs.declared.request.Settled.TheVariants.{NoSync, Gone, Of}
 use Rattle.forwarding.specs.Queue.{pending_limit, found_write}
-use Rattle.forwarding.specs.Pending.{queue_of, is_full, take_ready, answer_write, pending_close, settle_sync, take_connect, connecting_to, take_touched}
+use Rattle.forwarding.specs.Pending.{queue_of, is_full, take_ready, answer_write, pending_close, settle_sync, take_connect, awaiting, take_touched}
 use Rattle.world.specs.World.{Clients, World}
+use Rattle.world.specs.Timeouts.{known_timeout}
 use Rattle.world.specs.Steps.{StepResult, no_output, and_then, fold_steps}
 use Rattle.world.specs.Sending.{to_leader, close_client, send_or_close, send_last, send_reply, with_sessions, with_pending}
-use Rattle.client_service.specs.Serve.{answer_connect, handle_local, serve_as, client_frame_limit, is_unheard}
+use Rattle.client_service.specs.Serve.{answer_connect, refuse_connect, call_of, handle_local, serve_as, client_frame_limit, is_unheard}
 use Rattle.leader_answers.specs.declared.due.Due.{Due}
 use Rattle.leader_answers.specs.declared.due.Due.TheVariants.{Nothing, Admission, Ending, Reply}
 
@@ -48,7 +52,7 @@ serve_held n w (Err e) = close_client n w
 -- A sync is answered with its path, and a held frame as if it came now.
 abbrev pub answer_ready : ℕ → World → Ready → StepResult World
 answer_ready n w (SettledSync xid path) = send_reply n w xid (look_of_path path)
-answer_ready n w (HeldFrame frame) = serve_held n w (call_in frame)
+answer_ready n w (HeldFrame frame) = serve_held n w (call_of w frame)
 
 abbrev pub answer_if_ready : ℕ → World → Option Ready → (World → StepResult World) → StepResult World
 answer_if_ready n w None next = no_output w
@@ -76,7 +80,11 @@ abbrev pub admission_of : Option ℕ → Due
 admission_of None = Nothing
 admission_of (Some n) = Admission n
 
--- The connection has the session that ends.
+-- The connection that has the session, or the one that claims it.
+abbrev pub connection_with : Clients → ℤ → Option ℕ
+connection_with c session = option_or (connection_of c.sessions session) (awaiting c.pending session Claimed)
+
+-- The connection loses the session that ends.
 abbrev pub ending_of : Option ℕ → Due
 ending_of None = Nothing
 ending_of (Some n) = Ending n
@@ -91,8 +99,8 @@ reply_of c t None = Nothing
 reply_of c t (Some n) = reply_as n (found_write (queue_of c.pending n) t.header.cxid (txn_number t))
 
 abbrev pub due_by : Clients → Txn → SessionChange → Due
-due_by c t (changes.Begins time_out) = admission_of (connecting_to c.pending t.header.client_id)
-due_by c t changes.Ends = ending_of (connection_of c.sessions t.header.client_id)
+due_by c t (changes.Begins time_out) = admission_of (awaiting c.pending t.header.client_id New)
+due_by c t changes.Ends = ending_of (connection_with c t.header.client_id)
 due_by c t changes.Nothing = reply_of c t (connection_of c.sessions t.header.client_id)
 
 -- What the transaction brings to a client here. Neither the tree nor the watches matter for that.
@@ -111,9 +119,15 @@ lets_answer c t = is_due (answer_due c t)
 
 -- ---- a write
 
--- The reply has the zxid of the transaction. The requests that waited only for this write are answered after it.
+-- The leader refuses the write, since another server has the session now.
+abbrev pub has_moved : World → ℤ → Bool
+has_moved w err = (reads_of w.settings.dialect).moved_sessions && int_eq err SESSION_MOVED
+
+-- The reply has the zxid of the transaction. The requests that waited only for this write are answered after it. Where
+-- the session has moved there is no reply, and the connection closes.
 abbrev pub answer_write_as : ℕ → World → Txn → ℤ → WriteKind → StepResult World
 answer_write_as n w t err kind =
+    if has_moved w err then close_client n w else
     let v = with_pending w (answer_write w.clients.pending n t.header.cxid (txn_number t)).after in
     let seen = write_look w.replica.tree kind t.body err in
     and_then (send_or_close n v (reply_frame t.header.cxid t.header.zxid seen)) (answer_front n)
@@ -124,7 +138,7 @@ answer_write_as n w t err kind =
 abbrev pub serve_next : ℕ → ℤ → World → List ℕ → StepResult World
 serve_next n session w frame =
     if is_full w.clients.pending n || nat_lt client_frame_limit (length frame) then close_client n w
-    else serve_as n session w frame (call_in frame)
+    else serve_as n session w frame (call_of w frame)
 
 -- The connection has the session that it asked for, and is answered. Then the frames that were held are served, as if
 -- they came now.
@@ -144,6 +158,27 @@ abbrev pub admit_client : ℕ → World → StepResult World
 admit_client n w =
     let taken = take_connect w.clients.pending n in
     admit_as n (with_pending w taken.after) taken.frames taken.connect
+
+-- ---- a session that a client claims
+
+-- The connect leaves, and is refused.
+abbrev pub refuse_as : ℕ → World → Option PendingConnect → StepResult World
+refuse_as n w None = no_output w
+refuse_as n w (Some connect) = refuse_connect n connect.has_read_only w
+
+abbrev pub refuse_client : ℕ → World → StepResult World
+refuse_client n w =
+    let taken = take_connect w.clients.pending n in
+    refuse_as n (with_pending w taken.after) taken.connect
+
+abbrev pub answer_claim : World → Option ℕ → Bool → StepResult World
+answer_claim w None lives = no_output w
+answer_claim w (Some n) lives = if lives then admit_client n w else refuse_client n w
+
+-- The leader says whether the session lives, and is this server's now. The client that claims it, if there is one, is
+-- admitted or refused.
+abbrev pub answer_revalidated : World → ℤ → Bool → StepResult World
+answer_revalidated w session lives = answer_claim w (awaiting w.clients.pending session Claimed) lives
 
 -- ---- a session that has ended
 
@@ -196,11 +231,17 @@ answer_sync w =
 
 -- ---- a PING
 
--- A PING is answered with the sessions that were touched and live, each with its timeout in the tree. They are no longer
--- touched then, but for those that the table has no room for.
+-- The timeout of a session: where sessions move between servers, the one that its connection was told here comes before
+-- the tree's.
+abbrev pub timeout_in : World → ℤ → Option ℤ
+timeout_in w session =
+    known_timeout (reads_of w.settings.dialect).moved_sessions w.clients.sessions w.replica.tree.sessions session
+
+-- A PING is answered with the sessions that were touched and live, each with its timeout. They are no longer touched
+-- then, but for those that the table has no room for.
 abbrev pub answer_ping : World → QuorumPacket → StepResult World
 answer_ping w ping =
-    let told = take_touched w.clients.pending w.replica.tree.sessions in
+    let told = take_touched w.clients.pending (timeout_in w) in
     record {
       outputs = to_leader (ping_reply ping (session_rows told.rows)) ∷ [];
       after = with_pending w told.after;

@@ -1,4 +1,4 @@
-//! A transaction that creates a session that a connection waits for.
+//! The clients that wait for a session: they are admitted or refused.
 
 ghost use Rattle.std.specs.Prelude.{◌≡◌, Some, IfOk, OnOk};
 ghost use Rattle.world.specs.Steps.{fold_steps};
@@ -6,11 +6,11 @@ ghost use Rattle.forwarding.specs.Pending.{take_connect};
 ghost use Rattle.sessions.specs.Sessions.{close_connection, give_session};
 ghost use Rattle.world.specs.Sending.{with_sessions, with_pending};
 ghost use Rattle.client_service.specs.Serve.{is_unheard};
-ghost use Rattle.leader_answers.specs.Answering.{serve_next, admit_as, admit_client};
+ghost use Rattle.leader_answers.specs.Answering.{serve_next, admit_as, admit_client, refuse_client, answer_revalidated};
 ghost use Rattle.world.specs.Results.{MakesStep};
 
-use client_service::{CLIENT_FRAME_LIMIT, answer_connect, serve_call};
-use forwarding::{PendingConnect, TakenConnect};
+use client_service::{CLIENT_FRAME_LIMIT, answer_connect, refuse_connect, serve_call};
+use forwarding::{ConnectKind, PendingConnect, TakenConnect};
 use sessions::Connected;
 use std::alloc::Global;
 use values::{Blob, NoMemory};
@@ -104,8 +104,8 @@ fn admit(
     serve_frames(alloc, number, connect.session, stage, frames)
 }
 
-/// The session that the connection waits for was created: the client is answered, and then the frames are served that
-/// were held until then.
+/// The connection gets the session that it waits for: the client is answered, and then the frames are served that were
+/// held until then.
 ///
 /// Fails only if an allocation is refused; then a prefix of the outputs has been appended.
 pub(crate) fn admit_client(alloc: Global, number: u64, stage: &mut Stage) -> Result<(), NoMemory>
@@ -116,4 +116,41 @@ pub(crate) fn admit_client(alloc: Global, number: u64, stage: &mut Stage) -> Res
         None => Ok(()),
         Some(connect) => admit(alloc, number, stage, connect, taken.frames.as_slice()),
     }
+}
+
+// The client of a connection that claims a session is refused.
+fn refuse_client(alloc: Global, number: u64, stage: &mut Stage) -> Result<(), NoMemory>
+    ensures { MakesStep result stage.old (refuse_client number) stage.new }
+{
+    let taken = take_connect(alloc, number, &mut stage.world)?;
+    match &taken.connect {
+        None => Ok(()),
+        Some(connect) => refuse_connect(alloc, number, connect.has_read_only, stage),
+    }
+}
+
+/// The leader has said whether a session lives that a client claims: the client is admitted, or refused. If no client
+/// claims it any more, nothing is done.
+///
+/// Fails only if an allocation is refused; then a prefix of the outputs has been appended.
+pub fn answer_revalidated(
+    alloc: Global,
+    stage: &mut Stage,
+    session: i64,
+    lives: bool,
+) -> Result<(), NoMemory>
+    ensures { MakesStep result stage.old (λ w. answer_revalidated w session lives) stage.new }
+{
+    let claims = stage
+        .world
+        .clients
+        .pending
+        .awaiting(session, ConnectKind::Claimed);
+    let Some(number) = claims else {
+        return Ok(());
+    };
+    if lives {
+        return admit_client(alloc, number, stage);
+    }
+    refuse_client(alloc, number, stage)
 }

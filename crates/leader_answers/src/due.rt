@@ -1,9 +1,9 @@
 //! Whom a transaction answers.
 
 ghost use Rattle.std.specs.Prelude.{◌≡◌};
-ghost use Rattle.leader_answers.specs.Answering.{is_due, answer_due, reply_of};
+ghost use Rattle.leader_answers.specs.Answering.{is_due, answer_due, connection_with, reply_of};
 
-use forwarding::AnsweredWrite;
+use forwarding::{AnsweredWrite, ConnectKind};
 use txn_codec::{SessionChange, Txn};
 use world::Clients;
 
@@ -13,7 +13,7 @@ pub enum Due {
     Nothing,
     /// The session that this connection asked for was created.
     Admission(u64),
-    /// The session of this connection has ended.
+    /// The session that this connection has, or claims, has ended.
     Ending(u64),
     /// The oldest write of this connection is answered.
     Reply(u64, AnsweredWrite),
@@ -45,17 +45,27 @@ fn reply_of(clients: &Clients, txn: &Txn, connection: Option<u64>) -> Due
     }
 }
 
+// The connection that has the session, or the one that claims it.
+fn connection_with(clients: &Clients, session: i64) -> Option<u64>
+    ensures { result ≡ connection_with clients.now session }
+{
+    clients
+        .sessions
+        .connection(session)
+        .or(clients.pending.awaiting(session, ConnectKind::Claimed))
+}
+
 /// What the transaction brings to a client here, once it is applied. Neither the tree nor the watches matter for that.
 pub fn answer_due(clients: &Clients, txn: &Txn) -> Due
     ensures { result ≡ answer_due clients.now txn.now }
 {
     let session = txn.header.client_id;
     match txn.body.session_change() {
-        SessionChange::Begins(_) => match clients.pending.connecting(session) {
+        SessionChange::Begins(_) => match clients.pending.awaiting(session, ConnectKind::New) {
             None => return Due::Nothing,
             Some(number) => Due::Admission(number),
         },
-        SessionChange::Ends => match clients.sessions.connection(session) {
+        SessionChange::Ends => match connection_with(clients, session) {
             None => return Due::Nothing,
             Some(number) => Due::Ending(number),
         },

@@ -9,7 +9,8 @@
 //! and then the frames are served that were held until then. A closeSession answers the closeSession that waits, and
 //! closes the connection of the session. Any other transaction answers the oldest write of the connection that has its
 //! session, if it was made of it. [`answer_sync`] answers the oldest sync that was forwarded. What came after the
-//! answered request, and waits for nothing else, is answered next. [`answer_ping`] tells the leader which sessions'
+//! answered request, and waits for nothing else, is answered next. [`answer_revalidated`] admits or refuses a client that
+//! claims a session, by what the leader says of it. [`answer_ping`] tells the leader which sessions'
 //! clients were heard.
 //!
 //! The caller says what the leader's stream has brought, once the replica has taken it. Each function makes a step on a
@@ -34,6 +35,7 @@ mod syncing;
 mod txn;
 mod writing;
 
+pub use admitting::answer_revalidated;
 pub use due::Due;
 pub use pinging::answer_ping;
 pub use syncing::answer_sync;

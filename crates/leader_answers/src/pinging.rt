@@ -5,7 +5,7 @@ ghost use Rattle.forwarding.specs.Pending.{take_touched};
 ghost use Rattle.learner_sync.specs.Answers.{session_rows};
 ghost use Rattle.replica.specs.Taking.{IsAnswerable};
 ghost use Rattle.world.specs.Sending.{with_pending};
-ghost use Rattle.leader_answers.specs.Answering.{answer_ping};
+ghost use Rattle.leader_answers.specs.Answering.{timeout_in, answer_ping};
 ghost use Rattle.world.specs.Results.{MakesStep};
 
 use learner_sync::{ping_answer, session_table};
@@ -13,18 +13,22 @@ use quorum_packet::QuorumPacket;
 use replica::LeaderNews;
 use std::alloc::Global;
 use values::{Blob, NoMemory};
-use world::{Stage, World, send_to_leader};
+use world::{KnownTimeouts, Stage, World, send_to_leader};
 
 // Takes the sessions that were touched and live, as the table of a PING's answer.
 fn take_table(alloc: Global, world: &mut World) -> Result<Blob, NoMemory>
-    ensures table { let told = take_touched world.old.clients.pending world.old.replica.tree.sessions in
+    ensures table { let told = take_touched world.old.clients.pending (timeout_in world.old) in
         IfOk result (λ table. table ≡ session_rows told.rows) }
-    ensures after { let told = take_touched world.old.clients.pending world.old.replica.tree.sessions in
+    ensures after { let told = take_touched world.old.clients.pending (timeout_in world.old) in
         OnOk result (world.new ≡ with_pending world.old told.after) }
     ensures short { IfOk result (λ table. length table < 2 ^ 31) }
 {
-    let timeouts = world.replica.tree().sessions();
-    let rows = world.clients.pending.take_touched(alloc, timeouts)?;
+    let timeouts = KnownTimeouts {
+        counts_told: world.settings.dialect.reads().moved_sessions,
+        sessions: &world.clients.sessions,
+        tree: world.replica.tree().sessions(),
+    };
+    let rows = world.clients.pending.take_touched(alloc, &timeouts)?;
     session_table(alloc, rows.as_slice())
 }
 

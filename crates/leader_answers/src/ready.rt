@@ -1,7 +1,7 @@
 //! The requests in front of a connection's that wait for nothing any more.
 
 ghost use Rattle.std.specs.Prelude.{◌≡◌};
-ghost use Rattle.client_frames.specs.Call.{call_in};
+ghost use Rattle.client_service.specs.Serve.{call_of};
 ghost use Rattle.forwarding.specs.Pending.{take_ready};
 ghost use Rattle.world.specs.Sending.{with_pending};
 ghost use Rattle.leader_answers.specs.Answering.{serve_held, answer_ready, answer_front};
@@ -17,9 +17,9 @@ use world::{Stage, World};
 
 // Answers a frame that was held. Only requests that this server answers are held.
 fn serve_held(alloc: Global, number: u64, stage: &mut Stage, frame: &[u8]) -> Result<(), NoMemory>
-    ensures { MakesStep result stage.old (λ w. serve_held number w (call_in frame.now)) stage.new }
+    ensures { MakesStep result stage.old (λ w. serve_held number w (call_of w frame.now)) stage.new }
 {
-    match read_call(alloc, frame) {
+    match read_call(alloc, stage.world.settings.dialect, frame) {
         Ok(call) => match &call.body {
             CallBody::Local(asked) => answer_local(alloc, number, stage, call.xid, asked),
             CallBody::Forward(_) | CallBody::Sync(_) | CallBody::Auth(_) => Ok(()),

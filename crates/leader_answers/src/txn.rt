@@ -9,7 +9,7 @@ ghost use Rattle.world.specs.Results.{MakesStep};
 use crate::admitting::admit_client;
 use crate::due::{Due, answer_due};
 use crate::ending::close_ended;
-use crate::writing::{answer_write, reply_to_write};
+use crate::writing::{answer_write, has_moved, reply_to_write};
 use std::alloc::Global;
 use txn_codec::Txn;
 use values::NoMemory;
@@ -35,7 +35,8 @@ pub fn due_in_log(world: &World, place: usize) -> Due
 
 /// The transaction at this place of the log was applied, with ZooKeeper's error code of it, 0 for success, and brings
 /// `due`. If it admits a client, ends the session of one or was made of a write that waits here, that client is
-/// answered, and so are its later requests up to the next that waits for the leader.
+/// answered, and so are its later requests up to the next that waits for the leader. A write that the leader refuses since
+/// the session has moved to another server closes its connection.
 ///
 /// Fails only if an allocation is refused; then a prefix of the outputs has been appended.
 pub fn answer_applied_txn(
@@ -59,6 +60,9 @@ pub fn answer_applied_txn(
             close_ended(alloc, number, stage, header.zxid)
         }
         Due::Reply(number, write) => {
+            if has_moved(&stage.world, error) {
+                return stage.close_client(number);
+            }
             let header = txn.header;
             let seen = reply_to_write(alloc, &stage.world, write.kind, txn, error)?;
             answer_write(alloc, number, stage, write.place, header, seen)

@@ -7,10 +7,11 @@ ghost use Rattle.read_processor.specs.Reply.{reply_frame};
 ghost use Rattle.write_replies.specs.Replies.{write_look};
 ghost use Rattle.world.specs.Steps.{and_then};
 ghost use Rattle.world.specs.Sending.{with_pending, send_or_close};
-ghost use Rattle.leader_answers.specs.Answering.{answer_front};
+ghost use Rattle.leader_answers.specs.Answering.{answer_front, has_moved};
 ghost use Rattle.world.specs.Results.{MakesStep};
 
 use crate::ready::answer_front;
+use client_records::codes::SESSION_MOVED;
 use forwarding::WriteKind;
 use read_processor::Look;
 use std::alloc::Global;
@@ -25,6 +26,13 @@ fn remove_write(number: u64, world: &mut World, place: usize)
     ensures { world.new ≡ with_pending world.old (remove_write world.old.clients.pending number) }
 {
     world.clients.pending.remove_write(number, place);
+}
+
+/// Whether the leader has refused a write, since another server has the session by now.
+pub(crate) fn has_moved(world: &World, error: i32) -> bool
+    ensures { result ≡ has_moved world.now error }
+{
+    world.settings.dialect.reads().moved_sessions && error == SESSION_MOVED
 }
 
 /// What the reply to the transaction's write shows.
