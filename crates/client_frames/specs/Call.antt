@@ -1,6 +1,7 @@
 -- A client's frame (zookeeper.jute, RequestHeader): a header, and the body of a request of the header's type.
 use Rattle.std.specs.Prelude.{ℕ, List, Option, Some, None, Result, Ok, Err, false, if◌then◌else◌}
 use Rattle.values.specs.declared.fault.Fault.{Fault}
+use Rattle.settings.specs.declared.dialect.Dialect.{Dialect}
 use Rattle.jute.specs.declared.message.RequestHeader.{RequestHeader}
 use Rattle.jute.specs.Records.{request_header}
 use Rattle.client_records.specs.declared.kind.ReadKind.{ReadKind}
@@ -8,7 +9,7 @@ use Rattle.client_records.specs.declared.kind.RequestKind.{RequestKind}
 use Rattle.client_records.specs.declared.kind.RequestKind.TheVariants as kinds
 use Rattle.client_records.specs.declared.request.PathAlone.{PathAlone}
 use Rattle.client_records.specs.declared.request.PathAndWatch.{PathAndWatch}
-use Rattle.client_records.specs.Kinds.{kind_of}
+use Rattle.client_records.specs.Kinds.{kind_in}
 use Rattle.client_records.specs.Requests.{path_and_watch, path_alone, set_watches, add_watch, auth_packet}
 use Rattle.read_processor.specs.declared.request.Request.{Request}
 use Rattle.forwarding.specs.declared.request.WriteKind.TheVariants as writes
@@ -55,7 +56,8 @@ abbrev pub sync_of : Option PathAlone → CallBody
 sync_of None = Local Unreadable
 sync_of (Some r) = sync_of_path r.path
 
--- The body of a write isn't read, since its frame is forwarded as it came. A check and a multi are refused.
+-- The body of a write isn't read, since its frame is forwarded as it came. A check and a multi are refused: of a check
+-- by itself a leader makes a transaction that ZooKeeper's own learners can't read.
 abbrev pub call_body : Option RequestKind → List ℕ → CallBody
 call_body None bytes = Local Unknown
 call_body (Some (kinds.Read kind)) bytes = Local (call_of_read kind bytes)
@@ -71,11 +73,17 @@ call_body (Some kinds.Auth) bytes = Auth (value_if_read (auth_packet.read bytes)
 call_body (Some kinds.SetWatches) bytes = Local (call_or_unreadable SetWatches (value_if_read (set_watches.read bytes)))
 call_body (Some kinds.AddWatch) bytes = Local (call_or_unreadable AddWatch (value_if_read (add_watch.read bytes)))
 call_body (Some kinds.CloseSession) bytes = Forward writes.CloseSession
+call_body (Some kinds.Create2) bytes = Forward writes.Create2
+call_body (Some kinds.Reconfig) bytes = Forward writes.Reconfig
+call_body (Some kinds.CreateContainer) bytes = Forward writes.CreateContainer
+call_body (Some kinds.DeleteContainer) bytes = Forward writes.DeleteContainer
+call_body (Some kinds.CreateTtl) bytes = Forward writes.CreateTtl
 
-abbrev pub call_after_header : Result (RequestHeader × List ℕ) Fault → Result Call Fault
-call_after_header (Ok x) = Ok (record { xid = x.0.xid; body = call_body (kind_of x.0.kind) x.1 })
-call_after_header (Err e) = Err e
+abbrev pub call_after_header : Dialect → Result (RequestHeader × List ℕ) Fault → Result Call Fault
+call_after_header dialect (Ok x) =
+    Ok (record { xid = x.0.xid; body = call_body (kind_in dialect x.0.kind) x.1 })
+call_after_header dialect (Err e) = Err e
 
--- The call of a frame, if it has a whole header.
-abbrev pub call_in : List ℕ → Result Call Fault
-call_in frame = call_after_header (request_header.read frame)
+-- The call of a client's frame in a dialect, if the frame has a whole header.
+abbrev pub call_in : Dialect → List ℕ → Result Call Fault
+call_in dialect frame = call_after_header dialect (request_header.read frame)

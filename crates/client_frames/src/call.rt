@@ -2,7 +2,6 @@
 
 ghost use Rattle.std.specs.Prelude.{◌≡◌, IfOk};
 ghost use Rattle.jute.specs.Reads.{ReadsOwnedWhole};
-ghost use Rattle.client_records.specs.Kinds.{kind_of};
 ghost use Rattle.client_records.specs.Requests.{path_alone, auth_packet, set_watches, add_watch};
 ghost use Rattle.client_frames.specs.Call.{value_if_read, call_or_unreadable, call_of_read, sync_of, sync_of_path, call_body, call_in};
 
@@ -12,6 +11,7 @@ use client_records::{
 use forwarding::WriteKind;
 use jute::{ReadRecord, Reader, RequestHeader};
 use read_processor::{Request, is_readable_path, may_watch};
+use settings::Dialect;
 use std::alloc::Global;
 use values::{Fault, NoMemory, ReadError, Str};
 
@@ -156,6 +156,11 @@ fn read_body<'a>(
         RequestKind::SetData => return Ok(CallBody::Forward(WriteKind::SetData)),
         RequestKind::SetAcl => return Ok(CallBody::Forward(WriteKind::SetAcl)),
         RequestKind::CloseSession => return Ok(CallBody::Forward(WriteKind::CloseSession)),
+        RequestKind::Create2 => return Ok(CallBody::Forward(WriteKind::Create2)),
+        RequestKind::Reconfig => return Ok(CallBody::Forward(WriteKind::Reconfig)),
+        RequestKind::CreateContainer => return Ok(CallBody::Forward(WriteKind::CreateContainer)),
+        RequestKind::DeleteContainer => return Ok(CallBody::Forward(WriteKind::DeleteContainer)),
+        RequestKind::CreateTtl => return Ok(CallBody::Forward(WriteKind::CreateTtl)),
         RequestKind::Sync => read_sync(alloc, reader),
         RequestKind::Auth => read_auth(alloc, reader),
         RequestKind::Ping => return Ok(CallBody::Local(LocalCall::Ping)),
@@ -165,22 +170,31 @@ fn read_body<'a>(
     }
 }
 
-/// Reads a frame. Fails with a fault if it has no whole header, and with `NoMemory` if an allocation is refused.
-pub fn read_call<'a>(alloc: Global, frame: &'a [u8]) -> Result<Call<'a>, ReadError>
-    ensures { ReadsOwnedWhole (call_in frame.now) result }
+/// Reads a frame in a dialect. Fails with a fault if it has no whole header, and with `NoMemory` if an allocation is
+/// refused.
+pub fn read_call<'a>(
+    alloc: Global,
+    dialect: Dialect,
+    frame: &'a [u8],
+) -> Result<Call<'a>, ReadError>
+    ensures { ReadsOwnedWhole (call_in dialect frame.now) result }
 {
     let mut reader = Reader::new(frame);
     let header = RequestHeader::read(alloc, &mut reader)?;
     let xid = header.xid;
-    let body = read_body(alloc, RequestKind::from_code(header.kind), &mut reader)?;
+    let body = read_body(alloc, RequestKind::from_code(dialect, header.kind), &mut reader)?;
     Ok(Call { xid, body })
 }
 
-/// The call of a frame, or why its header can't be read. Fails only if an allocation is refused.
-pub fn call_in<'a>(alloc: Global, frame: &'a [u8]) -> Result<Result<Call<'a>, Fault>, NoMemory>
-    ensures { IfOk result (λ read. read ≡ call_in frame.now) }
+/// The call of a frame in a dialect, or why its header can't be read. Fails only if an allocation is refused.
+pub fn call_in<'a>(
+    alloc: Global,
+    dialect: Dialect,
+    frame: &'a [u8],
+) -> Result<Result<Call<'a>, Fault>, NoMemory>
+    ensures { IfOk result (λ read. read ≡ call_in dialect frame.now) }
 {
-    match read_call(alloc, frame) {
+    match read_call(alloc, dialect, frame) {
         Ok(call) => Ok(Ok(call)),
         Err(ReadError::NoMemory) => Err(NoMemory),
         Err(ReadError::Fault(fault)) => Ok(Err(fault)),

@@ -4,13 +4,13 @@
 //! frame of the answer. Each later frame is a call: a header, and the body of a request of the header's type.
 //! `read_call` reads it, and tells what the leader has to do (a write, or a sync) from what this server answers from
 //! what it has. A body that can't be read is told from a header of unknown type, since the two are answered
-//! differently. specs/Connect and specs/Call define what is read.
+//! differently; which types are known depends on the dialect. specs/Connect and specs/Call define what is read.
 //!
 //! ```text
 //! let connecting = read_connecting(alloc, frame)?;
 //! let connected = sessions.connect(alloc, number, lives, &session_request_of(&connecting.request))?; // if the id lives
 //! answer_to_connect(alloc, &connected.response, connecting.has_byte)?     // the answer's frame
-//! let call = read_call(alloc, frame)?;                                   // Call { xid: 1, body: CallBody::Local(..) }
+//! let call = read_call(alloc, dialect, frame)?;                          // Call { xid: 1, body: CallBody::Local(..) }
 //! ```
 #![tactic(auto)]
 

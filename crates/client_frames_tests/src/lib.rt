@@ -6,6 +6,8 @@
 mod calls;
 #[cfg(test)]
 mod connects;
+#[cfg(test)]
+mod later;
 
 use client_frames::{
     CallBody, Connecting, LocalCall, answer_to_connect, read_call, read_connecting,
@@ -16,6 +18,7 @@ use client_records::{AddWatch, ReadKind};
 use forwarding::WriteKind;
 use read_processor::{Request, may_watch};
 use sessions::{SessionRequest, SessionResponse};
+use settings::Dialect;
 use std::alloc::Global;
 use values::ReadError;
 
@@ -71,6 +74,11 @@ fn write_word(kind: WriteKind) -> &'static str {
         WriteKind::SetData => "setData",
         WriteKind::SetAcl => "setACL",
         WriteKind::CloseSession => "closeSession",
+        WriteKind::Create2 => "create2",
+        WriteKind::Reconfig => "reconfig",
+        WriteKind::CreateContainer => "createContainer",
+        WriteKind::DeleteContainer => "deleteContainer",
+        WriteKind::CreateTtl => "createTTL",
     }
 }
 
@@ -86,14 +94,19 @@ fn word(body: &CallBody<'_>) -> &'static str {
     }
 }
 
-/// The request of a frame, in a word, if its xid is 7.
-pub fn asked(alloc: Global, frame: &[u8]) -> &'static str {
-    match read_call(alloc, frame) {
-        Ok(call) if call.xid == 7 => word(&call.body),
+/// The request of a frame in a dialect, in a word, if it has this xid.
+pub fn asked_in(alloc: Global, dialect: Dialect, xid: i32, frame: &[u8]) -> &'static str {
+    match read_call(alloc, dialect, frame) {
+        Ok(call) if call.xid == xid => word(&call.body),
         Ok(_) => "another xid",
         Err(ReadError::NoMemory) => "no memory",
         Err(ReadError::Fault(_)) => "no header",
     }
+}
+
+/// The request of a frame of ZooKeeper 3.4, in a word, if its xid is 7.
+pub fn asked(alloc: Global, frame: &[u8]) -> &'static str {
+    asked_in(alloc, Dialect::Zk34, 7, frame)
 }
 
 // Whether the password is "secret".

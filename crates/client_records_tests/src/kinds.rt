@@ -1,9 +1,10 @@
 //! The codes of requests.
 
 use client_records::{ReadKind, RequestKind};
+use settings::Dialect;
 use std::test::*;
 
-/// Each type with its number in `ZooDefs.OpCode`.
+/// Each type of ZooKeeper 3.4, and addWatch, with its number in `ZooDefs.OpCode`.
 const CODES: [(RequestKind, i32); 17] = [
     (RequestKind::Create, 1),
     (RequestKind::Delete, 2),
@@ -24,18 +25,38 @@ const CODES: [(RequestKind, i32); 17] = [
     (RequestKind::CloseSession, -11),
 ];
 
+/// The types that only later clients send.
+const LATER: [(RequestKind, i32); 5] = [
+    (RequestKind::Create2, 15),
+    (RequestKind::Reconfig, 16),
+    (RequestKind::CreateContainer, 19),
+    (RequestKind::DeleteContainer, 20),
+    (RequestKind::CreateTtl, 21),
+];
+
 #[test]
 fn codes_there_and_back(rt: HostRuntime) {
     for (kind, code) in CODES {
         assert_eq!(rt; kind.code(), code);
-        assert!(rt; RequestKind::from_code(code) == Some(kind));
+        assert!(rt; RequestKind::from_code(Dialect::Zk34, code) == Some(kind));
+        assert!(rt; RequestKind::from_code(Dialect::Zk38, code) == Some(kind));
+    }
+}
+
+#[test]
+fn later_codes(rt: HostRuntime) {
+    for (kind, code) in LATER {
+        assert_eq!(rt; kind.code(), code);
+        assert!(rt; RequestKind::from_code(Dialect::Zk34, code).is_none());
+        assert!(rt; RequestKind::from_code(Dialect::Zk38, code) == Some(kind));
     }
 }
 
 /// Codes that aren't a client's request: a notification, codes between the known ones, createSession and error.
 #[test]
 fn other_codes(rt: HostRuntime) {
-    for code in [0, 10, 15, 99, 102, 105, 107, -1, -10, i32::MAX, i32::MIN] {
-        assert!(rt; RequestKind::from_code(code).is_none());
+    for code in [0, 10, 17, 22, 99, 102, 105, 107, -1, -10, i32::MAX, i32::MIN] {
+        assert!(rt; RequestKind::from_code(Dialect::Zk34, code).is_none());
+        assert!(rt; RequestKind::from_code(Dialect::Zk38, code).is_none());
     }
 }

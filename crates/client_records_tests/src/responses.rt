@@ -2,7 +2,7 @@
 
 use crate::is_read;
 use client_records::{
-    Acls, ConnectResponse, ExistsResponse, GetAclResponse, GetChildren2Response,
+    Acls, ConnectResponse, Create2Response, ExistsResponse, GetAclResponse, GetChildren2Response,
     GetChildrenResponse, GetDataResponse, Name, PathResponse, WatcherEvent,
 };
 use jute::{Acl, Id, ReadRecord, Reader, Stat, WriteRecord, read_vector};
@@ -215,5 +215,20 @@ fn path_response(rt: HostRuntime) -> Result<(), Fail> {
     let mut out = Vec::new(rt.alloc());
     response.write(&mut out)?;
     assert_eq!(rt; out.as_slice(), b"\x00\x00\x00\x04/a/f".as_slice());
+    Ok(())
+}
+
+/// The path comes first, the Stat after it.
+#[test]
+#[tactic(auto, unfolding(client_records::specs::Responses::create2_response, jute::specs::Records::stat_format))]
+fn create2_response(rt: HostRuntime) -> Result<(), Fail> {
+    let alloc = rt.alloc();
+    let response = Create2Response {
+        path: Some(Str::new("/p2")),
+        stat: root(),
+    };
+    let mut out = Vec::new(alloc);
+    response.write(&mut out)?;
+    assert!(rt; are_with_root(alloc, out.as_slice(), b"\x00\x00\x00\x03/p2")?);
     Ok(())
 }

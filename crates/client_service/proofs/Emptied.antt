@@ -11,7 +11,7 @@ use Rattle.values.specs.declared.fault.NoMemory.{NoMemory}
 use Rattle.jute.specs.Stream.{place_at, items_in}
 use Rattle.jute.specs.declared.codes.TheConstants.{BAD_ARGUMENTS}
 use Rattle.client_records.specs.declared.codes.TheConstants.{OK, UNIMPLEMENTED, AUTH_FAILED, NOT_READ_ONLY, PING_XID}
-use Rattle.sessions.specs.Sessions.{session_of_connection, ids_of, connect_session, refusal_response, add_auth}
+use Rattle.sessions.specs.Sessions.{session_of_connection, connection_of, ids_of, connect_session, claimed_session, refusal_response, add_auth}
 use Rattle.sessions.specs.declared.request.Connected.{Connected}
 use Rattle.sessions.specs.declared.request.SessionResponse.{SessionResponse}
 use Rattle.read_processor.specs.declared.watch.Watch.{Watch}
@@ -27,7 +27,6 @@ use Rattle.client_frames.specs.declared.call.CallBody.TheVariants as bodies
 use Rattle.client_frames.specs.declared.call.LocalCall.{LocalCall}
 use Rattle.client_frames.specs.declared.call.LocalCall.TheVariants as locals
 use Rattle.client_frames.specs.declared.connecting.Connecting.{Connecting}
-use Rattle.client_frames.specs.Call.{call_in}
 use Rattle.client_frames.specs.Connect.{connecting_in, session_request_of, answer_to_connect}
 use Rattle.forwarding.specs.declared.request.WriteKind.{WriteKind}
 use Rattle.forwarding.specs.Queue.{is_close}
@@ -39,7 +38,7 @@ use Rattle.world.specs.Sending.{close_client, send_or_close, send_last, send_rep
 use Rattle.world.specs.Results.{MeetsStep}
 use Rattle.world.proofs.NatMaps.{same_key, insert-same}
 use Rattle.world.proofs.Heard.{heard_open}
-use Rattle.client_service.specs.Serve.{with_watch, with_each_watch, with_watch_if, answer_read, answer_set_watches, answer_add_watch, touched_as, touch_client, send_connect_response, answer_connect, ask_for_session, is_new_session, finish_connect, may_connect, is_live, handle_connect, handle_local, with_leaving, leave_if_closing, handle_call, serve_as, serve_by, is_refused_frame, serve_frame, serve_all, frames_of_client}
+use Rattle.client_service.specs.Serve.{with_watch, with_each_watch, with_watch_if, answer_read, answer_set_watches, answer_add_watch, touched_as, touch_client, send_connect_response, answer_connect, refuse_connect, ask_for_session, close_others, ask_about_session, claim_or_refuse, is_claim, is_new_session, finish_connect, may_connect, is_live, connect_client, call_of, handle_connect, handle_local, with_leaving, leave_if_closing, handle_call, serve_as, serve_by, is_refused_frame, serve_frame, serve_all, frames_of_client}
 use Rattle.client_service.specs.Runs.{AskedRead, answer_asked, answer_all_asked, serve_if_heard}
 use Rattle.client_service.specs.Inner.{waiting_bytes, world_with_rest}
 use Rattle.client_service.proofs.Serving.{nothing_found}
@@ -96,20 +95,32 @@ module _ (n : ℕ) where
       either (int_eq response.session_id (pos 0)) (send_last k w frame) (send_or_close k w frame)
       (sent_last k w frame none) none
 
+  closed_if_some : (o : Option ℕ) (w : World) → NoneWait w → NoneWait (close_client_if_some w o).after
+  closed_if_some None w none = none
+  closed_if_some (Some k) w none = closed k w none
+
   answered : (k : ℕ) (has_byte : Bool) (w : World) (connected : Connected) → NoneWait w
       → NoneWait (answer_connect k has_byte w connected).after
   answered k has_byte w connected none =
-      responded k has_byte connected.response (close_client_if_some w connected.older).after (by connected.older)
-    where
-      by : (o : Option ℕ) → NoneWait (close_client_if_some w o).after
-      by None = none
-      by (Some k) = closed k w none
+      responded k has_byte connected.response (close_client_if_some w connected.older).after
+      (closed_if_some connected.older w none)
 
   session_asked : (k : ℕ) (has_byte : Bool) (w : World) (response : SessionResponse) → NoneWait w
       → NoneWait (ask_for_session k has_byte w response).after
   session_asked k has_byte w response none =
-      either (is_some (connecting_to w.clients.pending response.session_id))
-      (send_connect_response k has_byte refusal_response w) _ (responded k has_byte refusal_response w none) none
+      either (is_some (connecting_to w.clients.pending response.session_id)) (refuse_connect k has_byte w) _
+      (responded k has_byte refusal_response w none) none
+
+  others_closed : (session : ℤ) (w : World) → NoneWait w → NoneWait (close_others session w).after
+  others_closed session w none =
+      let v = (close_client_if_some w (connection_of w.clients.sessions session)).after in
+      closed_if_some (connecting_to v.clients.pending session) v
+      (closed_if_some (connection_of w.clients.sessions session) w none)
+
+  claimed : (k : ℕ) (has_byte : Bool) (w : World) (o : Option SessionResponse) → NoneWait w
+      → NoneWait (claim_or_refuse k has_byte w o).after
+  claimed k has_byte w None none = responded k has_byte refusal_response w none
+  claimed k has_byte w (Some response) none = others_closed response.session_id w none
 
   connected : (serving : Bool) (k : ℕ) (w : World) (r : Result Connecting Fault) → NoneWait w
       → NoneWait (handle_connect serving k w r).after
@@ -117,12 +128,15 @@ module _ (n : ℕ) where
   connected serving k w (Ok c) none =
       let got = connect_session w.clients.sessions k (is_live c.request.session_id w) (session_request_of c.request) in
       let v = with_sessions w got.after in
-      either (may_connect serving w c.request) (finish_connect k w c got) (close_client k w)
+      let claim = claimed_session w.clients.sessions (session_request_of c.request) in
+      either (may_connect serving w c.request) (connect_client k w c) (close_client k w)
+      (either (is_claim w c.request) (claim_or_refuse k c.has_byte w claim) (finish_connect k w c got)
+      (claimed k c.has_byte w claim none)
       (either (is_new_session c.request got.connected.response)
       (ask_for_session k c.has_byte v got.connected.response)
       (answer_connect k c.has_byte (touch_client k v) got.connected)
       (session_asked k c.has_byte v got.connected.response none)
-      (answered k c.has_byte (touch_client k v) got.connected (touched k v none)))
+      (answered k c.has_byte (touch_client k v) got.connected (touched k v none))))
       (closed k w none)
 
   held : (k : ℕ) (w : World) (frame : List ℕ) (h : StepResult World) → NoneWait w → NoneWait h.after
@@ -204,7 +218,7 @@ module _ (n : ℕ) where
       by : (v : World) (o : Option ℤ) → NoneWait v → NoneWait (serve_by serving k v frame o).after
       by v None none = held k v frame (handle_connect serving k v (connecting_in frame)) none
           (connected serving k v (connecting_in frame) none)
-      by v (Some session) none = read_as k session v frame (call_in frame) none
+      by v (Some session) none = read_as k session v frame (call_of v frame) none
 
   none_if_heard : (serving : Bool) (k : ℕ) (frame : List ℕ) (w : World) → NoneWait w
       → NoneWait (serve_if_heard serving k frame w).after

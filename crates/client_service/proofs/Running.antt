@@ -20,7 +20,6 @@ use Rattle.read_processor.specs.declared.shown.Look.{Look}
 use Rattle.read_processor.specs.Look.{look_at_state}
 use Rattle.read_processor.specs.Watch.{watch_of}
 use Rattle.read_processor.specs.Reply.{reply_frame}
-use Rattle.client_frames.specs.Call.{call_in}
 use Rattle.client_frames.specs.declared.call.Call.{Call}
 use Rattle.client_frames.specs.declared.call.CallBody.TheVariants as bodies
 use Rattle.client_frames.specs.declared.call.LocalCall.TheVariants as locals
@@ -29,11 +28,13 @@ use Rattle.forwarding.specs.Pending.{queue_in, is_idle, hold_frame}
 use Rattle.replica.specs.Replica.{Replica}
 use Rattle.values.specs.declared.fault.NoMemory.{NoMemory}
 use Rattle.world.specs.declared.output.Output.{Output}
+use Rattle.client_frames.specs.Call.{call_in}
+use Rattle.world.specs.declared.world.Settings.{Settings}
 use Rattle.world.specs.World.{OpenConnection, OpenConnections, World}
 use Rattle.world.specs.Steps.{StepResult, prepend_outputs, no_output, and_then}
 use Rattle.world.specs.Clients.{is_open, heard_in, heard_connection, is_heard, without_client}
 use Rattle.world.specs.Sending.{close_client, send_or_close, with_watches, send_reply, with_pending}
-use Rattle.client_service.specs.Serve.{with_watch_if, answer_read, touch_client, header_len, is_refused_frame, serve_by, serve_as, serve_frame, serve_all, wait_if_heard, wait_at, word_without_session, word_at, tell_or_serve, take_client_bytes, frames_of_client}
+use Rattle.client_service.specs.Serve.{with_watch_if, answer_read, touch_client, call_of, header_len, is_refused_frame, serve_by, serve_as, serve_frame, serve_all, wait_if_heard, wait_at, word_without_session, word_at, tell_or_serve, take_client_bytes, frames_of_client}
 use Rattle.world.specs.Clients.{rest_at, with_rest}
 use Rattle.client_service.specs.Inner.{world_with_rest, stage_with_rest, call_of_session, session_call, read_of_session, IsReadIn, close_if_heard, tell_if_heard}
 use Rattle.client_service.specs.declared.request.SessionCall.{SessionCall}
@@ -55,6 +56,7 @@ absent false o none = none
 -- Answers leave the replica, and of each connection that is still open its waiting bytes, its ids, its session and its
 -- requests.
 pub record IsKept (v w : World) : Type 0 where
+  pub settings : v.settings ≡ w.settings
   pub replica : v.replica ≡ w.replica
   pub connections : (k : ℕ) → is_open k v.clients ≡ true
       → finmap.get v.clients.connections k ≡ finmap.get w.clients.connections k
@@ -67,6 +69,7 @@ module _ (stay : OtherConnectionsStay) where
   closed_kept : (n : ℕ) (v w : World) (ws : WatchTables) → IsKept v w
       → IsKept (record v { clients = without_client n (record v.clients { watches = ws }) }) w
   closed_kept n v w ws kept = record {
+    settings = kept.settings;
     replica = kept.replica;
     connections = λ k here.
         let stays = get-kept v.clients.connections n k (other k here) in
@@ -88,6 +91,7 @@ module _ (stay : OtherConnectionsStay) where
       → IsKept (send_or_close n (with_watches v ws) frame).after w
   sent_kept n v w ws None kept = closed_kept n v w ws kept
   sent_kept n v w ws (Some bytes) kept = record {
+    settings = kept.settings;
     replica = kept.replica;
     connections = kept.connections;
     sessions = kept.sessions;
@@ -96,6 +100,7 @@ module _ (stay : OtherConnectionsStay) where
 
   touched_kept : (n : ℕ) (v w : World) → IsKept v w → IsKept (touch_client n v) w
   touched_kept n v w kept = subst (λ (u : World). IsKept u w) (sym (touch_is n v)) (record {
+    settings = kept.settings;
     replica = kept.replica;
     connections = kept.connections;
     sessions = kept.sessions;
@@ -157,6 +162,7 @@ module _ (stay : OtherConnectionsStay) where
 
 pub kept_itself : (w : World) → IsKept w w
 kept_itself w = record {
+  settings = refl;
   replica = refl;
   connections = λ k here. refl;
   sessions = λ k here. refl;
@@ -170,11 +176,14 @@ pub call_kept : OtherConnectionsStay → (n : ℕ) (frame : List ℕ) (asked : L
     → request ≡ session_call n new.after frame
 call_kept stay n frame asked old new request made is heard =
     let after : (answer_all_asked asked old.after).after ≡ new.after = ap (λ (h : StepResult World). h.after) made in
+    let kept = answered_kept stay asked old.after old.after (kept_itself old.after) in
+    let there = open_if (finmap.get (answer_all_asked asked old.after).after.clients.connections n)
+    (ap (λ (u : World). is_heard n u.clients) after ∙ heard) in
     is
-    ∙ sym (ap (λ (o : Option ConnectedClient). call_of_session frame (session_in o))
-    ((answered_kept stay asked old.after old.after (kept_itself old.after)).sessions n
-    (open_if (finmap.get (answer_all_asked asked old.after).after.clients.connections n)
-    (ap (λ (u : World). is_heard n u.clients) after ∙ heard))))
+    ∙ sym (ap (λ (o : Option ConnectedClient). call_of_session (call_of old.after frame) (session_in o))
+    (kept.sessions n there))
+    ∙ sym (ap (λ (settings : Settings). call_of_session (call_in settings.dialect frame)
+    (session_of_connection (answer_all_asked asked old.after).after.clients.sessions n)) kept.settings)
     ∙ ap (λ (u : World). session_call n u frame) after
   where
     open_if : (o : Option OpenConnection) → is_some (heard_in o) ≡ true → is_some o ≡ true
@@ -404,7 +413,7 @@ module _ (serving : Bool) (frame : List ℕ) where
   -- The frame of a read is served by answering it, if its connection has a session and no request.
   read_served : (u : World) (a : AskedRead) (session : ℤ) → finmap.get u.clients.pending.queues a.number ≡ None
       → session_of_connection u.clients.sessions a.number ≡ Some session
-      → call_in frame ≡ Ok (record { xid = a.xid; body = bodies.Local (locals.Read a.request) })
+      → call_of u frame ≡ Ok (record { xid = a.xid; body = bodies.Local (locals.Read a.request) })
       → serve_frame serving a.number u frame ≡ answer_read a.number (touch_client a.number u) a.xid a.request
   read_served u a session none joined reads =
       ap serve_on (touch_is a.number u)
@@ -416,7 +425,7 @@ module _ (serving : Bool) (frame : List ℕ) where
       if b
       then close_client a.number v
       else serve_by serving a.number v frame (session_of_connection v.clients.sessions a.number))
-      (has_header frame (record { xid = a.xid; body = bodies.Local (locals.Read a.request) }) reads)
+      (has_header u.settings.dialect frame (record { xid = a.xid; body = bodies.Local (locals.Read a.request) }) reads)
       ∙ ap (serve_by serving a.number v frame) joined
       ∙ ap (serve_as a.number session v frame) reads
       ∙ ap (λ (o : Option RequestQueue).
@@ -438,7 +447,7 @@ module _ (serving : Bool) (frame : List ℕ) where
   pub read_waits : OtherConnectionsStay → (asked : List AskedRead) (w : World) (a : AskedRead) (session : ℤ)
       → is_heard a.number w.clients ≡ true
       → session_of_connection w.clients.sessions a.number ≡ Some session → is_idle w.clients.pending a.number ≡ true
-      → call_in frame ≡ Ok (record { xid = a.xid; body = bodies.Local (locals.Read a.request) })
+      → call_of w frame ≡ Ok (record { xid = a.xid; body = bodies.Local (locals.Read a.request) })
       → and_then (answer_all_asked asked w) (serve_if_heard serving a.number frame)
       ≡ answer_all_asked (asked ++ a ∷ []) w
   read_waits stay asked w a session heard joined idle reads =
@@ -461,7 +470,8 @@ module _ (serving : Bool) (frame : List ℕ) where
           (ap (λ (o : Option OpenConnection). is_some (heard_in o)) (kept.connections a.number here) ∙ heard)
           ∙ read_served u a session
           (kept.pending a.number here ∙ none_idle (finmap.get w.clients.pending.queues a.number) idle)
-          (ap session_in (kept.sessions a.number here) ∙ joined) reads
+          (ap session_in (kept.sessions a.number here) ∙ joined)
+          (ap (λ (settings : Settings). call_in settings.dialect frame) kept.settings ∙ reads)
       by false closed =
           ap (λ (o : Option OpenConnection). cond (is_some (heard_in o)) (serve_frame serving a.number u frame) (no_output u))
           (none_of (finmap.get u.clients.connections a.number) closed)
@@ -471,7 +481,7 @@ module _ (serving : Bool) (frame : List ℕ) where
       (others : Items (Unit {0}) (List ℕ)) → is_heard a.number w.clients ≡ true
       → session_of_connection w.clients.sessions a.number ≡ Some session
       → is_idle w.clients.pending a.number ≡ true
-      → call_in frame ≡ Ok (record { xid = a.xid; body = bodies.Local (locals.Read a.request) })
+      → call_of w frame ≡ Ok (record { xid = a.xid; body = bodies.Local (locals.Read a.request) })
       → and_then (answer_all_asked asked w) (λ u. serve_all serving a.number u (with_first frame others))
       ≡ and_then (answer_all_asked (asked ++ a ∷ []) w) (λ u. serve_all serving a.number u others)
   frame_waits stay asked w a session others heard joined idle reads =
@@ -490,11 +500,10 @@ runs_are_reads stay = record {
 }
 
 -- A call of a session is that of the frame, and the session is the connection's.
-asked_in : (o : Option ℤ) (frame : List ℕ) (read : Result Call Fault)
-    → read_of_session (call_of_session frame o) ≡ Some read
-    → (session : ℤ) × ((o ≡ Some session) × (call_in frame ≡ read))
-asked_in None frame read e = absurd (true≢false (sym (ap is_some e)))
-asked_in (Some s) frame read e = (s, (refl, ap (λ (o : Option (Result Call Fault)). unwrap_or o read) e))
+asked_in : (o : Option ℤ) (call read : Result Call Fault) → read_of_session (call_of_session call o) ≡ Some read
+    → (session : ℤ) × ((o ≡ Some session) × (call ≡ read))
+asked_in None call read e = absurd (true≢false (sym (ap is_some e)))
+asked_in (Some s) call read e = (s, (refl, ap (λ (o : Option (Result Call Fault)). unwrap_or o read) e))
 
 -- The read of a frame was gathered.
 pub gathered : OtherConnectionsStay → (serving : Bool) (n : ℕ) (frame : List ℕ) (h : StepResult World)
@@ -502,7 +511,7 @@ pub gathered : OtherConnectionsStay → (serving : Bool) (n : ℕ) (frame : List
     → is_heard n h.after.clients ≡ true → request ≡ session_call n h.after frame → IsReadIn n h.after request read
     → left ≡ asked ++ read ∷ [] → MakesOwing (Ok tt) h asked (serve_if_heard serving n frame) h left
 gathered stay serving n frame h asked request read left heard is reads added =
-    let asks = asked_in (session_of_connection h.after.clients.sessions n) frame _
+    let asks = asked_in (session_of_connection h.after.clients.sessions n) (call_of h.after frame) _
     (ap read_of_session (sym is) ∙ reads.asked) in
     same_left _ _ _ _ _
     (ap (λ (k : ℕ). and_then (answer_all_asked asked h.after) (serve_if_heard serving k frame)) (sym reads.number)

@@ -4,7 +4,9 @@ use Rattle.std.specs.List.{list_any, starts_with}
 use Rattle.std.specs.FinMap as finmap
 use Rattle.jute.specs.declared.owned.Id.{Id}
 use Rattle.jute.specs.declared.codes.TheConstants.{BAD_ARGUMENTS, NO_NODE, NO_AUTH}
-use Rattle.client_records.specs.Responses.{path_response}
+use Rattle.client_records.specs.declared.kind.ReadKind.{ReadKind}
+use Rattle.client_records.specs.Responses.{path_response, create2_response}
+use Rattle.node_map.specs.Stats.{stat_of}
 use Rattle.node_map.specs.declared.node.Node.{Node}
 use Rattle.data_tree.specs.State.{State}
 use Rattle.read_processor.specs.Kinds.{read_row, reply_body}
@@ -28,12 +30,20 @@ shown_look body = record { error = pos 0; body = fitting_body body }
 abbrev pub look_of_path : List ℕ → Look
 look_of_path path = shown_look (path_response.written (record { path = Some path }))
 
+-- The path and the Stat of a new node, which answer a create2 (Create2Response of zookeeper.jute).
+abbrev pub look_of_created : List ℕ → Node → Look
+look_of_created path node = shown_look (create2_response.written (record { path = Some path; stat = stat_of node }))
+
+-- What a read of this kind shows of a node, whoever asks.
+abbrev pub look_of_node : ReadKind → Node → Look
+look_of_node kind node = shown_look (reply_body kind node)
+
 abbrev pub look_at_node : List Id → Request → Option Node → Look
 look_at_node ids request None = without_body NO_NODE
 look_at_node ids request (Some node) =
     if (read_row request.kind).needs_read && not (may_read ids node.acl)
     then without_body NO_AUTH
-    else shown_look (reply_body request.kind node)
+    else look_of_node request.kind node
 
 abbrev pub look_at_path : State → List Id → Request → Option (List ℕ) → Look
 look_at_path s ids request None = without_body BAD_ARGUMENTS

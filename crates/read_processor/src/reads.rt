@@ -4,7 +4,7 @@ ghost use Rattle.std.specs.Prelude.{◌≡◌, ◌&&◌, IfOk};
 ghost use Rattle.std.specs.Option.{option_copied};
 ghost use Rattle.read_processor.specs.Look.{look_at_state, look_at_node, is_request_path};
 
-use crate::kinds::{body_of, read_row};
+use crate::kinds::read_row;
 use crate::permissions::may_read;
 use crate::request::Request;
 use crate::shown::Look;
@@ -36,8 +36,7 @@ fn look_at_node(
     if read_row(request.kind).needs_read && !may_read(ids, &node.acl) {
         return Look::without_body(alloc, NO_AUTH);
     }
-    let body = body_of(alloc, request.kind, node)?;
-    Ok(Look { error: 0, body })
+    Look::of_node(alloc, request.kind, node)
 }
 
 /// The answer to a read by a client with these ids. Fails only if an allocation is refused.

@@ -2,12 +2,14 @@
 
 ghost use Rattle.std.specs.Prelude.{◌≡◌, IfOk};
 ghost use Rattle.read_processor.specs.Events.{look_of_event};
-ghost use Rattle.read_processor.specs.Look.{without_body, look_of_path};
+ghost use Rattle.read_processor.specs.Look.{without_body, look_of_path, look_of_created, look_of_node};
 ghost use Rattle.read_processor.specs.Reply.{reply_frame};
 
 use crate::body::{BODY_LIMIT, Body};
+use crate::kinds::body_of;
 use client_records::codes::{OK, SYNC_CONNECTED};
-use client_records::{PathResponse, WatcherEvent};
+use client_records::{Create2Response, PathResponse, ReadKind, WatcherEvent};
+use data_tree::Node;
 use jute::ReplyHeader;
 use std::alloc::Global;
 use values::{Blob, NoMemory, Str};
@@ -50,6 +52,34 @@ impl Look {
                 path: Some(Str::new(path)),
             },
         )?;
+        Ok(Look { error: OK, body })
+    }
+
+    /// The path and the Stat of a new node, which answer a create2. Fails only if an allocation is refused.
+    pub fn of_created(alloc: Global, path: &str, node: &Node) -> Result<Look, NoMemory>
+        ensures { IfOk result (λ look. look ≡ look_of_created path.now node.now) }
+    {
+        if path.len() > BODY_LIMIT {
+            return Ok(Look {
+                error: OK,
+                body: None,
+            });
+        }
+        let body = Body::of(
+            alloc,
+            &Create2Response {
+                path: Some(Str::new(path)),
+                stat: node.shown(),
+            },
+        )?;
+        Ok(Look { error: OK, body })
+    }
+
+    /// What a read of this kind shows of a node, whoever asks. Fails only if an allocation is refused.
+    pub fn of_node(alloc: Global, kind: ReadKind, node: &Node) -> Result<Look, NoMemory>
+        ensures { IfOk result (λ look. look ≡ look_of_node kind node.now) }
+    {
+        let body = body_of(alloc, kind, node)?;
         Ok(Look { error: OK, body })
     }
 
