@@ -2,7 +2,7 @@
 
 ghost use Rattle.std.specs.Prelude.{◌≡◌, ℕ, [], OnOk, OnErr, IfOk, IfSome, IsTrue, None, true, false, drop};
 ghost use Rattle.std.specs.FinMap as finmap;
-ghost use Rattle.forwarding.specs.Queue.{found_write, OldestWriteIsAt};
+ghost use Rattle.forwarding.specs.Queue.{found_write, OldestWriteIsAt, waiting_connect};
 ghost use Rattle.forwarding.specs.Pending.{nothing_pending, queue_of, has_no_request, is_idle, is_full, means_idle, means_full, push_connect, push_write, push_sync, hold_frame, remove_write, pending_close, settle_sync, take_ready, take_connect, connecting_to, awaiting, drop_connection, without_connect, touch_session, take_touched, touched_limit};
 ghost use Rattle.forwarding.specs.Agreement.{PendingAgrees};
 
@@ -126,6 +126,13 @@ impl Pending {
         ensures only { IfSome result (λ n. connecting_to (drop_connection self.now n) session ≡ None) }
     {
         self.connects.get(session)
+    }
+
+    /// The connect of the connection, if it waits for a session.
+    pub fn waiting_connect(&self, number: u64) -> Option<PendingConnect>
+        ensures { result ≡ waiting_connect (queue_of self.now number) }
+    {
+        self.queues.connect(number)
     }
 
     /// The connection whose connect asks for the session in this way.

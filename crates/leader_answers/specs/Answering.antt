@@ -28,7 +28,7 @@ use Rattle.forwarding.specs.declared.request.Ready.{Ready}
 use Rattle.forwarding.specs.declared.request.Ready.TheVariants.{SettledSync, HeldFrame}
 use Rattle.forwarding.specs.declared.request.Settled.{Settled}
 use Rattle.forwarding.specs.declared.request.Settled.TheVariants.{NoSync, Gone, Of}
-use Rattle.forwarding.specs.Queue.{pending_limit, found_write}
+use Rattle.forwarding.specs.Queue.{pending_limit, found_write, waiting_connect}
 use Rattle.forwarding.specs.Pending.{queue_of, is_full, take_ready, answer_write, pending_close, settle_sync, take_connect, awaiting, take_touched}
 use Rattle.world.specs.World.{Clients, World}
 use Rattle.world.specs.Timeouts.{known_timeout}
@@ -161,15 +161,13 @@ admit_client n w =
 
 -- ---- a session that a client claims
 
--- The connect leaves, and is refused.
+-- The connect that waits is refused.
 abbrev pub refuse_as : ℕ → World → Option PendingConnect → StepResult World
 refuse_as n w None = no_output w
 refuse_as n w (Some connect) = refuse_connect n connect.has_read_only w
 
 abbrev pub refuse_client : ℕ → World → StepResult World
-refuse_client n w =
-    let taken = take_connect w.clients.pending n in
-    refuse_as n (with_pending w taken.after) taken.connect
+refuse_client n w = refuse_as n w (waiting_connect (queue_of w.clients.pending n))
 
 abbrev pub answer_claim : World → Option ℕ → Bool → StepResult World
 answer_claim w None lives = no_output w

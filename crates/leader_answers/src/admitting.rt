@@ -122,9 +122,8 @@ pub(crate) fn admit_client(alloc: Global, number: u64, stage: &mut Stage) -> Res
 fn refuse_client(alloc: Global, number: u64, stage: &mut Stage) -> Result<(), NoMemory>
     ensures { MakesStep result stage.old (refuse_client number) stage.new }
 {
-    let taken = take_connect(alloc, number, &mut stage.world)?;
-    match &taken.connect {
-        None => Ok(()),
+    match stage.world.clients.pending.waiting_connect(number) {
+        None => return Ok(()),
         Some(connect) => refuse_connect(alloc, number, connect.has_read_only, stage),
     }
 }
