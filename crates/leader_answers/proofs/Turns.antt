@@ -13,14 +13,15 @@ use Rattle.read_processor.specs.Reply.{reply_frame}
 use Rattle.forwarding.specs.declared.request.Ready.{Ready}
 use Rattle.forwarding.specs.declared.request.AnsweredWrite.{AnsweredWrite}
 use Rattle.forwarding.specs.Queue.{RequestQueue, found_write, OldestWriteIsAt, without_oldest_write, after_answer}
-use Rattle.forwarding.specs.Pending.{queue_of, put_queue, take_ready, remove_write, connecting_to}
+use Rattle.forwarding.specs.declared.request.ConnectKind.TheVariants.{New}
+use Rattle.forwarding.specs.Pending.{queue_of, put_queue, take_ready, remove_write, awaiting}
 use Rattle.forwarding.proofs.Queued.{found_is}
 use Rattle.world.specs.World.{Clients, World}
 use Rattle.world.specs.Steps.{StepResult, no_output, and_then}
 use Rattle.world.specs.Sending.{with_pending, send_or_close}
 use Rattle.leader_answers.specs.declared.due.Due.{Due}
 use Rattle.leader_answers.specs.declared.due.Due.TheVariants.{Nothing, Admission, Ending, Reply}
-use Rattle.leader_answers.specs.Answering.{answer_ready, answer_if_ready, answer_up_to, answer_front, txn_number, admission_of, ending_of, reply_as, reply_of, due_by, answer_due, give_answer, due_of, due_in_log, answer_optional_txn, answer_applied_txn}
+use Rattle.leader_answers.specs.Answering.{answer_ready, answer_if_ready, answer_up_to, answer_front, txn_number, admission_of, connection_with, ending_of, reply_as, reply_of, due_by, answer_due, give_answer, due_of, due_in_log, answer_optional_txn, answer_applied_txn}
 use Rattle.write_replies.specs.Replies.{write_look}
 
 -- The world after the request in front was taken.
@@ -113,8 +114,8 @@ reply_is c t n write e = by (session_change t.body) e
 
     by : (change : SessionChange) → Reply n write ≡ due_by c t change
         → found_write (queue_of c.pending n) t.header.cxid (txn_number t) ≡ Some write
-    by (changes.Begins time_out) e = admitted (connecting_to c.pending t.header.client_id) e
-    by changes.Ends e = ended (connection_of c.sessions t.header.client_id) e
+    by (changes.Begins time_out) e = admitted (awaiting c.pending t.header.client_id New) e
+    by changes.Ends e = ended (connection_with c t.header.client_id) e
     by changes.Nothing e = replied (connection_of c.sessions t.header.client_id) e
 
 module _ (w : World) (place : ℕ) (err : ℤ) (t : Txn) (at : Some t ≡ slice_get w.replica.learner.log place) (n : ℕ)
@@ -128,16 +129,23 @@ module _ (w : World) (place : ℕ) (err : ℤ) (t : Txn) (at : Some t ≡ slice_
   pub write_is_at : OldestWriteIsAt (queue_of w.clients.pending n) write.place
   write_is_at = found.0
 
+  -- The write is refused since the session has moved.
+  pub moved_write : has_moved w err ≡ true → answer_applied_txn w place err ≡ close_client n w
+  moved_write moved =
+      of_due w place err t at (Reply n write) is
+      ∙ ap (λ (b : Bool). if b then close_client n w else send_write_reply n w t err write.kind) moved
+
   -- The write is answered, and then what waited only for it.
-  pub one_write : (seen : Look) → seen ≡ write_look w.replica.tree write.kind t.body err
+  pub one_write : has_moved w err ≡ false → (seen : Look) → seen ≡ write_look w.replica.tree write.kind t.body err
       → answer_applied_txn w place err ≡ and_then
       (send_or_close n (with_pending w (remove_write w.clients.pending n))
       (reply_frame t.header.cxid t.header.zxid seen)) (answer_front n)
-  one_write seen looks =
+  one_write here seen looks =
       let answered : RequestQueue → Look → StepResult World =
       λ (q : RequestQueue) (l : Look). and_then
       (send_or_close n (with_pending w (put_queue w.clients.pending n q))
       (reply_frame t.header.cxid t.header.zxid l)) (answer_front n) in
       of_due w place err t at (Reply n write) is
+      ∙ ap (λ (b : Bool). if b then close_client n w else send_write_reply n w t err write.kind) here
       ∙ ap (answered (after_answer (queue_of w.clients.pending n) t.header.cxid (txn_number t))) (sym looks)
       ∙ ap (λ (q : RequestQueue). answered q seen) found.1

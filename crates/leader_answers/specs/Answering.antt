@@ -123,14 +123,16 @@ lets_answer c t = is_due (answer_due c t)
 abbrev pub has_moved : World → ℤ → Bool
 has_moved w err = (reads_of w.settings.dialect).moved_sessions && int_eq err SESSION_MOVED
 
--- The reply has the zxid of the transaction. The requests that waited only for this write are answered after it. Where
--- the session has moved there is no reply, and the connection closes.
-abbrev pub answer_write_as : ℕ → World → Txn → ℤ → WriteKind → StepResult World
-answer_write_as n w t err kind =
-    if has_moved w err then close_client n w else
+-- The reply has the zxid of the transaction. The requests that waited only for this write are answered after it.
+abbrev pub send_write_reply : ℕ → World → Txn → ℤ → WriteKind → StepResult World
+send_write_reply n w t err kind =
     let v = with_pending w (answer_write w.clients.pending n t.header.cxid (txn_number t)).after in
     let seen = write_look w.replica.tree kind t.body err in
     and_then (send_or_close n v (reply_frame t.header.cxid t.header.zxid seen)) (answer_front n)
+
+-- Where the session has moved there is no reply, and the connection closes.
+abbrev pub answer_write_as : ℕ → World → Txn → ℤ → WriteKind → StepResult World
+answer_write_as n w t err kind = if has_moved w err then close_client n w else send_write_reply n w t err kind
 
 -- ---- a session that was created
 

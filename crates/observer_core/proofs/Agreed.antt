@@ -21,7 +21,7 @@ use Rattle.watch_manager.specs.Laws.{AllPass, AllLastingPass}
 use Rattle.world.specs.declared.world.Settings.{Settings}
 use Rattle.world.specs.World.{OpenConnection, World}
 use Rattle.world.specs.Steps.{no_output}
-use Rattle.world.specs.Clients.{idle_connection, is_open, with_connection, no_clients, heard_connection}
+use Rattle.world.specs.Clients.{idle_connection, is_open, with_connection, passwords_of, no_clients, heard_connection}
 use Rattle.world.specs.Sending.{with_sessions, with_pending, close_client_if_some}
 use Rattle.client_service.specs.Serve.{take_client_bytes}
 use Rattle.world.proofs.NatMaps.{get-inserted}
@@ -96,6 +96,8 @@ module _ (laws : LowerLaws) where
     counts = λ w none a. tt;
     gives = λ w session time_out free may a. tt;
     asks = λ w time_out has_byte none idle a b. tt;
+    displaces = λ w session k with a. tt;
+    claims = λ w has_byte response move none idle a. tt;
     may = λ w session live. tt;
   }
 
@@ -160,7 +162,8 @@ module _ (laws : LowerLaws) where
       → IsTrue (is_first_counter settings.first_counter) → ClientsAgree (no_clients settings)
   nobody_agrees settings fits begins = record {
     sessions = laws.kept.starts
-        (session_settings_of settings.server_id settings.timeouts settings.secret settings.first_counter) fits begins;
+        (session_settings_of settings.server_id settings.timeouts (passwords_of settings.dialect settings.secret)
+        settings.first_counter) fits begins;
     joined = λ n has. absurd (true≢false (sym has ∙ ap is_some (finmap.get-empty nat_cmp n)));
     watching = (none, none, none_lasting);
     pending = laws.queued.starts;

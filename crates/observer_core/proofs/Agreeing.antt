@@ -1,6 +1,6 @@
 -- No small step ends the agreement: sessions, watches and waiting requests name open connections, no two connections
 -- have one session, and a connection whose connect waits has none.
-use Rattle.std.proofs.Common.{◌≡◌, ◌≢◌, ℕ, ◌+◌, ◌==◌, ℤ, pos, Bool, true, false, cond, not, ◌||◌, List, [], ◌∷◌, ◌++◌, Option, Some, None, refl, sym, ap, subst, ◌∙◌}
+use Rattle.std.proofs.Common.{◌≡◌, ◌≢◌, inl, inr, ℕ, ◌+◌, ◌==◌, ℤ, pos, Bool, true, false, cond, not, ◌||◌, List, [], ◌∷◌, ◌++◌, Option, Some, None, refl, sym, ap, subst, ◌∙◌}
 use Rattle.std.specs.Prelude.{is_some}
 use Rattle.std.specs.Option.{unwrap_or}
 use Rattle.std.specs.Ordering.{eq_by_cmp, nat_cmp, int_cmp}
@@ -29,9 +29,10 @@ use Rattle.world.specs.Clients.{is_open, with_connection, without_client, withou
 use Rattle.world.specs.Sending.{with_watches, with_sessions, with_pending, close_client_if_some}
 use Rattle.client_service.specs.Serve.{with_watch}
 use Rattle.observer_core.specs.Agreement.{ClientsAgree, OneSessionEach}
-use Rattle.observer_core.proofs.Walking.{IsOpen, HasNone, NoConnect, IsGround, given, asked_for}
-use Rattle.observer_core.proofs.Answered.{unqueued}
-use Rattle.observer_core.proofs.Passing.{KeysPass, inserted_passes, removed_passes, closed_passes, one_closed_passes, auth_passes, given_passes, auth_none, closed_none, given_none, put_passes, settled_passes, watchers_pass, watched_passes}
+use Rattle.forwarding.proofs.Dropping.{none_waits as none_waits_then}
+use Rattle.observer_core.proofs.Walking.{IsOpen, HasNone, NoConnect, IsWith, IsGround, given, with_connect}
+use Rattle.observer_core.proofs.Answered.{unqueued, waits_busy}
+use Rattle.observer_core.proofs.Passing.{KeysPass, inserted_passes, removed_passes, closed_passes, one_closed_passes, auth_passes, given_passes, auth_none, closed_none, given_none, fewer_without, put_passes, settled_passes, watchers_pass, watched_passes}
 
 abbrev pub Agreeing : World → Type 0
 Agreeing w = ClientsAgree w.clients
@@ -96,14 +97,7 @@ unjoined c a session n e = let f = a.pending.in_front session n e in a.connectin
 
 unjoined_without : (s : Sessions) (connects : WaitingConnects) (o : Option PendingConnect) → Unjoined s connects
     → Unjoined s (without_connect connects o)
-unjoined_without s connects None all session n e = all session n e
-unjoined_without s connects (Some c) all session n e =
-    all session n (was_there (eq_by_cmp int_cmp session c.session) (finmap.get connects session)
-    (sym (finmap.get-remove int_cmp_total connects c.session session) ∙ e))
-  where
-    was_there : (b : Bool) (o : Option ℕ) → cond b None o ≡ Some n → o ≡ Some n
-    was_there true o e = absurd (true≢false (sym (ap is_some e)))
-    was_there false o e = e
+unjoined_without s connects o all session n e = all session n (fewer_without connects o session n e)
 
 pub pending_agrees : (w : World) (p : PendingTable) → PendingAgrees p → KeysPass (λ m. is_open m w.clients) p.queues
     → Unjoined w.clients.sessions p.connects → Agreeing w → Agreeing (with_pending w p)
@@ -291,30 +285,43 @@ module _ (laws : LowerLaws) where
             true≢false (sym (ap is_some e) ∙ ap (λ (k : ℕ). is_some (waiting_connect (queue_of w.clients.pending k))) same
             ∙ ap is_some free)
 
-    asked_agrees : (w : World) (session time_out : ℤ) (has_byte : Bool) → HasNone n w
-        → is_idle w.clients.pending n ≡ true → connecting_to w.clients.pending session ≡ None → IsOpen n w → Agreeing w
-        → Agreeing (asked_for n w session time_out has_byte).after
-    asked_agrees w session time_out has_byte none idle free here a =
+    asked_agrees : (w : World) (connect : PendingConnect) → HasNone n w → is_idle w.clients.pending n ≡ true
+        → connecting_to w.clients.pending connect.session ≡ None → IsOpen n w → Agreeing w
+        → Agreeing (with_connect n w connect)
+    asked_agrees w connect none idle free here a =
         let p = w.clients.pending in
         pending_agrees w (push_connect p n connect) (laws.queued.pushes_connect p n connect a.pending idle free)
         (inserted_passes (λ m. is_open m w.clients) p.queues n (queue_of p n ++ Connect connect ∷ []) here
         (waiters w.clients a)) all a
       where
-        connect : PendingConnect
-        connect = record { session = session; time_out = time_out; has_read_only = has_byte }
-
         all : Unjoined w.clients.sessions (push_connect w.clients.pending n connect).connects
         all other m e =
-            by (eq_by_cmp int_cmp other session)
-            (sym (finmap.get-insert int_cmp_total w.clients.pending.connects session n other) ∙ e)
+            by (eq_by_cmp int_cmp other connect.session)
+            (sym (finmap.get-insert int_cmp_total w.clients.pending.connects connect.session n other) ∙ e)
           where
             by : (b : Bool) → cond b (Some n) (finmap.get w.clients.pending.connects other) ≡ Some m → HasNone m w
             by true is = subst (λ (k : ℕ). HasNone k w) (ap (λ (o : Option ℕ). unwrap_or o n) is) none
             by false is = unjoined w.clients a other m is
 
+    -- A connection that has no session, and of which nothing waits, neither has this session nor waits for it.
+    other_agrees : (w : World) (session : ℤ) (k : ℕ) → Agreeing w → HasNone n w → is_idle w.clients.pending n ≡ true
+        → IsWith session k w → k ≢ n
+    other_agrees w session k a none idle (inl has) same =
+        true≢false (sym (ap is_some (owner_has w.clients.sessions session k a.sessions has))
+        ∙ ap (λ (m : ℕ). is_some (session_of_connection w.clients.sessions m)) same
+        ∙ ap (λ (o : Option SessionConnection). is_some (session_in o)) none)
+    other_agrees w session k a none idle (inr waits) same =
+        let f = a.pending.in_front session k waits in
+        true≢false (sym idle ∙ ap (is_idle w.clients.pending) (sym same) ∙ waits_busy w.clients.pending k f.0 f.1.0)
+
+    -- No two connects wait for one session.
+    alone_agrees : (w : World) (session : ℤ) (k : ℕ) → Agreeing w → connecting_to w.clients.pending session ≡ Some k
+        → connecting_to (drop_connection w.clients.pending k) session ≡ None
+    alone_agrees w session k a waits = none_waits_then w.clients.pending session a.pending (Some k) waits
+
     pub agreeing_ground : IsGround n (Unit {0}) Agreeing
     agreeing_ground = record {
-      closes = λ w a. closed_agrees n w.clients a;
+      closes = λ k w a. closed_agrees k w.clients a;
       watches = λ w watch here a.
           watches_agree w (with_watch n w.clients.watches watch)
           (watched_passes (λ m. is_open m w.clients) n (here tt) w.clients.watches watch a.watching) a;
@@ -326,8 +333,9 @@ module _ (laws : LowerLaws) where
       holds = λ w frame room busy a. held_agrees w frame room (a.waiting n busy) a;
       counts = counted_agrees;
       gives = λ w session time_out none free here a. given_agrees w session time_out (none tt) free (here tt) a;
-      asks = λ w session time_out has_byte none idle free here a.
-          asked_agrees w session time_out has_byte none idle free (here tt) a;
+      asks = λ w connect none idle free here a. asked_agrees w connect none idle (free tt) (here tt) a;
+      others = λ w session k u a none idle with. other_agrees w session k a none idle with;
+      alone = λ w session k u a waits. alone_agrees w session k a waits;
     }
 
     -- ---- answers
@@ -373,8 +381,8 @@ module _ (laws : LowerLaws) where
       same p (None ∷ rest) = refl
       same p (Some n ∷ rest) = refl
 
-  pub told_agrees : (w : World) (timeouts : finmap.FinMap int_cmp ℤ) → Agreeing w
-      → Agreeing (with_pending w (take_touched w.clients.pending timeouts).after)
-  told_agrees w timeouts a =
-      changed_agrees 0 w (take_touched w.clients.pending timeouts).after refl
-      (laws.queued.takes_touched w.clients.pending timeouts a.pending) (waiters w.clients a) a
+  pub told_agrees : (w : World) (timeout_of : ℤ → Option ℤ) → Agreeing w
+      → Agreeing (with_pending w (take_touched w.clients.pending timeout_of).after)
+  told_agrees w timeout_of a =
+      changed_agrees 0 w (take_touched w.clients.pending timeout_of).after refl
+      (laws.queued.takes_touched w.clients.pending timeout_of a.pending) (waiters w.clients a) a

@@ -1,7 +1,6 @@
 -- What a connection's small steps keep, the answers that the leader's stream brings keep.
 use Rattle.std.proofs.Common.{◌≡◌, ℕ, zero, suc, ℤ, Bool, true, false, ◌||◌, List, [], ◌∷◌, length, slice_get, Option, Some, None, Result, Ok, Err, refl, sym, ap, ◌∙◌}
 use Rattle.std.specs.Prelude.{is_some, nat_lt}
-use Rattle.std.specs.Ordering.{int_cmp}
 use Rattle.std.proofs.lemmas.Bool.{cond_both}
 use Rattle.std.specs.FinMap as finmap
 use mathlib.Core.Bool.{true≢false}
@@ -11,31 +10,32 @@ use Rattle.quorum_packet.specs.declared.packet.QuorumPacket.{QuorumPacket}
 use Rattle.client_frames.specs.declared.call.Call.{Call}
 use Rattle.client_frames.specs.declared.call.CallBody.{CallBody}
 use Rattle.client_frames.specs.declared.call.CallBody.TheVariants as bodies
-use Rattle.client_frames.specs.Call.{call_in}
 use Rattle.client_records.specs.declared.codes.TheConstants.{OK}
 use Rattle.forwarding.specs.declared.request.Ready.{Ready}
 use Rattle.forwarding.specs.declared.request.Ready.TheVariants.{SettledSync, HeldFrame}
 use Rattle.forwarding.specs.declared.request.Settled.{Settled}
 use Rattle.forwarding.specs.declared.request.Settled.TheVariants.{NoSync, Gone, Of}
+use Rattle.forwarding.specs.declared.request.ConnectKind.{ConnectKind}
+use Rattle.forwarding.specs.declared.request.ConnectKind.TheVariants.{Claimed}
 use Rattle.forwarding.specs.declared.request.PendingConnect.{PendingConnect}
 use Rattle.forwarding.specs.declared.request.WriteKind.{WriteKind}
-use Rattle.forwarding.specs.Queue.{RequestQueue, pending_limit, ready_request, waiting_connect}
+use Rattle.forwarding.specs.Queue.{RequestQueue, pending_limit, ready_request, waiting_connect, asks_as}
 use Rattle.forwarding.specs.State.{PendingTable}
-use Rattle.forwarding.specs.Pending.{queue_in, queue_of, is_idle, is_full, answer_write, pending_close, settle_sync, take_ready, take_connect_as, drop_connection, take_touched}
+use Rattle.forwarding.specs.Pending.{queue_in, queue_of, is_idle, is_full, answer_write, pending_close, settle_sync, take_ready, take_connect_as, connecting_to, awaiting_as, awaiting, drop_connection, take_touched}
 use Rattle.read_processor.specs.Look.{look_of_path, without_body}
 use Rattle.read_processor.specs.Reply.{reply_frame}
 use Rattle.replica.specs.declared.item_outcome.LeaderNews.{LeaderNews}
 use Rattle.replica.specs.declared.item_outcome.LeaderNews.TheVariants as news
 use Rattle.sessions.specs.State.{SessionTable as Sessions, ConnectedClient}
-use Rattle.sessions.specs.Sessions.{close_as, close_connection, give_session}
+use Rattle.sessions.specs.Sessions.{refusal_response, close_as, close_connection, give_session}
 use Rattle.world.specs.World.{World}
 use Rattle.world.specs.Steps.{StepResult, no_output, and_then, fold_steps}
 use Rattle.world.specs.Sending.{send_or_close, with_sessions, with_pending}
-use Rattle.client_service.specs.Serve.{send_connect_response, client_frame_limit, is_unheard}
+use Rattle.client_service.specs.Serve.{send_connect_response, call_of, client_frame_limit, is_unheard}
 use Rattle.world.proofs.NatMaps.{get-removed}
 use Rattle.leader_answers.specs.declared.due.Due.{Due}
 use Rattle.leader_answers.specs.declared.due.Due.TheVariants as dues
-use Rattle.leader_answers.specs.Answering.{handle_held, serve_held, answer_ready, answer_if_ready, answer_up_to, answer_front, txn_number, answer_due, answer_write_as, serve_next, admit_as, admit_client, close_ended, give_answer, answer_txn, answer_optional_txn, answer_settled, answer_sync, answer_ping}
+use Rattle.leader_answers.specs.Answering.{handle_held, serve_held, answer_ready, answer_if_ready, answer_up_to, answer_front, txn_number, answer_due, has_moved, send_write_reply, answer_write_as, serve_next, admit_as, admit_client, refuse_as, answer_claim, close_ended, give_answer, answer_txn, answer_optional_txn, answer_settled, answer_sync, timeout_in, answer_ping}
 use Rattle.write_replies.specs.Replies.{write_look}
 use Rattle.observer_core.specs.Leader.{answer_news}
 use Rattle.observer_core.proofs.Walking.{IsOpen, Steps, NoConnect, given, IsGround, HoldsOfReplies, HoldsOfCalls, HoldsOfConnects, Makes, first_false, idle_queue, heard_open, then_makes, stay_makes, close_makes, send_makes, send_last_makes, local_makes, serve_as_makes, greet_makes}
@@ -78,6 +78,17 @@ pub ready_busy : (p : PendingTable) (n : ℕ) (ready : Ready) → (take_ready p 
     → is_idle p n ≡ false
 ready_busy p n ready e = busy ready_request refl p n ready e
 
+-- A connect that is found by the way in which it asks waits for the session.
+pub awaits_it : (p : PendingTable) (session : ℤ) (kind : ConnectKind) (n : ℕ) → awaiting p session kind ≡ Some n
+    → connecting_to p session ≡ Some n
+awaits_it p session kind n = by (connecting_to p session)
+  where
+    by : (o : Option ℕ) → awaiting_as p kind o ≡ Some n → o ≡ Some n
+    by None e = e
+    by (Some m) e =
+        cond_both (asks_as kind (waiting_connect (queue_of p m))) (Some m) None
+        (λ (o : Option ℕ). o ≡ Some n → Some m ≡ Some n) (λ _ e. e) (λ _ e. absurd (true≢false (sym (ap is_some e)))) e
+
 -- Nothing of a dropped connection waits.
 pub dropped_queue : (p : PendingTable) (n : ℕ) → queue_of (drop_connection p n) n ≡ []
 dropped_queue p n = ap queue_in (get-removed p.queues n)
@@ -96,7 +107,7 @@ module _ (n : ℕ) (Strict : Type 0) (A : World → Type 0) (Q : Steps) (ground 
   pub ready_makes : (w : World) (ready : Ready) → (Strict → IsOpen n w) → A w → Makes A Q w (answer_ready n w ready)
   ready_makes w (SettledSync xid path) here a =
       send_makes n Strict A Q ground r w (reply_frame xid w.replica.learner.last_zxid (look_of_path path)) a
-  ready_makes w (HeldFrame frame) here a = by (call_in frame)
+  ready_makes w (HeldFrame frame) here a = by (call_of w frame)
     where
       held : (xid : ℤ) (b : CallBody) → Makes A Q w (handle_held n w xid b)
       held xid (bodies.Local c) = local_makes n Strict A Q ground r w xid c here a
@@ -107,6 +118,13 @@ module _ (n : ℕ) (Strict : Type 0) (A : World → Type 0) (Q : Steps) (ground 
       by : (c : Result Call Fault) → Makes A Q w (serve_held n w c)
       by (Ok c) = held c.xid c.body
       by (Err e) = close_makes n Strict A Q ground r w a
+
+  -- ---- a session that a client claims
+
+  -- The client that claims it is refused.
+  pub refused_makes : (w : World) (o : Option PendingConnect) → A w → Makes A Q w (refuse_as n w o)
+  refused_makes w None a = stay_makes n Strict A Q ground r w a
+  refused_makes w (Some connect) a = greet_makes n Strict A Q ground r w connect.has_read_only refusal_response a
 
   -- ---- a session that has ended
 
@@ -123,7 +141,7 @@ module _ (n : ℕ) (Strict : Type 0) (A : World → Type 0) (Q : Steps) (ground 
     next_makes session own w frame here a =
         cond_both (is_full w.clients.pending n || nat_lt client_frame_limit (length frame)) _ _ (Makes A Q w)
         (λ _. close_makes n Strict A Q ground r w a)
-        (λ room. serve_as_makes n Strict A Q ground r Own q w session frame (call_in frame) own
+        (λ room. serve_as_makes n Strict A Q ground r Own q w session frame (call_of w frame) own
         (first_false (is_full w.clients.pending n) (nat_lt client_frame_limit (length frame)) room) here a)
 
     -- The frames that were held until the connection had its session.
@@ -207,9 +225,9 @@ module _ (n : ℕ) (Strict : Type 0) (A : World → Type 0) (Q : Steps) (ground 
     pub front_makes : (w : World) → A w → Makes A Q w (answer_front n w)
     front_makes w a = up_to_makes pending_limit w a
 
-    pub write_makes : (w : World) (t : Txn) (err : ℤ) (kind : WriteKind) → A w
-        → Makes A Q w (answer_write_as n w t err kind)
-    write_makes w t err kind a =
+    replied_makes : (w : World) (t : Txn) (err : ℤ) (kind : WriteKind) → A w
+        → Makes A Q w (send_write_reply n w t err kind)
+    replied_makes w t err kind a =
         let xid = t.header.cxid in
         let v = with_pending w (answer_write w.clients.pending n xid (txn_number t)).after in
         let frame = reply_frame xid t.header.zxid (write_look w.replica.tree kind t.body err) in
@@ -219,6 +237,12 @@ module _ (n : ℕ) (Strict : Type 0) (A : World → Type 0) (Q : Steps) (ground 
         (λ b. then_makes n Strict A Q ground r v (send_or_close n v frame) (answer_front n)
         (send_makes n Strict A Q ground r v frame b) (front_makes (send_or_close n v frame).after))
 
+    pub write_makes : (w : World) (t : Txn) (err : ℤ) (kind : WriteKind) → A w
+        → Makes A Q w (answer_write_as n w t err kind)
+    write_makes w t err kind a =
+        cond_both (has_moved w err) _ _ (Makes A Q w) (λ _. close_makes n Strict A Q ground r w a)
+        (λ _. replied_makes w t err kind a)
+
 -- ---- what the leader's news answer
 
 -- A relation that holds of the steps of every connection.
@@ -226,8 +250,8 @@ pub record HoldsOfAll (Strict : Type 0) (A : World → Type 0) (Q : Steps) : Typ
   pub ground : (n : ℕ) → IsGround n Strict A
   pub answer_ground : (n : ℕ) → IsAnswerGround n Strict A
   pub settles_ground : (w : World) → A w → A (with_pending w (settle_sync w.clients.pending).after)
-  pub tells_ground : (w : World) (timeouts : finmap.FinMap int_cmp ℤ) → A w
-      → A (with_pending w (take_touched w.clients.pending timeouts).after)
+  pub tells_ground : (w : World) (timeout_of : ℤ → Option ℤ) → A w
+      → A (with_pending w (take_touched w.clients.pending timeout_of).after)
   pub replies : (n : ℕ) → HoldsOfReplies n A Q
   pub calls : (n : ℕ) → HoldsOfCalls n A (λ session. Unit {0}) Q
   pub connects : (n : ℕ) → HoldsOfConnects n A (λ session. Unit {0}) (λ w session. Unit {0}) Q
@@ -239,11 +263,14 @@ module _ (Strict : Type 0) (A : World → Type 0) (Q : Steps) (s : HoldsOfAll St
   nothing_makes : (w : World) → A w → Makes A Q w (no_output w)
   nothing_makes = stay_makes 0 Strict A Q (s.ground 0) (s.replies 0)
 
-  due_makes : (w : World) (t : Txn) (err : ℤ) (due : Due) → A w → Makes A Q w (give_answer w t err due)
-  due_makes w t err dues.Nothing a = nothing_makes w a
-  due_makes w t err (dues.Admission n) a =
+  due_admits : (w : World) (n : ℕ) → A w → Makes A Q w (admit_client n w)
+  due_admits w n a =
       admit_makes n Strict A Q (s.ground n) (s.replies n) (λ session. Unit {0}) (s.calls n) (λ w session. Unit {0})
       (s.connects n).gives (s.answer_ground n) (s.answers n).drops w (λ connect e. (tt, tt)) a
+
+  due_makes : (w : World) (t : Txn) (err : ℤ) (due : Due) → A w → Makes A Q w (give_answer w t err due)
+  due_makes w t err dues.Nothing a = nothing_makes w a
+  due_makes w t err (dues.Admission n) a = due_admits w n a
   due_makes w t err (dues.Ending n) a =
       ended_makes n Strict A Q (s.ground n) (s.replies n) w t.header.zxid (pending_close w.clients.pending n) a
   due_makes w t err (dues.Reply n write) a =
@@ -271,9 +298,18 @@ module _ (Strict : Type 0) (A : World → Type 0) (Q : Steps) (s : HoldsOfAll St
       by Gone b = nothing_makes v b
       by (Of n) b = front_makes n Strict A Q (s.ground n) (s.replies n) (s.answer_ground n) (s.answers n) v b
 
+  -- The leader has said whether the session lives that this connection claims.
+  claim_makes : (w : World) (o : Option ℕ) (lives : Bool) → A w → Makes A Q w (answer_claim w o lives)
+  claim_makes w None lives a = nothing_makes w a
+  claim_makes w (Some n) lives a =
+      cond_both lives _ _ (Makes A Q w) (λ _. due_admits w n a)
+      (λ _. refused_makes n Strict A Q (s.ground n) (s.replies n) w (waiting_connect (queue_of w.clients.pending n)) a)
+
   pub news_make : (o : Option LeaderNews) (w : World) → A w → Makes A Q w (answer_news o w)
   news_make None w a = nothing_makes w a
   news_make (Some (news.Ping ping)) w a =
-      record { keeps = s.tells_ground w w.replica.tree.sessions a; is = s.tells w ping a }
+      record { keeps = s.tells_ground w (timeout_in w) a; is = s.tells w ping a }
   news_make (Some (news.Applied place err)) w a = optional_makes w err (slice_get w.replica.learner.log place) a
   news_make (Some news.SyncSettled) w a = sync_makes w a
+  news_make (Some (news.Revalidated session lives)) w a =
+      claim_makes w (awaiting w.clients.pending session Claimed) lives a

@@ -12,6 +12,7 @@ use Rattle.sessions.specs.Agreement.{OtherConnectionsStay}
 use Rattle.sessions.specs.declared.request.SessionResponse.{SessionResponse}
 use Rattle.watch_manager.specs.Watching.{WatchTables}
 use Rattle.watch_manager.specs.Laws.{OthersKeepWatches}
+use Rattle.forwarding.specs.declared.request.PendingConnect.{PendingConnect}
 use Rattle.forwarding.specs.State.{PendingTable}
 use Rattle.forwarding.specs.Pending.{is_full, push_connect, push_write, push_sync, hold_frame, touch_session, answer_write, take_ready}
 use Rattle.forwarding.specs.Laws.{Stays, OtherQueuesStay}
@@ -24,10 +25,10 @@ use Rattle.world.specs.World.{OpenConnection, Clients, World}
 use Rattle.world.specs.Steps.{StepResult, no_output, and_then}
 use Rattle.world.specs.Clients.{idle_connection, is_open, with_connection, without_client}
 use Rattle.world.specs.Sending.{close_client, with_watches, with_sessions, close_client_if_some, with_pending}
-use Rattle.client_service.specs.Serve.{with_watch, touched_as, send_connect_response, forward_frame, serve_as, with_waiting_bytes, wait_if_heard, open_client, end_client}
-use Rattle.observer_core.specs.Apart.{ConcernsOnly, IsUntouched, IsApart}
+use Rattle.client_service.specs.Serve.{with_watch, touched_as, send_connect_response, ask_about_session, forward_frame, serve_as, with_waiting_bytes, wait_if_heard, open_client, end_client}
+use Rattle.observer_core.specs.Apart.{HasOrAsks, ConcernsOnly, IsUntouched, IsApart}
 use Rattle.world.proofs.NatMaps.{get-kept, get-beside}
-use Rattle.observer_core.proofs.Walking.{HoldsOfReplies, HoldsOfCalls, given, asked_for, serve_as_makes, greet_makes}
+use Rattle.observer_core.proofs.Walking.{HoldsOfReplies, HoldsOfCalls, given, with_connect, new_connect, claiming, asked_for, serve_as_makes, greet_makes}
 use Rattle.observer_core.proofs.Answered.{unqueued, HoldsOfAnswers}
 use Rattle.observer_core.proofs.Plain.{Always, plain_ground}
 use Rattle.observer_core.proofs.Taking.{none_or_some}
@@ -268,6 +269,12 @@ module _ (own : ℤ → Type 0) (left : ℕ → Type 0) where
     greet_apart n has_byte response w =
         (greet_makes n ⊥ Always (IsApart n own left) (plain_ground n) (replies_apart n) w has_byte response tt).is
 
+    -- A connection that may be closed closes.
+    pub left_apart : (n : ℕ) (w : World) (o : Option ℕ) → ((k : ℕ) → o ≡ Some k → left k)
+        → IsApart n own left w (close_client_if_some w o)
+    left_apart n w None may = stays_so n w
+    left_apart n w (Some k) may = close_apart n k w (inr (may k refl))
+
     pub call_in_apart : (n : ℕ) (session : ℤ) (w : World) (frame : List ℕ) (c : Result Call Fault)
         → is_full w.clients.pending n ≡ false → own session → IsApart n own left w (serve_as n session w frame c)
     call_in_apart n session w frame c room mine =
@@ -308,17 +315,31 @@ module _ (own : ℤ → Type 0) (left : ℕ → Type 0) where
                   (closed.others k other stays);
             }
 
+    connect_alone : (n : ℕ) (w : World) (connect : PendingConnect) (k : ℕ) → k ≢ n
+        → IsUntouched k w.clients (with_connect n w connect).clients
+    connect_alone n w connect k other =
+        waits_alone k w (push_connect w.clients.pending n connect)
+        (queues.pushes_connect w.clients.pending n connect k other)
+
     -- A session of the client's own is asked for.
     pub asked_apart : (n : ℕ) (w : World) (session time_out : ℤ) (has_byte : Bool) → own session
         → IsApart n own left w (asked_for n w session time_out has_byte)
     asked_apart n w session time_out has_byte mine =
-        let p = push_connect w.clients.pending n
-        (record { session = session; time_out = time_out; has_read_only = has_byte }) in
         record {
-          outputs = ((session, (mine, inr (record { time_out = time_out; is = refl }))), tt);
+          outputs = ((session, (mine, inr (inl (record { time_out = time_out; is = refl })))), tt);
           replica = refl;
-          others = λ k other stays. waits_alone k w p (queues.pushes_connect w.clients.pending n
-              (record { session = session; time_out = time_out; has_read_only = has_byte }) k other);
+          others = λ k other stays. connect_alone n w (new_connect session time_out has_byte) k other;
+        }
+
+    -- The leader is asked about one that the client claims.
+    pub claimed_apart : (n : ℕ) (w : World) (has_byte : Bool) (response : SessionResponse) → own response.session_id
+        → IsApart n own left w (ask_about_session n has_byte response w)
+    claimed_apart n w has_byte response mine =
+        record {
+          outputs = ((response.session_id, (mine, inr (inr (record { time_out = response.time_out; is = refl })))), tt);
+          replica = refl;
+          others = λ k other stays.
+              connect_alone n w (claiming response.session_id response.time_out has_byte) k other;
         }
 
     -- The connection is served after its session was touched.
@@ -387,6 +408,6 @@ wider n o u p q w h mine more a =
     each (output ∷ others) all = (one output all.0, each others all.1)
 
 -- A client without a session asks for one first. A connection that this closes had the session that the client takes
--- over.
+-- over, or waited for it.
 abbrev pub Had : World → ℤ → ℕ → Type 0
-Had w session k = session_of_connection w.clients.sessions k ≡ Some session
+Had w session k = HasOrAsks k w.clients session

@@ -1,5 +1,5 @@
 -- What a client sends affects no other connection except an older one of its session.
-use Rattle.std.proofs.Common.{◌≡◌, ◌⊎◌, inl, inr, ℕ, ◌+◌, ◌==◌, ℤ, pos, Bool, true, false, not, cond, List, [], ◌∷◌, ◌++◌, length, Option, Some, None, Result, Ok, Err, refl, sym, ap, ◌∙◌}
+use Rattle.std.proofs.Common.{◌≡◌, ◌⊎◌, inl, inr, ℕ, ◌+◌, ◌==◌, ℤ, pos, Bool, true, false, not, cond, List, [], ◌∷◌, ◌++◌, length, Option, Some, None, Result, Ok, Err, refl, sym, ap, subst, ◌∙◌}
 use Rattle.std.specs.Prelude.{is_some, nat_lt}
 use Rattle.std.specs.Option.{unwrap_or}
 use Rattle.std.specs.Ordering.{int_eq}
@@ -10,18 +10,18 @@ use Rattle.values.specs.declared.fault.Fault.{Fault}
 use Rattle.jute.specs.Stream.{Unread, place_at, items_in}
 use Rattle.sessions.specs.Credentials.{session_id_of}
 use Rattle.sessions.specs.State.{SessionTable as Sessions}
-use Rattle.sessions.specs.Sessions.{session_in, session_of_connection, new_connection, greatest_counter, is_valid, close_if_some, ConnectResult, session_response, refusal_response, refused_connect, give_session}
+use Rattle.sessions.specs.Sessions.{session_in, session_of_connection, connection_of, new_connection, greatest_counter, is_valid, close_if_some, ConnectResult, session_response, claimed_session, refusal_response, refused_connect, give_session}
 use Rattle.sessions.specs.Agreement.{SessionsAgree, OtherConnectionsStay}
 use Rattle.sessions.specs.declared.request.SessionResponse.{SessionResponse}
 use Rattle.watch_manager.specs.Laws.{OthersKeepWatches}
 use Rattle.forwarding.specs.declared.request.PendingConnect.{PendingConnect}
 use Rattle.forwarding.specs.declared.request.PendingRequest.TheVariants.{Connect, Write, Sync, Held}
 use Rattle.forwarding.specs.Queue.{RequestQueue, waiting_connect}
-use Rattle.forwarding.specs.State.{PendingTable}
+use Rattle.forwarding.specs.State.{PendingTable, RequestQueues}
+use Rattle.forwarding.specs.Agreement.{PendingAgrees}
 use Rattle.forwarding.specs.Pending.{queue_in, queue_of, is_idle, is_full, connecting_to, push_connect, hold_frame, touch_session}
 use Rattle.forwarding.specs.Laws.{OtherQueuesStay}
 use Rattle.client_frames.specs.declared.connecting.Connecting.{Connecting}
-use Rattle.client_frames.specs.Call.{call_in}
 use Rattle.client_frames.specs.Connect.{connecting_in, session_request_of}
 use Rattle.four_letter.specs.Texts.{reply_text}
 use Rattle.four_letter.specs.declared.word.Word.{Word}
@@ -29,16 +29,21 @@ use Rattle.world.specs.World.{OpenConnection, Clients, World}
 use Rattle.world.specs.Steps.{StepResult, no_output, and_then, fold_steps}
 use Rattle.world.specs.Clients.{is_open, heard_connection, without_client}
 use Rattle.world.specs.Sending.{close_client, send_last, with_sessions, close_client_if_some, with_pending}
-use Rattle.client_service.specs.Serve.{touched_as, send_connect_response, ask_for_session, is_new_session, finish_connect, may_connect, is_live, handle_connect, serve_by, header_len, is_refused_frame, serve_frame, figures_of, word_at, is_unheard, with_waiting_bytes, wait_if_heard, wait_at, frames_of_client, tell_or_serve, take_client_bytes}
-use Rattle.observer_core.specs.Apart.{WaitsForSession, IsSessionOf, IsTakenUp, IsApart}
+use Rattle.client_service.specs.Serve.{touched_as, send_connect_response, ask_for_session, close_others, ask_about_session, claim_session, claim_or_refuse, is_claim, is_new_session, finish_connect, may_connect, is_live, call_of, handle_connect, serve_by, header_len, is_refused_frame, serve_frame, figures_of, word_at, is_unheard, with_waiting_bytes, wait_if_heard, wait_at, frames_of_client, tell_or_serve, take_client_bytes}
+use Rattle.observer_core.specs.Apart.{WaitsForSession, HasOrAsks, IsSessionOf, IsTakenUp, IsApart}
 use Rattle.world.proofs.NatMaps.{get-inserted}
-use Rattle.observer_core.proofs.Walking.{given, first_false, first_true, idle_queue, heard_there, heard_open, send_last_makes}
+use Rattle.observer_core.proofs.Passing.{fewer_without}
+use Rattle.observer_core.proofs.Walking.{HasNone, given, with_connect, new_connect, claiming, asked_for, first_false, first_true, no_session, none_if_closed, idle_if_closed, idle_queue, heard_there, heard_open, send_last_makes}
 use Rattle.observer_core.proofs.Answered.{closed_has_none}
 use Rattle.observer_core.proofs.Plain.{Always, plain_ground}
 use Rattle.observer_core.proofs.Agreeing.{owner_has}
-use Rattle.observer_core.proofs.Taking.{none_or_some, HasIfOpen, closed_has, greet_has, call_in_has, wait_has}
+use Rattle.observer_core.proofs.Taking.{none_or_some, HasIfOpen, closed_has, greet_has, call_in_has}
 use Rattle.observer_core.proofs.Joined.{left_has, only_second}
-use Rattle.observer_core.proofs.Apart.{then_apart, changes, stays_so, close_own, replies_apart, connection_alone, sessions_apart, touch_apart, hold_apart, greet_apart, call_in_apart, given_apart, asked_apart, wait_apart, Nobody, Only, NoSession, Had, wider}
+use Rattle.observer_core.proofs.Apart.{then_apart, changes, stays_so, close_own, replies_apart, connection_alone, sessions_apart, touch_apart, hold_apart, greet_apart, call_in_apart, left_apart, given_apart, asked_apart, claimed_apart, wait_apart, Nobody, Only, NoSession, Had, wider}
+
+-- What is known of a world before a client's bytes.
+abbrev AgreeApart : World → Type 0
+AgreeApart w = SessionsAgree w.clients.sessions × PendingAgrees w.clients.pending
 
 -- ---- the states of a client's connection
 
@@ -53,7 +58,7 @@ record GotSession (n : ℕ) (session : ℤ) (w : World) (h : StepResult World) :
   has : HasIfOpen n session h.after.clients
 
 record AskedSession (n : ℕ) (session : ℤ) (w : World) (h : StepResult World) : Type 0 where
-  apart : IsApart n (Only session) Nobody w h
+  apart : IsApart n (Only session) (Had w session) w h
   waits : is_open n h.after.clients ≡ true → WaitsForSession n h.after.clients session
   stuck : is_open n h.after.clients ≡ true → IsStuck n h.after
 
@@ -104,9 +109,9 @@ module _ (stay : OtherConnectionsStay) (keep_watches : OthersKeepWatches) (queue
       → IsOwn n session w (serve_by serving n w frame o)
   own_by session w frame None e has room = absurd (none_or_some session e)
   own_by session w frame (Some own) e has room = record {
-    apart = call_in_apart (Only session) Nobody stay keep_watches queues n own w frame (call_in frame) room
+    apart = call_in_apart (Only session) Nobody stay keep_watches queues n own w frame (call_of w frame) room
         (ap (λ (o : Option ℤ). unwrap_or o own) e);
-    has = call_in_has n session own w frame (call_in frame) room (λ _. has);
+    has = call_in_has n session own w frame (call_of w frame) room (λ _. has);
   }
 
   own_touched : (session : ℤ) (w : World) (frame : List ℕ) → session_of_connection w.clients.sessions n ≡ Some session
@@ -256,27 +261,71 @@ module _ (stay : OtherConnectionsStay) (keep_watches : OthersKeepWatches) (queue
     }),
   )
 
+  -- The connections that have a session, and what waits of each, are the same.
+  had_before : (w v : World) (session : ℤ) → v.clients.sessions.connections ≡ w.clients.sessions.connections
+      → v.clients.pending.queues ≡ w.clients.pending.queues → (k : ℕ) → Had v session k → Had w session k
+  had_before w v session same waiting k (inl has) = inl (ap (λ m. session_in (finmap.get m k)) (sym same) ∙ has)
+  had_before w v session same waiting k (inr asks) = inr (record {
+    connect = asks.connect;
+    waits = ap (λ (m : RequestQueues). waiting_connect (queue_in (finmap.get m k))) (sym waiting) ∙ asks.waits;
+    same = asks.same;
+  })
+
   -- The world changed in what no other connection has.
   after_asks : (w v : World) (h : StepResult World)
       → ((own : ℤ → Type 0) (left : ℕ → Type 0) → IsApart n own left w (no_output v))
-      → v.clients.sessions.connections ≡ w.clients.sessions.connections → Asks n v h → Asks n w h
-  after_asks w v h changed same (session, inl got) = (
+      → v.clients.sessions.connections ≡ w.clients.sessions.connections
+      → v.clients.pending.queues ≡ w.clients.pending.queues → Asks n v h → Asks n w h
+  after_asks w v h changed same waiting (session, inl got) = (
     session,
     inl (record {
       apart = then_apart NoSession (Had w session) n w (no_output v) (λ u. h) (changed NoSession (Had w session))
           (wider n NoSession NoSession (Had v session) (Had w session) v h (λ s mine. mine)
-          (λ k had. ap (λ m. session_in (finmap.get m k)) (sym same) ∙ had) got.apart);
+          (had_before w v session same waiting) got.apart);
       has = got.has;
     }),
   )
-  after_asks w v h changed same (session, inr asked) = (
+  after_asks w v h changed same waiting (session, inr asked) = (
     session,
     inr (record {
-      apart = then_apart (Only session) Nobody n w (no_output v) (λ u. h) (changed (Only session) Nobody) asked.apart;
+      apart = then_apart (Only session) (Had w session) n w (no_output v) (λ u. h) (changed (Only session) (Had w session))
+          (wider n (Only session) (Only session) (Had v session) (Had w session) v h (λ s mine. mine)
+          (had_before w v session same waiting) asked.apart);
       waits = asked.waits;
       stuck = asked.stuck;
     }),
   )
+
+  -- A connect that waits after another connection closed waited before.
+  fewer_if_closed : (w : World) (o : Option ℕ) (session : ℤ) (k : ℕ)
+      → connecting_to (close_client_if_some w o).after.clients.pending session ≡ Some k
+      → connecting_to w.clients.pending session ≡ Some k
+  fewer_if_closed w None session k e = e
+  fewer_if_closed w (Some m) session k e =
+      fewer_without w.clients.pending.connects (waiting_connect (queue_of w.clients.pending m)) session k e
+
+  -- The step leaves a connect of the client in front, which was idle and had no session.
+  waits_asked : (w : World) (h : StepResult World) (u : World) (connect : PendingConnect)
+      → session_of_connection u.clients.sessions n ≡ None → is_idle u.clients.pending n ≡ true
+      → h.after ≡ with_connect n u connect
+      → IsApart n (Only connect.session) (Had w connect.session) w h → AskedSession n connect.session w h
+  waits_asked w h u connect none idle is apart = record {
+    apart = apart;
+    waits = λ here. subst (λ (x : World). WaitsForSession n x.clients connect.session) (sym is) (record {
+      connect = connect;
+      waits =
+          ap (λ o. waiting_connect (queue_in o)) pushed
+          ∙ ap (λ (q : RequestQueue). waiting_connect (q ++ Connect connect ∷ [])) (idle_queue p n idle);
+      same = refl;
+    });
+    stuck = λ here. subst (IsStuck n) (sym is) (record { none = none; busy = ap (λ o. not (is_some o)) pushed });
+  }
+    where
+      p : PendingTable
+      p = u.clients.pending
+
+      pushed : finmap.get (push_connect p n connect).queues n ≡ Some (queue_of p n ++ Connect connect ∷ [])
+      pushed = get-inserted p.queues n (queue_of p n ++ Connect connect ∷ [])
 
   ask_asks : (w : World) (has_byte : Bool) (response : SessionResponse)
       → session_of_connection w.clients.sessions n ≡ None → is_idle w.clients.pending n ≡ true
@@ -286,28 +335,60 @@ module _ (stay : OtherConnectionsStay) (keep_watches : OthersKeepWatches) (queue
       (λ _. refuse_asks w has_byte refusal_response refl)
       (λ free. (
         response.session_id,
-        inr (record {
-          apart = asked_apart (Only response.session_id) Nobody stay keep_watches queues n w response.session_id
-              response.time_out has_byte refl;
-          waits = λ here. record {
-            connect = connect;
-            waits =
-                ap (λ o. waiting_connect (queue_in o)) pushed
-                ∙ ap (λ (q : RequestQueue). waiting_connect (q ++ Connect connect ∷ [])) (idle_queue p n idle);
-            same = refl;
-          };
-          stuck = λ here. record { none = none; busy = ap (λ o. not (is_some o)) pushed };
-        }),
+        inr (waits_asked w (asked_for n w response.session_id response.time_out has_byte) w
+        (new_connect response.session_id response.time_out has_byte) none idle refl
+        (asked_apart (Only response.session_id) (Had w response.session_id) stay keep_watches queues n w
+        response.session_id response.time_out has_byte refl)),
       ))
     where
       p : PendingTable
       p = w.clients.pending
 
-      connect : PendingConnect
-      connect = record { session = response.session_id; time_out = response.time_out; has_read_only = has_byte }
+  -- The leader is asked about a session that the client claims, once the others that have it, or wait for it, are closed.
+  claim_asks : (w : World) (has_byte : Bool) (response : SessionResponse) → AgreeApart w
+      → session_of_connection w.clients.sessions n ≡ None → is_idle w.clients.pending n ≡ true
+      → Asks n w (claim_session n has_byte w response)
+  claim_asks w has_byte response agree none idle = (
+    session,
+    inr (waits_asked w (claim_session n has_byte w response) u
+    (claiming session response.time_out has_byte) none_then idle_then refl
+    (then_apart (Only session) (Had w session) n w (close_others session w) (ask_about_session n has_byte response)
+    (then_apart (Only session) (Had w session) n w (close_client_if_some w holder)
+    (λ x. close_client_if_some x (connecting_to x.clients.pending session))
+    (left_apart (Only session) (Had w session) stay keep_watches queues n w holder
+    (λ k e. inl (owner_has w.clients.sessions session k agree.0 e)))
+    (left_apart (Only session) (Had w session) stay keep_watches queues n v waiter
+    (λ k e. inr (waited_before k (fewer_if_closed w holder session k e)))))
+    (claimed_apart (Only session) (Had w session) stay keep_watches queues n u has_byte response refl))),
+  )
+    where
+      session : ℤ
+      session = response.session_id
 
-      pushed : finmap.get (push_connect p n connect).queues n ≡ Some (queue_of p n ++ Connect connect ∷ [])
-      pushed = get-inserted p.queues n (queue_of p n ++ Connect connect ∷ [])
+      holder : Option ℕ
+      holder = connection_of w.clients.sessions session
+
+      v : World
+      v = (close_client_if_some w holder).after
+
+      waiter : Option ℕ
+      waiter = connecting_to v.clients.pending session
+
+      u : World
+      u = (close_client_if_some v waiter).after
+
+      has_none : HasNone n w
+      has_none = no_session (finmap.get w.clients.sessions.connections n) none
+
+      none_then : session_of_connection u.clients.sessions n ≡ None
+      none_then = ap session_in (none_if_closed n v waiter (none_if_closed n w holder has_none))
+
+      idle_then : is_idle u.clients.pending n ≡ true
+      idle_then = idle_if_closed n v waiter (idle_if_closed n w holder idle)
+
+      waited_before : (k : ℕ) → connecting_to w.clients.pending session ≡ Some k → WaitsForSession k w.clients session
+      waited_before k e =
+          let f = agree.1.in_front session k e in record { connect = f.0; waits = f.1.0; same = f.1.1 }
 
   -- The client is named a session, or refused.
   named_asks : (w : World) (asked : Connecting) (response : SessionResponse) (s : Sessions)
@@ -318,10 +399,10 @@ module _ (stay : OtherConnectionsStay) (keep_watches : OthersKeepWatches) (queue
       (record { connected = record { response = response; older = None }; after = s }))
   named_asks w asked response s same none idle refused =
       cond_both (is_new_session asked.request response) _ _ (Asks n w)
-      (λ _. after_asks w v (ask_for_session n asked.has_byte v response) named same
+      (λ _. after_asks w v (ask_for_session n asked.has_byte v response) named same refl
       (ask_asks v asked.has_byte response none_yet idle))
       (λ old. after_asks w v (send_connect_response n asked.has_byte response (touched_as v (session_of_connection s n)))
-      named same (touched old (session_of_connection s n)))
+      named same refl (touched old (session_of_connection s n)))
     where
       v : World
       v = with_sessions w s
@@ -339,7 +420,7 @@ module _ (stay : OtherConnectionsStay) (keep_watches : OthersKeepWatches) (queue
       touched old (Some session) =
           let u = with_pending v (touch_session v.clients.pending session) in
           after_asks v u (send_connect_response n asked.has_byte response u)
-          (λ own left. touch_apart own left stay keep_watches queues n v session) refl
+          (λ own left. touch_apart own left stay keep_watches queues n v session) refl refl
           (refuse_asks u asked.has_byte response (refused old))
 
   refused_asks : (w : World) (asked : Connecting) → session_of_connection w.clients.sessions n ≡ None
@@ -357,12 +438,12 @@ module _ (stay : OtherConnectionsStay) (keep_watches : OthersKeepWatches) (queue
       record {
         apart = then_apart NoSession left n w got (send_connect_response n has_byte response)
             (given_apart NoSession left stay keep_watches queues n w session time_out
-            (λ j older. owner_has w.clients.sessions session j agree older))
+            (λ j older. inl (owner_has w.clients.sessions session j agree older)))
             (greet_apart NoSession left stay keep_watches queues n has_byte response got.after);
         has = greet_has n session has_byte response got.after
             (λ _. left_has n session (with_sessions w x.after) x.connected.older
             (ap session_in (get-inserted (close_if_some w.clients.sessions x.connected.older).connections n
-            (new_connection session))));
+            (new_connection session x.connected.response.time_out))));
       }
     where
       x : ConnectResult
@@ -388,22 +469,30 @@ module _ (stay : OtherConnectionsStay) (keep_watches : OthersKeepWatches) (queue
       by (Some touched) =
           let v = with_pending w (touch_session w.clients.pending touched) in
           after_asks w v (and_then (given n v session time_out) greet)
-          (λ own left. touch_apart own left stay keep_watches queues n w touched) refl
+          (λ own left. touch_apart own left stay keep_watches queues n w touched) refl refl
           (session, inl (greeted v session time_out asked.has_byte x.connected.response agree))
 
-  connect_asks : (w : World) (c : Result Connecting Fault) → SessionsAgree w.clients.sessions
+  claimed_asks : (w : World) (has_byte : Bool) (o : Option SessionResponse) → AgreeApart w
+      → session_of_connection w.clients.sessions n ≡ None → is_idle w.clients.pending n ≡ true
+      → Asks n w (claim_or_refuse n has_byte w o)
+  claimed_asks w has_byte None agree none idle = refuse_asks w has_byte refusal_response refl
+  claimed_asks w has_byte (Some response) agree none idle = claim_asks w has_byte response agree none idle
+
+  connect_asks : (w : World) (c : Result Connecting Fault) → AgreeApart w
       → session_of_connection w.clients.sessions n ≡ None → is_idle w.clients.pending n ≡ true
       → Asks n w (handle_connect serving n w c)
   connect_asks w (Err e) agree none idle = close_asks w
   connect_asks w (Ok asked) agree none idle =
       cond_both (may_connect serving w asked.request) _ _ (Asks n w)
+      (λ _. cond_both (is_claim w asked.request) _ _ (Asks n w)
+      (λ _. claimed_asks w asked.has_byte (claimed_session s (session_request_of asked.request)) agree none idle)
       (λ _. cond_both (int_eq session (pos 0)) _ _ Finishes
       (λ zero. cond_both (s.counter == greatest_counter) _ _ Finishes (λ _. refused_asks w asked none idle)
       (λ _. named_asks w asked named (record s { counter = s.counter + 1 }) refl none idle
       (λ old. only_second (int_eq session (pos 0)) (int_eq named.session_id (pos 0)) zero old)))
       (λ other. cond_both (is_valid s (is_live session w) (session_request_of asked.request)) _ _ Finishes
-      (λ _. given_asks w asked session asked.request.time_out agree other)
-      (λ _. refused_asks w asked none idle)))
+      (λ _. given_asks w asked session asked.request.time_out agree.0 other)
+      (λ _. refused_asks w asked none idle))))
       (λ _. close_asks w)
     where
       s : Sessions
@@ -418,7 +507,7 @@ module _ (stay : OtherConnectionsStay) (keep_watches : OthersKeepWatches) (queue
       Finishes : ConnectResult → Type 0
       Finishes x = Asks n w (finish_connect n w asked x)
 
-  serve_asks : (w : World) (frame : List ℕ) → SessionsAgree w.clients.sessions
+  serve_asks : (w : World) (frame : List ℕ) → AgreeApart w
       → session_of_connection w.clients.sessions n ≡ None → is_idle w.clients.pending n ≡ true
       → Asks n w (serve_frame serving n w frame)
   serve_asks w frame agree none idle = by (session_of_connection w.clients.sessions n) none
@@ -459,7 +548,12 @@ module _ (stay : OtherConnectionsStay) (keep_watches : OthersKeepWatches) (queue
       let taken = IsTakenUp n w.clients after in
       then_apart own taken n w h others
       (wider n NoSession own (Had w session) taken w h (λ s mine. absurd mine)
-      (λ k had. record { session = session; had = had; none = none; has = rest.has }) got.apart)
+      (λ k had. record {
+        session = session;
+        had = had;
+        none = none;
+        has = λ still. inl (rest.has still);
+      }) got.apart)
       (wider n (Only session) own Nobody taken h.after (others h.after)
       (λ s is. inr (none, λ still. inl (rest.has still ∙ ap (λ (x : ℤ). Some x) (sym is))))
       (λ k may. absurd may) rest.apart)
@@ -470,8 +564,14 @@ module _ (stay : OtherConnectionsStay) (keep_watches : OthersKeepWatches) (queue
       let own = IsSessionOf n w.clients after in
       let taken = IsTakenUp n w.clients after in
       then_apart own taken n w h others
-      (wider n (Only session) own Nobody taken w h
-      (λ s is. inr (none, λ still. inr (waiting rest still s is (was_open still)))) (λ k may. absurd may) asked.apart)
+      (wider n (Only session) own (Had w session) taken w h
+      (λ s is. inr (none, λ still. inr (waiting rest still s is (was_open still))))
+      (λ k had. record {
+        session = session;
+        had = had;
+        none = none;
+        has = λ still. inr (waiting rest still session refl (was_open still));
+      }) asked.apart)
       (wider n NoSession own Nobody taken h.after (others h.after) (λ s mine. absurd mine) (λ k may. absurd may)
       rest.apart)
     where
@@ -496,7 +596,7 @@ module _ (stay : OtherConnectionsStay) (keep_watches : OthersKeepWatches) (queue
             same = waits.same ∙ sym is;
           }
 
-  frames_apart : (w : World) (fs : List (List ℕ)) → SessionsAgree w.clients.sessions
+  frames_apart : (w : World) (fs : List (List ℕ)) → AgreeApart w
       → TakesUp w (fold_steps (is_unheard n) (serve_frame serving n) w fs)
   frames_apart w [] agree = nothing_apart w
   frames_apart w (f ∷ fs) agree =
@@ -526,22 +626,26 @@ module _ (stay : OtherConnectionsStay) (keep_watches : OthersKeepWatches) (queue
   -- ---- bytes
 
   -- What the client has or waits for, it has or waits for while its bytes wait.
+  wait_got : (w : World) (o : Option OpenConnection) (left : Unread) → heard_connection n w.clients ≡ o
+      → (session : ℤ) → (is_open n w.clients ≡ true → HasOrAsks n w.clients session)
+      → is_open n (wait_if_heard n w o left).after.clients ≡ true
+      → HasOrAsks n (wait_if_heard n w o left).after.clients session
+  wait_got w None left there session got = got
+  wait_got w (Some c) (Ok rest) there session got = λ _.
+      by (got (ap is_some (heard_there (finmap.get w.clients.connections n) c there)))
+    where
+      by : HasOrAsks n w.clients session → HasOrAsks n (with_waiting_bytes n w c rest).clients session
+      by (inl has) = inl has
+      by (inr waits) = inr (record { connect = waits.connect; waits = waits.waits; same = waits.same })
+  wait_got w (Some c) (Err e) there session got = λ here. closed_not w here
+
   wait_own : (before : Clients) (w : World) (o : Option OpenConnection) (left : Unread)
       → heard_connection n w.clients ≡ o → (session : ℤ) → IsSessionOf n before w.clients session
       → IsSessionOf n before (wait_if_heard n w o left).after.clients session
   wait_own before w o left there session (inl had) = inl had
-  wait_own before w None left there session (inr got) = inr got
-  wait_own before w (Some c) (Ok rest) there session (inr got) =
-      inr (got.0, λ _. by (got.1 (ap is_some (heard_there (finmap.get w.clients.connections n) c there))))
-    where
-      by : (session_of_connection w.clients.sessions n ≡ Some session) ⊎ WaitsForSession n w.clients session
-          → (session_of_connection w.clients.sessions n ≡ Some session)
-          ⊎ WaitsForSession n (with_waiting_bytes n w c rest).clients session
-      by (inl has) = inl has
-      by (inr waits) = inr (record { connect = waits.connect; waits = waits.waits; same = waits.same })
-  wait_own before w (Some c) (Err e) there session (inr got) = inr (got.0, λ here. closed_not w here)
+  wait_own before w o left there session (inr got) = inr (got.0, wait_got w o left there session got.1)
 
-  pub bytes_apart : (w : World) (o : Option OpenConnection) (bytes : List ℕ) → SessionsAgree w.clients.sessions
+  pub bytes_apart : (w : World) (o : Option OpenConnection) (bytes : List ℕ) → AgreeApart w
       → TakesUp w (take_client_bytes serving n w o bytes)
   bytes_apart w None bytes agree = nothing_apart w
   bytes_apart w (Some c) bytes agree = by (word_at n w came)
@@ -575,7 +679,7 @@ module _ (stay : OtherConnectionsStay) (keep_watches : OthersKeepWatches) (queue
             session = t.session;
             had = t.had;
             none = t.none;
-            has = wait_has n t.session h.after there found.left.unread refl t.has;
+            has = wait_got h.after there found.left.unread refl t.session t.has;
           })
           (frames_apart v found.found agree))
           (wait_apart own taken stay keep_watches queues n h.after there found.left.unread))

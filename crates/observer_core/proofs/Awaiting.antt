@@ -15,27 +15,29 @@ use Rattle.sessions.specs.Sessions.{give_session}
 use Rattle.forwarding.specs.declared.request.PendingRequest.{PendingRequest}
 use Rattle.forwarding.specs.declared.request.PendingRequest.TheVariants.{Connect, Write, Sync, Held}
 use Rattle.forwarding.specs.declared.request.Ready.{Ready}
+use Rattle.forwarding.specs.declared.request.ConnectKind.TheVariants.{Claimed}
 use Rattle.forwarding.specs.declared.request.WriteKind.{WriteKind}
-use Rattle.forwarding.specs.Queue.{RequestQueue, pending_limit, after_answer, with_oldest_settled, ready_request, without_front_if}
+use Rattle.forwarding.specs.Queue.{RequestQueue, pending_limit, waiting_connect, after_answer, with_oldest_settled, ready_request, without_front_if}
 use Rattle.forwarding.specs.State.{PendingTable}
-use Rattle.forwarding.specs.Pending.{nothing_pending, queue_in, queue_of, put_queue, is_idle, unsettled_sync, answer_write, pending_close, settle_first, take_ready, drop_connection}
+use Rattle.forwarding.specs.Pending.{nothing_pending, queue_in, queue_of, put_queue, is_idle, unsettled_sync, answer_write, pending_close, settle_first, take_ready, awaiting, drop_connection}
 use Rattle.forwarding.specs.Agreement.{PendingAgrees}
 use Rattle.forwarding.specs.Laws.{WaitsForLeader}
 use Rattle.read_processor.specs.Reply.{reply_frame}
 use Rattle.world.specs.World.{World}
+use Rattle.world.specs.Steps.{StepResult}
 use Rattle.world.specs.Clients.{heard_connection, without_client}
-use Rattle.world.specs.Sending.{send_or_close, with_sessions, with_pending, close_client_if_some}
+use Rattle.world.specs.Sending.{close_client, send_or_close, with_sessions, with_pending, close_client_if_some}
 use Rattle.client_service.specs.Serve.{take_client_bytes}
 use Rattle.leader_answers.specs.declared.due.Due.{Due}
 use Rattle.leader_answers.specs.declared.due.Due.TheVariants as dues
-use Rattle.leader_answers.specs.Answering.{answer_ready, answer_if_ready, answer_up_to, answer_front, txn_number, answer_due, answer_write_as, admit_client, give_answer, answer_optional_txn, answer_settled}
+use Rattle.leader_answers.specs.Answering.{answer_ready, answer_if_ready, answer_up_to, answer_front, txn_number, answer_due, has_moved, send_write_reply, answer_write_as, admit_client, answer_claim, give_answer, answer_optional_txn, answer_settled}
 use Rattle.write_replies.specs.Replies.{write_look}
 use Rattle.observer_core.specs.Leader.{tell_effect, answer_news}
 use Rattle.observer_core.specs.Play.{is_serving_clients}
 use Rattle.observer_core.specs.Agreement.{OnlyLeaderIsAwaited, NothingWaitsInVain}
 use Rattle.world.proofs.NatMaps.{same_key}
-use Rattle.observer_core.proofs.Walking.{Steps, next_id, HoldsOfReplies, HoldsOfCalls, HoldsOfConnects, client_makes}
-use Rattle.observer_core.proofs.Answered.{unqueued, ready_makes, ended_makes, admit_makes}
+use Rattle.observer_core.proofs.Walking.{Steps, next_id, new_connect, claiming, HoldsOfReplies, HoldsOfCalls, HoldsOfConnects, client_makes}
+use Rattle.observer_core.proofs.Answered.{unqueued, ready_makes, refused_makes, ended_makes, admit_makes}
 use Rattle.observer_core.proofs.Plain.{Always, plain_ground}
 use Rattle.observer_core.proofs.Events.{IsKept, plays_keep}
 use Rattle.observer_core.proofs.Agreeing.{Agreeing, LowerLaws, agreeing_ground}
@@ -56,7 +58,7 @@ less_on p q r first second m = by (first m) (second m)
     by (inl same) (inl still) = inl (still ∙ same)
     by (inr none) (inl still) = inr (still ∙ none)
 
-dropped_less : (p : PendingTable) (n : ℕ) → Lessens p (drop_connection p n)
+pub dropped_less : (p : PendingTable) (n : ℕ) → Lessens p (drop_connection p n)
 dropped_less p n m = by (eq_by_cmp nat_cmp m n) refl
   where
     is : (b : Bool) → eq_by_cmp nat_cmp m n ≡ b
@@ -155,7 +157,7 @@ busy_has p n agrees busy = by (finmap.get p.queues n) refl busy
     by None e busy none = true≢false busy
     by (Some q) e busy none = agrees.none_empty n (e ∙ ap (λ (q : RequestQueue). Some q) none)
 
-put_get : (p : PendingTable) (n : ℕ) (q : RequestQueue) (m : ℕ)
+pub put_get : (p : PendingTable) (n : ℕ) (q : RequestQueue) (m : ℕ)
     → queue_of (put_queue p n q) m ≡ cond (eq_by_cmp nat_cmp m n) q (queue_of p m)
 put_get p n [] m =
     ap queue_in (finmap.get-remove nat_cmp_total p.queues n m)
@@ -241,7 +243,12 @@ connects_await n = record {
       less_awaits v (close_client_if_some v c.connected.older).after (left_less v c.connected.older) a;
   asks = λ w time_out has_byte none idle agrees counted a.
       pushed_awaits w.clients.pending n
-      (Connect (record { session = next_id w; time_out = time_out; has_read_only = has_byte })) a (λ _. tt);
+      (Connect (new_connect (next_id w) time_out has_byte)) a (λ _. tt);
+  displaces = λ w session k with agrees a.
+      less_awaits w (close_client k w).after (dropped_less w.clients.pending k) a;
+  claims = λ w has_byte response move none idle agrees a.
+      pushed_awaits w.clients.pending n
+      (Connect (claiming response.session_id response.time_out has_byte)) a (λ _. tt);
   may = λ w session live. tt;
 }
 
@@ -288,9 +295,9 @@ module _ (laws : LowerLaws) (waits : (s : PendingTable) (n : ℕ) → (take_read
       → length (queue_of w.clients.pending n) ≤ pending_limit → OnlyLeaderIsAwaited (answer_front n w).after
   front_awaits n w others within = up_to_awaits n pending_limit w others within
 
-  write_awaits : (n : ℕ) (w : World) (t : Txn) (err : ℤ) (kind : WriteKind) → Agreeing w → OnlyLeaderIsAwaited w
-      → OnlyLeaderIsAwaited (answer_write_as n w t err kind).after
-  write_awaits n w t err kind agrees a =
+  replied_awaits : (n : ℕ) (w : World) (t : Txn) (err : ℤ) (kind : WriteKind) → Agreeing w → OnlyLeaderIsAwaited w
+      → OnlyLeaderIsAwaited (send_write_reply n w t err kind).after
+  replied_awaits n w t err kind agrees a =
       let p = w.clients.pending in
       let xid = t.header.cxid in
       let v = with_pending w (answer_write p n xid (txn_number t)).after in
@@ -302,6 +309,13 @@ module _ (laws : LowerLaws) (waits : (s : PendingTable) (n : ℕ) → (take_read
       front_awaits n sent (λ m other. less_awaits_at v sent m less (others m other))
       (less_length v sent n pending_limit less
       ((laws.queued.answers p n xid (txn_number t) agrees.pending).queues n).within_limit)
+
+  write_awaits : (n : ℕ) (w : World) (t : Txn) (err : ℤ) (kind : WriteKind) → Agreeing w → OnlyLeaderIsAwaited w
+      → OnlyLeaderIsAwaited (answer_write_as n w t err kind).after
+  write_awaits n w t err kind agrees a =
+      cond_both (has_moved w err) _ _ (λ (h : StepResult World). OnlyLeaderIsAwaited h.after)
+      (λ _. less_awaits w (close_client n w).after (dropped_less w.clients.pending n) a)
+      (λ _. replied_awaits n w t err kind agrees a)
 
   -- Where a connection is admitted, its connect is taken out with all that waited after it.
   admit_awaits : (n : ℕ) (w : World) → Agreeing w → OnlyLeaderIsAwaited w
@@ -325,6 +339,14 @@ module _ (laws : LowerLaws) (waits : (s : PendingTable) (n : ℕ) → (take_read
   optional_awaits w err None agrees a = a
   optional_awaits w err (Some t) agrees a = due_awaits w t err (answer_due w.clients t) agrees a
 
+  claim_awaits : (w : World) (o : Option ℕ) (lives : Bool) → Agreeing w → OnlyLeaderIsAwaited w
+      → OnlyLeaderIsAwaited (answer_claim w o lives).after
+  claim_awaits w None lives agrees a = a
+  claim_awaits w (Some n) lives agrees a =
+      cond_both lives _ _ (λ (h : StepResult World). OnlyLeaderIsAwaited h.after) (λ _. admit_awaits n w agrees a)
+      (λ _. (refused_makes n (Unit {0}) Agreeing KeepsAwaiting (agreeing_ground laws n) (replies_await n) w
+      (waiting_connect (queue_of w.clients.pending n)) agrees).is a)
+
   settled_awaits : (w : World) (syncs : List (Option ℕ))
       → PendingAgrees (settle_first w.clients.pending syncs).after → OnlyLeaderIsAwaited w
       → let s = settle_first w.clients.pending syncs in
@@ -342,6 +364,8 @@ module _ (laws : LowerLaws) (waits : (s : PendingTable) (n : ℕ) → (take_read
   news_awaits (Some (news.Ping ping)) w agrees a = a
   news_awaits (Some (news.Applied place err)) w agrees a =
       optional_awaits w err (slice_get w.replica.learner.log place) agrees a
+  news_awaits (Some (news.Revalidated session lives)) w agrees a =
+      claim_awaits w (awaiting w.clients.pending session Claimed) lives agrees a
   news_awaits (Some news.SyncSettled) w agrees a =
       settled_awaits w w.clients.pending.syncs (laws.queued.settles w.clients.pending agrees.pending) a
 

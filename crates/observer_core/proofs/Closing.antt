@@ -91,6 +91,8 @@ connects_stay n = record {
       let v = with_sessions w c.after in
       then_stay w v (close_client_if_some v c.connected.older).after (as_it_was w) (left_stay v c.connected.older);
   asks = λ w time_out has_byte none idle a b. as_it_was w;
+  displaces = λ w session k with a. close_stay k w;
+  claims = λ w has_byte response move none idle a. as_it_was w;
   may = λ w session live. tt;
 }
 

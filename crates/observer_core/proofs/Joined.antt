@@ -11,7 +11,7 @@ use Rattle.four_letter.specs.Words.{word_of}
 use Rattle.four_letter.specs.declared.word.Word.{Word}
 use Rattle.sessions.specs.Credentials.{session_id_of}
 use Rattle.sessions.specs.State.{SessionTable as Sessions, ConnectedClient as Joined}
-use Rattle.sessions.specs.Sessions.{session_in, session_of_connection, new_connection, greatest_counter, is_valid, close_as, close_if_some, ConnectResult, session_response, refusal_response, refused_connect, give_session}
+use Rattle.sessions.specs.Sessions.{session_in, session_of_connection, new_connection, greatest_counter, is_valid, close_as, close_if_some, ConnectResult, session_response, claimed_session, refusal_response, refused_connect, give_session}
 use Rattle.sessions.specs.declared.request.SessionResponse.{SessionResponse}
 use Rattle.forwarding.specs.declared.request.PendingConnect.{PendingConnect}
 use Rattle.forwarding.specs.declared.request.PendingRequest.TheVariants.{Connect, Held}
@@ -19,16 +19,15 @@ use Rattle.forwarding.specs.Queue.{RequestQueue}
 use Rattle.forwarding.specs.State.{PendingTable, RequestQueues}
 use Rattle.forwarding.specs.Pending.{is_full, is_idle, connecting_to, push_connect, hold_frame, queue_of, touch_session}
 use Rattle.client_frames.specs.declared.connecting.Connecting.{Connecting}
-use Rattle.client_frames.specs.Call.{call_in}
 use Rattle.client_frames.specs.Connect.{connecting_in, session_request_of}
 use Rattle.world.specs.World.{Clients, World}
 use Rattle.world.specs.Steps.{StepResult, and_then, fold_steps}
 use Rattle.world.specs.Clients.{is_open, without_client}
 use Rattle.world.specs.Sending.{close_client, with_sessions, with_pending, close_client_if_some}
-use Rattle.client_service.specs.Serve.{touched_as, send_connect_response, ask_for_session, is_new_session, finish_connect, may_connect, is_live, handle_connect, serve_as, serve_by, header_len, is_refused_frame, serve_frame, word_without_session, word_at, is_unheard}
+use Rattle.client_service.specs.Serve.{touched_as, send_connect_response, refuse_connect, ask_for_session, close_others, claim_or_refuse, is_claim, is_new_session, finish_connect, may_connect, is_live, call_of, handle_connect, serve_as, serve_by, header_len, is_refused_frame, serve_frame, word_without_session, word_at, is_unheard}
 use Rattle.world.proofs.NatMaps.{get-inserted}
 use Rattle.observer_core.proofs.Keeping.{happening_keeps}
-use Rattle.observer_core.proofs.Walking.{first_false, first_true}
+use Rattle.observer_core.proofs.Walking.{with_connect, new_connect, claiming, first_false, first_true}
 use Rattle.observer_core.proofs.Taking.{HasIfOpen, closed_has, greet_has, call_in_has}
 
 -- The connection has a session or a request that waits, if it is open.
@@ -91,18 +90,27 @@ greet_one : (n : ℕ) (session : ℤ) (has_byte : Bool) (response : SessionRespo
 greet_one n session has_byte response w has =
     has_one n session (send_connect_response n has_byte response w).after (greet_has n session has_byte response w has)
 
+refuse_one : (n : ℕ) (has_byte : Bool) (w : World) → IsEngaged n (refuse_connect n has_byte w).after
+refuse_one n has_byte w = greet_one n (pos 0) has_byte refusal_response w (λ other. absurd (true≢false other))
+
+waits_one : (n : ℕ) (w : World) (connect : PendingConnect) → IsEngaged n (with_connect n w connect)
+waits_one n w connect =
+    let p = w.clients.pending in
+    pushed_one n w (push_connect p n connect) p.queues (queue_of p n ++ Connect connect ∷ []) refl
+
+-- The connection claims a session, or is closed.
+claimed_one : (n : ℕ) (has_byte : Bool) (w : World) (o : Option SessionResponse)
+    → IsEngaged n (claim_or_refuse n has_byte w o).after
+claimed_one n has_byte w None = refuse_one n has_byte w
+claimed_one n has_byte w (Some response) =
+    waits_one n (close_others response.session_id w).after (claiming response.session_id response.time_out has_byte)
+
 ask_one : (n : ℕ) (has_byte : Bool) (w : World) (response : SessionResponse)
     → IsEngaged n (ask_for_session n has_byte w response).after
 ask_one n has_byte w response =
-    let p = w.clients.pending in
-    let connect : PendingConnect =
-    record { session = response.session_id; time_out = response.time_out; has_read_only = has_byte } in
-    cond_both (is_some (connecting_to p response.session_id)) _ _ (λ (h : StepResult World). IsEngaged n h.after)
-    (λ _. greet_one n (pos 0) has_byte refusal_response w (λ other. absurd (true≢false other)))
-    (λ _. pushed_one n w (push_connect p n connect) p.queues (push_one p n connect) refl)
-  where
-    push_one : PendingTable → ℕ → PendingConnect → RequestQueue
-    push_one p n connect = queue_of p n ++ Connect connect ∷ []
+    cond_both (is_some (connecting_to w.clients.pending response.session_id)) _ _
+    (λ (h : StepResult World). IsEngaged n h.after) (λ _. refuse_one n has_byte w)
+    (λ _. waits_one n w (new_connect response.session_id response.time_out has_byte))
 
 -- The connection asks for a session, or is closed.
 named_one : (n : ℕ) (w : World) (asked : Connecting) (response : SessionResponse) (s : Sessions)
@@ -133,7 +141,7 @@ given_one n w asked session time_out other =
 
     has : session_of_connection x.after n ≡ Some session
     has = ap session_in (get-inserted (close_if_some w.clients.sessions x.connected.older).connections n
-        (new_connection session))
+        (new_connection session x.connected.response.time_out))
 
     greet : World → StepResult World
     greet = send_connect_response n asked.has_byte x.connected.response
@@ -155,11 +163,13 @@ join_one : (serving : Bool) (n : ℕ) (w : World) (c : Result Connecting Fault)
 join_one serving n w (Err e) = closed_one n w
 join_one serving n w (Ok asked) =
     cond_both (may_connect serving w asked.request) _ _ (λ (h : StepResult World). IsEngaged n h.after)
+    (λ _. cond_both (is_claim w asked.request) _ _ (λ (h : StepResult World). IsEngaged n h.after)
+    (λ _. claimed_one n asked.has_byte w (claimed_session s (session_request_of asked.request)))
     (λ _. cond_both (int_eq session (pos 0)) _ _ Joins
     (λ zero. cond_both (s.counter == greatest_counter) _ _ Joins (λ _. refused_one n w asked)
     (λ _. named_one n w asked named (record s { counter = s.counter + 1 }) (λ old. only_second _ _ zero old)))
     (λ other. cond_both (is_valid s (is_live session w) (session_request_of asked.request)) _ _ Joins
-    (λ _. given_one n w asked session asked.request.time_out other) (λ _. refused_one n w asked)))
+    (λ _. given_one n w asked session asked.request.time_out other) (λ _. refused_one n w asked))))
     (λ _. closed_one n w)
   where
     s : Sessions
@@ -194,8 +204,8 @@ module _ (serving : Bool) (n : ℕ) where
           (λ busy. let p = w.clients.pending in
           pushed_one n w (hold_frame p n frame) p.queues (queue_of p n ++ Held frame ∷ []) refl)
       by (Some session) has room =
-          has_one n session (serve_as n session w frame (call_in frame)).after
-          (call_in_has n session session w frame (call_in frame) room (λ _. has))
+          has_one n session (serve_as n session w frame (call_of w frame)).after
+          (call_in_has n session session w frame (call_of w frame) room (λ _. has))
 
   serve_one : (w : World) (frame : List ℕ) → IsEngaged n (serve_frame serving n w frame).after
   serve_one w frame = by (session_of_connection w.clients.sessions n)

@@ -340,6 +340,8 @@ connects_leave n = record {
       let c = give_session w.clients.sessions n session time_out in
       left_leaves (with_sessions w c.after) c.connected.older;
   asks = λ w time_out has_byte none idle a b. (refl, tt);
+  displaces = λ w session k with a. (refl, tt);
+  claims = λ w has_byte response move none idle a. (refl, tt);
   may = λ w session live. tt;
 }
 

@@ -1,7 +1,7 @@
 -- The session of each connection lives, after every event.
-use Rattle.std.proofs.Common.{◌≡◌, ◌≢◌, ◌⊎◌, inl, inr, ℕ, ◌+◌, ◌-◌, ℤ, Bool, true, false, cond, List, [], ◌∷◌, ◌++◌, length, slice_get, Option, Some, None, Result, Ok, Err, refl, sym, ap, subst, ◌∙◌}
+use Rattle.std.proofs.Common.{◌≡◌, ◌≢◌, ◌⊎◌, inl, inr, ℕ, ◌+◌, ◌-◌, ℤ, Bool, true, false, cond, List, [], ◌∷◌, ◌++◌, length, slice_get, Option, Some, None, Result, Ok, Err, refl, sym, ap, subst, ◌∙◌, arith}
 use Rattle.std.specs.Prelude.{is_some, int_lt}
-use Rattle.std.specs.Option.{unwrap_or}
+use Rattle.std.specs.Option.{unwrap_or, option_or}
 use Rattle.std.specs.Ordering.{eq_by_cmp, nat_cmp, int_cmp, is_eq}
 use Rattle.std.specs.Cmp.{nat_cmp_total, int_cmp_total}
 use Rattle.std.specs.List.{list_any}
@@ -12,7 +12,10 @@ use Rattle.std.proofs.lemmas.Map.Views.{tells_apart}
 use Rattle.std.specs.FinMap as finmap
 use mathlib.Core.Bool.{true≢false}
 use Rattle.values.specs.declared.fault.Fault.{Fault}
-use Rattle.jute.specs.Format.{long, ◌>>=◌}
+use Rattle.settings.specs.Dialects.{reads_of}
+use Rattle.settings.specs.declared.dialect.Dialect.{Dialect}
+use Rattle.settings.specs.declared.dialect.Reads.{Reads}
+use Rattle.jute.specs.Format.{long, boolean, pair_of, ◌>>=◌}
 use Rattle.jute.specs.declared.owned.Id.{Id}
 use Rattle.txn_codec.specs.declared.txn.Txn.{Txn}
 use Rattle.txn_codec.specs.declared.txn.TxnHeader.{TxnHeader}
@@ -28,9 +31,14 @@ use Rattle.snapshot_codec.specs.declared.part.ImagePart.{ImagePart}
 use Rattle.snapshot_codec.specs.declared.part.ImagePart.TheVariants as part
 use Rattle.quorum_packet.specs.declared.item.Item.{Item}
 use Rattle.quorum_packet.specs.declared.item.Item.TheVariants as item
+use Rattle.quorum_packet.specs.declared.packet.QuorumPacket.{QuorumPacket}
+use Rattle.quorum_packet.specs.declared.kind.PacketKind.{PacketKind}
+use Rattle.quorum_packet.specs.declared.kind.PacketKind.TheVariants as kinds
+use Rattle.quorum_packet.specs.Kinds.{kind_of}
+use Rattle.quorum_packet.specs.Packet.{carried_bytes}
 use Rattle.learner_sync.specs.Learner.{Learner}
-use Rattle.learner_sync.specs.Learn.{LearnerStep, message_in_phase, message_in_serving, part_in_phase, load_to_drop, carried_txn, learn_inform, learn_activation, apply_txn, with_applied, zxid_floor}
-use Rattle.learner_sync.specs.Messages.{message_of_packet}
+use Rattle.learner_sync.specs.Learn.{LearnerStep, message_in_phase, message_in_serving, part_in_phase, load_to_drop, carried_txn, learn_inform, learn_activation, learn_revalidated, single_act, apply_txn, with_applied, zxid_floor}
+use Rattle.learner_sync.specs.Messages.{message_if, message_of_kind, message_of_packet}
 use Rattle.learner_sync.specs.declared.act.Act.TheVariants as act
 use Rattle.learner_sync.specs.declared.message.Message.{Message}
 use Rattle.learner_sync.specs.declared.message.Message.TheVariants as message
@@ -39,7 +47,7 @@ use Rattle.learner_sync.specs.declared.phase.Phase.TheVariants as phase
 use Rattle.replica.specs.Replica.{Replica}
 use Rattle.replica.proofs.Following.{last-push}
 use Rattle.replica.specs.Taking.{ItemEffect, nothing_loaded, no_effect, last_txn, apply_to_tree, carry_out_all, with_learner, take_item, is_serving_in, is_serving, checkpoint_if}
-use Rattle.replica.specs.Laws.{ServingStays}
+use Rattle.replica.specs.Laws.{ServingStays, DialectStays}
 use Rattle.replica.specs.declared.item_outcome.LeaderNews.{LeaderNews}
 use Rattle.replica.specs.declared.item_outcome.LeaderNews.TheVariants as news
 use Rattle.read_processor.specs.Look.{without_body}
@@ -50,25 +58,27 @@ use Rattle.forwarding.specs.declared.request.Settled.{Settled}
 use Rattle.forwarding.specs.declared.request.Settled.TheVariants.{NoSync, Gone, Of}
 use Rattle.forwarding.specs.declared.request.AnsweredWrite.{AnsweredWrite}
 use Rattle.forwarding.specs.Queue.{waiting_connect, found_write}
-use Rattle.forwarding.specs.Pending.{queue_of, connecting_to, pending_close, settle_sync}
+use Rattle.forwarding.specs.declared.request.ConnectKind.TheVariants.{New, Claimed}
+use Rattle.forwarding.specs.Pending.{queue_of, connecting_to, awaiting, pending_close, settle_sync}
 use Rattle.sessions.specs.Credentials.{digest_id}
 use Rattle.sessions.specs.State.{SessionTable as Sessions, ConnectedClient as SessionConnection}
-use Rattle.sessions.specs.Sessions.{session_in, session_of_connection, connection_of, close_connection, close_if_some, new_connection, give_session, AuthResult, are_within_limits, is_same_id, with_id, show_in, digest_text, auth_by, add_auth}
+use Rattle.sessions.specs.Sessions.{session_in, session_of_connection, connection_of, close_connection, close_if_some, session_response, new_connection, give_session, AuthResult, are_within_limits, is_same_id, with_id, show_in, digest_text, auth_by, add_auth}
 use Rattle.world.specs.declared.world.Settings.{Settings}
 use Rattle.world.specs.World.{Clients, World}
 use Rattle.world.specs.Clients.{heard_connection, no_clients}
 use Rattle.world.specs.Sending.{send_last, with_sessions, with_pending, close_client_if_some}
 use Rattle.client_service.specs.Serve.{is_live, take_client_bytes}
-use Rattle.leader_answers.specs.Answering.{txn_number, admission_of, ending_of, reply_as, reply_of, due_by, admit_client, close_ended, give_answer, answer_txn, answer_optional_txn, answer_settled}
+use Rattle.leader_answers.specs.Answering.{txn_number, admission_of, connection_with, ending_of, reply_as, reply_of, due_by, admit_client, close_ended, give_answer, answer_txn, answer_optional_txn, answer_settled}
 use Rattle.observer_core.specs.Leader.{tell_effect, answer_news, send_effect, disconnect_all}
 use Rattle.observer_core.specs.Play.{is_serving_clients, primed_session, primed_machine}
-use Rattle.observer_core.specs.Agreement.{ClientsAgree, SessionsLive, ConnectedSessionsLive}
+use Rattle.observer_core.specs.Agreement.{ClientsAgree, AllSessionsLive, SessionsLive, ConnectedSessionsLive}
 use Rattle.observer_core.proofs.Walking.{Steps, HoldsOfReplies, HoldsOfCalls, HoldsOfConnects, client_makes}
-use Rattle.observer_core.proofs.Answered.{HoldsOfAnswers, admit_makes, front_makes, write_makes}
+use Rattle.observer_core.proofs.Answered.{awaits_it, HoldsOfAnswers, admit_makes, front_makes, write_makes}
 use Rattle.observer_core.proofs.Events.{IsKept, plays_keep}
 use Rattle.observer_core.proofs.Agreeing.{Agreeing, LowerLaws, with_session, agreeing_ground, settled_agrees}
 use Rattle.observer_core.proofs.Agreed.{agreeing_answers, tell_agrees}
 use Rattle.observer_core.proofs.Taking.{closed_fewer, one_closed_fewer, closed_other}
+use Rattle.observer_core.proofs.Unmoved.{news_same, client_same}
 use Rattle.observer_core.proofs.Served.{AgreeAndServed, IsQuiet, none_has, of_quiet, gone_nobody, news_quiet, nothing_pending_waits, served_kept}
 
 -- ---- what a transaction leaves of the tree's sessions
@@ -103,10 +113,15 @@ close_leaves header listed s =
 
 -- ---- what an item does to a tree that is served
 
--- The item leaves the tree, and no transaction was applied.
+-- Sessions don't move between servers.
+abbrev SessionsStay : Replica → Type 0
+SessionsStay r = (reads_of r.learner.dialect).moved_sessions ≡ false
+
+-- The item leaves the tree, no transaction was applied, and where sessions stay none was confirmed.
 record LeavesTree (r : Replica) (t : ItemEffect) : Type 0 where
   tree : t.replica.tree ≡ r.tree
   none : (place : ℕ) (err : ℤ) → t.news ≢ Some (news.Applied place err)
+  unclaimed : SessionsStay r → (session : ℤ) (lives : Bool) → t.news ≢ Some (news.Revalidated session lives)
 
 -- A transaction of the log was applied.
 record AppliesTxn (r : Replica) (t : ItemEffect) : Type 0 where
@@ -117,9 +132,46 @@ record AppliesTxn (r : Replica) (t : ItemEffect) : Type 0 where
   told : t.news ≡ Some (news.Applied place err)
   at : slice_get t.replica.learner.log place ≡ Some txn
 
+-- What is told, as a number.
+abbrev news_place : Option LeaderNews → ℕ
+news_place None = 0
+news_place (Some (news.Ping p)) = 1
+news_place (Some (news.Applied place err)) = 2
+news_place (Some news.SyncSettled) = 3
+news_place (Some (news.Revalidated session lives)) = 4
+
+apart_news : (x y : Option LeaderNews) → (news_place x ≡ news_place y → ⊥) → x ≢ y
+apart_news x y other same = other (ap news_place same)
+
 abbrev Serves : Replica → Result ItemEffect Fault → Type 0
 Serves r (Ok t) = LeavesTree r t ⊎ AppliesTxn r t
 Serves r (Err e) = Unit {0}
+
+-- Only where sessions move a packet is taken as an answer for one.
+answers_where_moved : (reads : Reads) (kind : Option PacketKind) (p : QuorumPacket) (bytes : List ℕ)
+    → message_of_kind reads kind p ≡ message.Revalidated bytes → reads.moved_sessions ≡ true
+answers_where_moved reads kind p bytes e = by kind (ap is_answer e)
+  where
+    is_answer : Message → Bool
+    is_answer (message.Revalidated bytes) = true
+    is_answer m = false
+
+    answers_if : (b : Bool) → is_answer (message_if b (message.Revalidated (carried_bytes p.bytes))) ≡ true → b ≡ true
+    answers_if true e = refl
+    answers_if false e = absurd (true≢false (sym e))
+
+    other_if : (b : Bool) (m : Message) → is_answer m ≡ false → is_answer (message_if b m) ≡ false
+    other_if true m other = other
+    other_if false m other = refl
+
+    by : (kind : Option PacketKind) → is_answer (message_of_kind reads kind p) ≡ true → reads.moved_sessions ≡ true
+    by (Some kinds.Revalidate) e = answers_if reads.moved_sessions e
+    by (Some kinds.CommitAndActivate) e =
+        absurd (true≢false (sym e ∙ other_if reads.extended_types (message.Commit p.zxid) refl))
+    by (Some kinds.InformAndActivate) e =
+        absurd (true≢false (sym e
+        ∙ other_if reads.extended_types (message.InformAndActivate (carried_bytes p.bytes)) refl))
+    by kind e = cc
 
 module _ (loading : Loading) (r : Replica) where
   abbrev carried : Result LearnerStep Fault → Result ItemEffect Fault
@@ -160,38 +212,61 @@ module _ (loading : Loading) (r : Replica) where
 
   -- Nothing is told.
   untold : (t : ItemEffect) → t.replica.tree ≡ r.tree → t.news ≡ None → LeavesTree r t
-  untold t same is = record { tree = same; none = λ place err e. true≢false (sym (ap is_some (sym is ∙ e))) }
+  untold t same is = record {
+    tree = same;
+    none = λ place err e. true≢false (sym (ap is_some (sym is ∙ e)));
+    unclaimed = λ stay session lives e. true≢false (sym (ap is_some (sym is ∙ e)));
+  }
 
   nothing : (l : Learner) → Serves r (carried (Ok (record { acts = []; after = l })))
   nothing l = inl (untold (no_effect loading (with_learner r (record { acts = []; after = l }))) refl refl)
 
+  -- The leader answers for a session, where sessions move.
+  revalidated : (l : Learner) (bytes : List ℕ) → (reads_of r.learner.dialect).moved_sessions ≡ true
+      → Serves r (carried (learn_revalidated l bytes))
+  revalidated l bytes move = by ((pair_of long boolean).read bytes)
+    where
+      by : (x : Result ((ℤ × Bool) × List ℕ) Fault)
+          → Serves r (carried (x >>= λ answer. Ok (single_act (act.Revalidated answer.0.0 answer.0.1) l)))
+      by (Ok answer) =
+          let told = Some (news.Revalidated answer.0.0 answer.0.1) in
+          inl (record {
+            tree = refl;
+            none = λ place err e. apart_news told (Some (news.Applied place err)) (λ x. omega arith) e;
+            unclaimed = λ stay session lives e. true≢false (sym move ∙ stay);
+          })
+      by (Err e) = tt
+
   -- Only an INFORM and an INFORMANDACTIVATE bring a transaction where clients are served.
-  message_serves : (l : Learner) (m : Message) → Serves r (carried (message_in_serving l m))
-  message_serves l (message.Ping p) = inl (record { tree = refl; none = λ place err e. true≢false (ap was_ping e) })
-    where
-      was_ping : Option LeaderNews → Bool
-      was_ping None = false
-      was_ping (Some (news.Ping p)) = true
-      was_ping (Some (news.Applied place err)) = false
-      was_ping (Some news.SyncSettled) = false
-  message_serves l message.Sync = inl (record { tree = refl; none = λ place err e. true≢false (ap was_sync e) })
-    where
-      was_sync : Option LeaderNews → Bool
-      was_sync None = false
-      was_sync (Some (news.Ping p)) = false
-      was_sync (Some (news.Applied place err)) = false
-      was_sync (Some news.SyncSettled) = true
-  message_serves l (message.Inform bytes) = informed l bytes
-  message_serves l (message.InformAndActivate bytes) = activated l bytes
-  message_serves l (message.LeaderInfo epoch bytes) = nothing l
-  message_serves l message.Diff = nothing l
-  message_serves l (message.Trunc zxid) = nothing l
-  message_serves l (message.Snap zxid) = nothing l
-  message_serves l (message.Proposal bytes) = nothing l
-  message_serves l (message.Commit zxid) = nothing l
-  message_serves l message.NewLeader = nothing l
-  message_serves l message.UpToDate = nothing l
-  message_serves l message.Other = nothing l
+  message_serves : (l : Learner) (m : Message)
+      → ((bytes : List ℕ) → m ≡ message.Revalidated bytes → (reads_of r.learner.dialect).moved_sessions ≡ true)
+      → Serves r (carried (message_in_serving l m))
+  message_serves l (message.Ping p) move =
+      let told = Some (news.Ping p) in
+      inl (record {
+        tree = refl;
+        none = λ place err e. apart_news told (Some (news.Applied place err)) (λ x. omega arith) e;
+        unclaimed = λ stay session lives e. apart_news told (Some (news.Revalidated session lives)) (λ x. omega arith) e;
+      })
+  message_serves l message.Sync move =
+      let told = Some news.SyncSettled in
+      inl (record {
+        tree = refl;
+        none = λ place err e. apart_news told (Some (news.Applied place err)) (λ x. omega arith) e;
+        unclaimed = λ stay session lives e. apart_news told (Some (news.Revalidated session lives)) (λ x. omega arith) e;
+      })
+  message_serves l (message.Revalidated bytes) move = revalidated l bytes (move bytes refl)
+  message_serves l (message.Inform bytes) move = informed l bytes
+  message_serves l (message.InformAndActivate bytes) move = activated l bytes
+  message_serves l (message.LeaderInfo epoch bytes) move = nothing l
+  message_serves l message.Diff move = nothing l
+  message_serves l (message.Trunc zxid) move = nothing l
+  message_serves l (message.Snap zxid) move = nothing l
+  message_serves l (message.Proposal bytes) move = nothing l
+  message_serves l (message.Commit zxid) move = nothing l
+  message_serves l message.NewLeader move = nothing l
+  message_serves l message.UpToDate move = nothing l
+  message_serves l message.Other move = nothing l
 
   -- An image is dropped.
   loads : (l : Learner) (p : ImagePart) → Serves r (carried (Ok (record { acts = act.LoadPart p ∷ []; after = l })))
@@ -221,7 +296,8 @@ module _ (loading : Loading) (r : Replica) where
   item_serves (item.Packet p) s =
       let m = message_of_packet r.learner.dialect p in
       subst (λ (ph : Phase). Serves r (carried (message_in_phase ph r.learner m)))
-      (sym (phase_is r.learner.phase s)) (message_serves r.learner m)
+      (sym (phase_is r.learner.phase s))
+      (message_serves r.learner m (λ bytes e. answers_where_moved (reads_of r.learner.dialect) (kind_of p.kind) p bytes e))
   item_serves (item.Part p) s =
       subst (λ (ph : Phase). Serves r (carried (part_in_phase ph r.learner p))) (sym (phase_is r.learner.phase s))
       (part_serves r.learner p)
@@ -260,15 +336,18 @@ given_fewer : (s : Sessions) (n : ℕ) (session time_out : ℤ) (m : ℕ) (has :
     → session_of_connection (give_session s n session time_out).after m ≡ Some has
     → (session ≡ has) ⊎ (session_of_connection s m ≡ Some has)
 given_fewer s n session time_out m has e =
-    cond_both (eq_by_cmp nat_cmp m n) (Some (new_connection session)) (finmap.get others.connections m)
+    cond_both (eq_by_cmp nat_cmp m n) (Some given) (finmap.get others.connections m)
     (λ (o : Option SessionConnection). session_in o ≡ Some has
     → (session ≡ has) ⊎ (session_of_connection s m ≡ Some has))
     (λ same is. inl (ap (λ (o : Option ℤ). unwrap_or o session) is))
     (λ other is. inr (one_closed_fewer s (connection_of s session) m has is))
-    (sym (ap session_in (finmap.get-insert nat_cmp_total others.connections n (new_connection session) m)) ∙ e)
+    (sym (ap session_in (finmap.get-insert nat_cmp_total others.connections n given m)) ∙ e)
   where
     others : Sessions
     others = close_if_some s (connection_of s session)
+
+    given : SessionConnection
+    given = new_connection session (session_response s.terms session time_out).time_out
 
 -- The connection of a session is the one that has it.
 owned : (c : Clients) (m : ℕ) (session : ℤ) → ClientsAgree c → session_of_connection c.sessions m ≡ Some session
@@ -277,15 +356,20 @@ owned c m session a e =
     let f = with_session (finmap.get c.sessions.connections m) session e in
     ap (finmap.get c.sessions.owners) (sym f.1.1) ∙ a.sessions.owners m f.0 f.1.0
 
+owned_with : (c : Clients) (m : ℕ) (session : ℤ) → ClientsAgree c → session_of_connection c.sessions m ≡ Some session
+    → connection_with c session ≡ Some m
+owned_with c m session a e =
+    ap (λ (o : Option ℕ). option_or o (awaiting c.pending session Claimed)) (owned c m session a e)
+
 -- ---- a connection's steps
 
 abbrev KeepsLive : Steps
-KeepsLive w h = SessionsLive w → SessionsLive h.after
+KeepsLive w h = AllSessionsLive w → AllSessionsLive h.after
 
 abbrev MayLive : World → ℤ → Type 0
 MayLive w session = is_live session w ≡ true
 
-left_live : (w : World) (o : Option ℕ) → SessionsLive w → SessionsLive (close_client_if_some w o).after
+left_live : (w : World) (o : Option ℕ) → AllSessionsLive w → AllSessionsLive (close_client_if_some w o).after
 left_live w None live = live
 left_live w (Some n) live = λ m session e. live m session (closed_fewer w.clients.sessions n m session e)
 
@@ -318,10 +402,12 @@ connects_live n = record {
       left_live (with_sessions w x.after) x.connected.older
       (λ m has e. given_live w session may live m has (given_fewer w.clients.sessions n session time_out m has e));
   asks = λ w time_out has_byte none idle a b live. live;
+  displaces = λ w session k with a live. left_live w (Some k) live;
+  claims = λ w has_byte response move none idle a live. live;
   may = λ w session live. live;
 }
   where
-    given_live : (w : World) (session : ℤ) → MayLive w session → SessionsLive w → (m : ℕ) (has : ℤ)
+    given_live : (w : World) (session : ℤ) → MayLive w session → AllSessionsLive w → (m : ℕ) (has : ℤ)
         → (session ≡ has) ⊎ (session_of_connection w.clients.sessions m ≡ Some has) → is_live has w ≡ true
     given_live w session may live m has (inl same) = ap (λ (x : ℤ). is_live x w) (sym same) ∙ may
     given_live w session may live m has (inr had) = live m has had
@@ -354,9 +440,9 @@ ended_fewer n w zxid (Some xid) m session e = by (reply_frame xid zxid (without_
     by (Some bytes) e =
         (closed_fewer w.clients.sessions n m session e, closed_other w.clients.sessions n m session e)
 
-module _ (stays : ServingStays) (laws : LowerLaws) where
+module _ (stays : ServingStays) (dialects : DialectStays) (laws : LowerLaws) where
   admit_lives : (n : ℕ) (w : World) (session : ℤ) → connecting_to w.clients.pending session ≡ Some n
-      → is_live session w ≡ true → Agreeing w → SessionsLive w → SessionsLive (admit_client n w).after
+      → is_live session w ≡ true → Agreeing w → AllSessionsLive w → AllSessionsLive (admit_client n w).after
   admit_lives n w session e lives a =
       (admit_makes n (Unit {0}) Agreeing KeepsLive (agreeing_ground laws n) (replies_live n) (λ session. Unit {0})
       (calls_live n) MayLive (connects_live n).gives (agreeing_answers laws n) (answers_live n).drops w
@@ -369,13 +455,13 @@ module _ (stays : ServingStays) (laws : LowerLaws) where
       f : (c : PendingConnect) × ((waiting_connect (queue_of w.clients.pending n) ≡ Some c) × (c.session ≡ session))
       f = a.pending.in_front session n e
 
-  replied_live : (w : World) (t : Txn) (err : ℤ) (o : Option ℕ) → Agreeing w → SessionsLive w
-      → SessionsLive (give_answer w t err (reply_of w.clients t o)).after
+  replied_live : (w : World) (t : Txn) (err : ℤ) (o : Option ℕ) → Agreeing w → AllSessionsLive w
+      → AllSessionsLive (give_answer w t err (reply_of w.clients t o)).after
   replied_live w t err None a live = live
   replied_live w t err (Some n) a live =
       by (found_write (queue_of w.clients.pending n) t.header.cxid (txn_number t))
     where
-      by : (o : Option AnsweredWrite) → SessionsLive (give_answer w t err (reply_as n o)).after
+      by : (o : Option AnsweredWrite) → AllSessionsLive (give_answer w t err (reply_as n o)).after
       by None = live
       by (Some write) =
           (write_makes n (Unit {0}) Agreeing KeepsLive (agreeing_ground laws n) (replies_live n)
@@ -387,17 +473,17 @@ module _ (stays : ServingStays) (laws : LowerLaws) where
       → other ≢ session → is_live other w ≡ true
 
   ended_live : (w : World) (t : Txn) (err : ℤ) (o : Option ℕ)
-      → connection_of w.clients.sessions t.header.client_id ≡ o → Agreeing w → OthersLive w t.header.client_id
-      → SessionsLive (give_answer w t err (ending_of o)).after
+      → connection_with w.clients t.header.client_id ≡ o → Agreeing w → OthersLive w t.header.client_id
+      → AllSessionsLive (give_answer w t err (ending_of o)).after
   ended_live w t err None e a others m session has =
-      others m session has (λ same. true≢false (sym (ap is_some (owned w.clients m session a has))
-      ∙ ap (λ (x : ℤ). is_some (connection_of w.clients.sessions x)) same ∙ ap is_some e))
+      others m session has (λ same. true≢false (sym (ap is_some (owned_with w.clients m session a has))
+      ∙ ap (λ (x : ℤ). is_some (connection_with w.clients x)) same ∙ ap is_some e))
   ended_live w t err (Some n) e a others m session has =
       ap (λ (r : Replica). finmap.contains_key r.tree.sessions session)
       (ended_same n w t.header.zxid (pending_close w.clients.pending n))
       ∙ others m session had.0
-      (λ same. had.1 (ap (λ (o : Option ℕ). unwrap_or o m) (sym (owned w.clients m session a had.0)
-      ∙ ap (connection_of w.clients.sessions) same ∙ e)))
+      (λ same. had.1 (ap (λ (o : Option ℕ). unwrap_or o m) (sym (owned_with w.clients m session a had.0)
+      ∙ ap (connection_with w.clients) same ∙ e)))
     where
       had : (session_of_connection w.clients.sessions m ≡ Some session) × (m ≢ n)
       had = ended_fewer n w t.header.zxid (pending_close w.clients.pending n) m session has
@@ -417,18 +503,18 @@ module _ (stays : ServingStays) (laws : LowerLaws) where
 
   txn_lives : (w : World) (before : State) (t : Txn) (err : ℤ)
       → w.replica.tree ≡ (effect_of_txn before t).state → Agreeing w → LiveBefore w before.sessions
-      → SessionsLive (answer_txn w t err).after
+      → AllSessionsLive (answer_txn w t err).after
   txn_lives w before t err tree a live = by t.body (ap (λ (s : State). s.sessions) tree)
     where
       session : ℤ
       session = t.header.client_id
 
-      same_live : w.replica.tree.sessions ≡ before.sessions → SessionsLive w
+      same_live : w.replica.tree.sessions ≡ before.sessions → AllSessionsLive w
       same_live same n has e = ap (λ m. finmap.contains_key m has) same ∙ live n has e
 
       created : (time_out : ℤ) → w.replica.tree.sessions ≡ finmap.insert before.sessions session time_out
-          → (o : Option ℕ) → connecting_to w.clients.pending session ≡ o
-          → SessionsLive (give_answer w t err (admission_of o)).after
+          → (o : Option ℕ) → awaiting w.clients.pending session New ≡ o
+          → AllSessionsLive (give_answer w t err (admission_of o)).after
       created time_out is o e = admitted o e
         where
           live_in : (x : ℤ) → finmap.contains_key before.sessions x ≡ true → is_live x w ≡ true
@@ -444,13 +530,14 @@ module _ (stays : ServingStays) (laws : LowerLaws) where
               ∙ ap (λ (b : Bool). is_some (cond b (Some time_out) (finmap.get before.sessions session)))
               (ap is_eq (tied_itself int_cmp_total session))
 
-          all_live : SessionsLive w
+          all_live : AllSessionsLive w
           all_live n x e = live_in x (live n x e)
 
-          admitted : (o : Option ℕ) → connecting_to w.clients.pending session ≡ o
-              → SessionsLive (give_answer w t err (admission_of o)).after
+          admitted : (o : Option ℕ) → awaiting w.clients.pending session New ≡ o
+              → AllSessionsLive (give_answer w t err (admission_of o)).after
           admitted None e = all_live
-          admitted (Some n) e = admit_lives n w session e new_lives a all_live
+          admitted (Some n) e =
+              admit_lives n w session (awaits_it w.clients.pending session New n e) new_lives a all_live
 
       closed : w.replica.tree.sessions ≡ finmap.remove before.sessions session → OthersLive w session
       closed is n x e other =
@@ -460,11 +547,11 @@ module _ (stays : ServingStays) (laws : LowerLaws) where
           (λ same. absurd (other (tells_apart exact_signed x session same))) (λ _. live n x e)
 
       by : (b : Body) → w.replica.tree.sessions ≡ (effect_of_body t.header b before).state.sessions
-          → SessionsLive (give_answer w t err (due_by w.clients t (session_change b))).after
+          → AllSessionsLive (give_answer w t err (due_by w.clients t (session_change b))).after
       by (bodies.CreateSession time_out) is =
-          created time_out is (connecting_to w.clients.pending session) refl
+          created time_out is (awaiting w.clients.pending session New) refl
       by (bodies.CloseSession listed) is =
-          ended_live w t err (connection_of w.clients.sessions session) refl a
+          ended_live w t err (connection_with w.clients session) refl a
           (closed (is ∙ close_leaves t.header listed before))
       by (bodies.Single operation) is =
           replied_live w t err (connection_of w.clients.sessions session) a
@@ -476,20 +563,22 @@ module _ (stays : ServingStays) (laws : LowerLaws) where
           replied_live w t err (connection_of w.clients.sessions session) a
           (same_live (is ∙ multi_leaves t.header parts before))
 
-  settled_live : (w : World) (o : Settled) → Agreeing w → SessionsLive w → SessionsLive (answer_settled w o).after
+  settled_live : (w : World) (o : Settled) → Agreeing w → AllSessionsLive w → AllSessionsLive (answer_settled w o).after
   settled_live w NoSync a live = live
   settled_live w Gone a live = live
   settled_live w (Of n) a live =
       (front_makes n (Unit {0}) Agreeing KeepsLive (agreeing_ground laws n) (replies_live n) (agreeing_answers laws n)
       (answers_live n) w a).is live
 
-  -- No transaction was applied.
-  news_live : (o : Option LeaderNews) (w : World) → ((place : ℕ) (err : ℤ) → o ≢ Some (news.Applied place err)) → Agreeing w
-      → SessionsLive w → SessionsLive (answer_news o w).after
-  news_live None w none a live = live
-  news_live (Some (news.Ping ping)) w none a live = live
-  news_live (Some (news.Applied place err)) w none a live = absurd (none place err refl)
-  news_live (Some news.SyncSettled) w none a live =
+  -- No transaction was applied, and no session confirmed.
+  news_live : (o : Option LeaderNews) (w : World) → ((place : ℕ) (err : ℤ) → o ≢ Some (news.Applied place err))
+      → ((session : ℤ) (lives : Bool) → o ≢ Some (news.Revalidated session lives)) → Agreeing w
+      → AllSessionsLive w → AllSessionsLive (answer_news o w).after
+  news_live None w none unclaimed a live = live
+  news_live (Some (news.Ping ping)) w none unclaimed a live = live
+  news_live (Some (news.Applied place err)) w none unclaimed a live = absurd (none place err refl)
+  news_live (Some (news.Revalidated session lives)) w none unclaimed a live = absurd (unclaimed session lives refl)
+  news_live (Some news.SyncSettled) w none unclaimed a live =
       let s = settle_sync w.clients.pending in
       settled_live (with_pending w s.after) s.settled (settled_agrees laws w a) live
 
@@ -498,30 +587,36 @@ module _ (stays : ServingStays) (laws : LowerLaws) where
   abbrev AllHold : World → Type 0
   AllHold w = AgreeAndServed w × SessionsLive w
 
-  quiet_live : (w : World) → IsQuiet w.clients → SessionsLive w
+  quiet_live : (w : World) → IsQuiet w.clients → AllSessionsLive w
   quiet_live w q n session e =
       absurd (true≢false (sym (ap is_some e) ∙ ap is_some (none_has w.clients.sessions q.nobody n)))
 
   effect_lives : (loading : Loading) (w : World) (i : Item) (t : ItemEffect) → take_item loading w.replica i ≡ Ok t
       → AllHold w → SessionsLive (send_effect w t).after
-  effect_lives loading w i t e h = by (is_serving w.replica) refl
+  effect_lives loading w i t e h then = by (is_serving w.replica) refl
     where
       v : World
       v = (tell_effect w t).after
 
+      -- The dialect is still the same.
+      stay : SessionsStay w.replica
+      stay = ap (λ (dialect : Dialect). (reads_of dialect).moved_sessions) (sym (dialects.takes loading w.replica i t e))
+          ∙ ap (λ (r : Replica). (reads_of r.learner.dialect).moved_sessions) (sym (news_same t.news v)) ∙ then
+
       told : Agreeing v
       told = tell_agrees laws w t h.0.0
 
-      serves : LeavesTree w.replica t ⊎ AppliesTxn w.replica t → SessionsLive (answer_news t.news v).after
+      serves : LeavesTree w.replica t ⊎ AppliesTxn w.replica t → AllSessionsLive (answer_news t.news v).after
       serves (inl leaves) =
-          news_live t.news v leaves.none told
-          (λ n session has. ap (λ (s : State). finmap.contains_key s.sessions session) leaves.tree ∙ h.1 n session has)
+          news_live t.news v leaves.none (leaves.unclaimed stay) told
+          (λ n session has. ap (λ (s : State). finmap.contains_key s.sessions session) leaves.tree
+          ∙ h.1 stay n session has)
       serves (inr applies) =
-          subst (λ (o : Option LeaderNews). SessionsLive (answer_news o v).after) (sym applies.told)
-          (subst (λ (o : Option Txn). SessionsLive (answer_optional_txn v applies.err o).after) (sym applies.at)
-          (txn_lives v w.replica.tree applies.txn applies.err applies.tree told h.1))
+          subst (λ (o : Option LeaderNews). AllSessionsLive (answer_news o v).after) (sym applies.told)
+          (subst (λ (o : Option Txn). AllSessionsLive (answer_optional_txn v applies.err o).after) (sym applies.at)
+          (txn_lives v w.replica.tree applies.txn applies.err applies.tree told (h.1 stay)))
 
-      by : (b : Bool) → is_serving w.replica ≡ b → SessionsLive (send_effect w t).after
+      by : (b : Bool) → is_serving w.replica ≡ b → AllSessionsLive (send_effect w t).after
       by true s = serves (subst (Serves w.replica) e (item_serves loading w.replica i s))
       by false s =
           let q = h.0.1 s in
@@ -530,10 +625,12 @@ module _ (stays : ServingStays) (laws : LowerLaws) where
 
   bytes_live : (n : ℕ) (w : World) (bytes : List ℕ) → AllHold w → SessionsLive
       (take_client_bytes (is_serving_clients w) n w (heard_connection n w.clients) bytes).after
-  bytes_live n w bytes h =
+  bytes_live n w bytes h stay =
       (client_makes n (Unit {0}) Agreeing KeepsLive (agreeing_ground laws n) (replies_live n) (λ session. Unit {0})
       (calls_live n) MayLive (connects_live n) (λ w k rest a live. live) (is_serving_clients w) w
-      (heard_connection n w.clients) bytes h.0.0).is h.1
+      (heard_connection n w.clients) bytes h.0.0).is
+      (h.1 (ap (λ (r : Replica). (reads_of r.learner.dialect).moved_sessions)
+      (sym (client_same (is_serving_clients w) n w (heard_connection n w.clients) bytes)) ∙ stay))
 
   checkpoint_lives : (b : Bool) (r : Replica) → (checkpoint_if b r).tree ≡ r.tree
   checkpoint_lives true r = refl
@@ -547,26 +644,27 @@ module _ (stays : ServingStays) (laws : LowerLaws) where
         effects = λ loading w i t e h. (kept.effects loading w i t e h.0, effect_lives loading w i t e h);
         gone = λ w h. (
           kept.gone w h.0,
-          quiet_live (disconnect_all w).after
+          λ stay. quiet_live (disconnect_all w).after
               (record { nobody = gone_nobody w h.0.0.joined; nothing = nothing_pending_waits }),
         );
         opens = λ n w h. (kept.opens n w h.0, h.1);
         bytes = λ n w bytes h. (kept.bytes n w bytes h.0, bytes_live n w bytes h);
-        closes = λ n w h. (kept.closes n w h.0, left_live w (Some n) h.1);
+        closes = λ n w h. (kept.closes n w h.0, λ stay. left_live w (Some n) (h.1 stay));
         checkpoints = λ w h. (
           kept.checkpoints w h.0,
-          λ n session e.
+          λ stay n session e.
               ap (λ (s : State). finmap.contains_key s.sessions session)
               (checkpoint_lives (is_serving w.replica) w.replica)
-              ∙ h.1 n session e,
+              ∙ h.1 (ap (λ (dialect : Dialect). (reads_of dialect).moved_sessions) (sym (dialects.rebases w.replica)) ∙ stay)
+              n session e,
         );
       }
 
   pub connected_sessions_live : ConnectedSessionsLive
   connected_sessions_live = record {
-    starts = λ settings n session e. absurd (true≢false (sym (ap is_some e)
+    starts = λ settings stay n session e. absurd (true≢false (sym (ap is_some e)
         ∙ ap (λ o. is_some (session_in o)) (finmap.get-empty nat_cmp n)));
-    starts_primed = λ settings n session e. first settings n session
+    starts_primed = λ settings stay n session e. first settings n session
         (given_fewer (record (no_clients settings).sessions { counter = settings.first_counter + 1 }) 1
         (primed_session settings) settings.timeouts.greatest n session e);
     plays = λ m events agrees quiet live.

@@ -1,10 +1,10 @@
 -- A predicate of connection numbers that holds for all keys of a map, and for all connections with a session, a watch
 -- or a request that waits.
-use Rattle.std.proofs.Common.{◌≡◌, ◌≢◌, ℕ, ℤ, Bool, true, false, ◌||◌, List, [], ◌∷◌, Option, Some, None, refl, sym, ap, subst, ◌∙◌}
+use Rattle.std.proofs.Common.{◌≡◌, ◌≢◌, ℕ, ℤ, Bool, true, false, cond, ◌||◌, List, [], ◌∷◌, Option, Some, None, refl, sym, ap, subst, ◌∙◌}
 use Rattle.std.specs.Prelude.{is_some}
 use Rattle.std.specs.List.{list_any}
-use Rattle.std.specs.Ordering.{eq_by_cmp, nat_cmp}
-use Rattle.std.specs.Cmp.{nat_cmp_total, eq_by_cmp_equiv}
+use Rattle.std.specs.Ordering.{eq_by_cmp, nat_cmp, int_cmp}
+use Rattle.std.specs.Cmp.{nat_cmp_total, int_cmp_total, eq_by_cmp_equiv}
 use Rattle.std.proofs.Math.Bool.{or-false}
 use Rattle.std.proofs.lemmas.Bool.{cond_both}
 use Rattle.std.proofs.lemmas.Map.Lookups.{exact_unsigned}
@@ -15,7 +15,7 @@ use mathlib.Core.Bool.{true≢false}
 use Rattle.jute.specs.declared.owned.Id.{Id}
 use Rattle.sessions.specs.Credentials.{digest_id}
 use Rattle.sessions.specs.State.{ConnectedClient, SessionTable}
-use Rattle.sessions.specs.Sessions.{AuthResult, new_connection, are_within_limits, is_same_id, with_id, connection_of, close_connection, close_as, close_if_some, give_session, show_in, digest_text, auth_by, add_auth}
+use Rattle.sessions.specs.Sessions.{AuthResult, session_response, new_connection, are_within_limits, is_same_id, with_id, connection_of, close_connection, close_as, close_if_some, give_session, show_in, digest_text, auth_by, add_auth}
 use Rattle.watch_manager.specs.Pairs.{WatchPairs, watch_cmp, same_connection}
 use Rattle.watch_manager.specs.Watching.{WatchTables}
 use Rattle.watch_manager.specs.Lasting.{LastingWatches}
@@ -25,8 +25,9 @@ use Rattle.watch_manager.proofs.Totals.{watch_total, watch_exact}
 use Rattle.read_processor.specs.declared.watch.Watch.{Watch}
 use Rattle.read_processor.specs.declared.watch.Watch.TheVariants as tables
 use Rattle.forwarding.specs.Queue.{RequestQueue, with_oldest_settled}
-use Rattle.forwarding.specs.State.{PendingTable}
-use Rattle.forwarding.specs.Pending.{queue_in, queue_of, with_queue, put_queue, settle_first, settle_sync}
+use Rattle.forwarding.specs.declared.request.PendingConnect.{PendingConnect}
+use Rattle.forwarding.specs.State.{PendingTable, WaitingConnects}
+use Rattle.forwarding.specs.Pending.{without_connect, queue_in, queue_of, with_queue, put_queue, settle_first, settle_sync}
 use Rattle.client_service.specs.Serve.{with_watch}
 use Rattle.world.proofs.NatMaps.{get-beside}
 
@@ -100,7 +101,8 @@ module _ (test : ℕ → Bool) where
     -- A connection that passes gets a session.
     pub given_passes : (session time_out : ℤ) → Pass (give_session s n session time_out).after
     given_passes session time_out =
-        inserted_passes test (close_if_some s (connection_of s session)).connections n (new_connection session) here
+        inserted_passes test (close_if_some s (connection_of s session)).connections n
+        (new_connection session (session_response s.terms session time_out).time_out) here
         (one_closed_passes s (connection_of s session) all)
 
 -- ---- connections that have no session
@@ -154,8 +156,23 @@ pub given_none : (s : SessionTable) (n : ℕ) (session time_out : ℤ) (k : ℕ)
     → finmap.get s.connections k ≡ None
     → finmap.get (give_session s n session time_out).after.connections k ≡ None
 given_none s n session time_out k other none =
-    get-beside (close_if_some s (connection_of s session)).connections n k (new_connection session) other
+    get-beside (close_if_some s (connection_of s session)).connections n k
+    (new_connection session (session_response s.terms session time_out).time_out) other
     ∙ one_closed_none s (connection_of s session) k none
+
+-- ---- connects that wait
+
+-- A connect that still waits waited before.
+pub fewer_without : (connects : WaitingConnects) (o : Option PendingConnect) (session : ℤ) (n : ℕ)
+    → finmap.get (without_connect connects o) session ≡ Some n → finmap.get connects session ≡ Some n
+fewer_without connects None session n e = e
+fewer_without connects (Some c) session n e =
+    was_there (eq_by_cmp int_cmp session c.session) (finmap.get connects session)
+    (sym (finmap.get-remove int_cmp_total connects c.session session) ∙ e)
+  where
+    was_there : (b : Bool) (o : Option ℕ) → cond b None o ≡ Some n → o ≡ Some n
+    was_there true o e = absurd (true≢false (sym (ap is_some e)))
+    was_there false o e = e
 
 -- ---- connections of which a request waits
 

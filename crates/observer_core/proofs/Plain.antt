@@ -9,7 +9,7 @@ Always w = Unit {0}
 
 pub plain_ground : (n : ℕ) → IsGround n ⊥ Always
 plain_ground n = record {
-  closes = λ w a. tt;
+  closes = λ k w a. tt;
   watches = λ w watch here a. tt;
   auths = λ w scheme bytes here a. tt;
   touches = λ w session a. tt;
@@ -19,7 +19,9 @@ plain_ground n = record {
   holds = λ w frame room busy a. tt;
   counts = λ w none below a. tt;
   gives = λ w session time_out none free here a. tt;
-  asks = λ w session time_out has_byte none idle free here a. tt;
+  asks = λ w connect none idle free here a. tt;
+  others = λ w session k strict a none idle with. absurd strict;
+  alone = λ w session k strict a waits. absurd strict;
 }
 
 pub plain_answer_ground : (n : ℕ) → IsAnswerGround n ⊥ Always

@@ -2,6 +2,7 @@
 use Rattle.std.proofs.Common.{◌≡◌, ℕ, zero, suc, ℤ, Bool, true, false, cond, not, ◌||◌, List, [], ◌∷◌, ◌++◌, slice_get, Option, Some, None, Result, Ok, Err, refl, sym, ap, subst, ◌∙◌}
 use Rattle.std.specs.Prelude.{is_some}
 use Rattle.std.specs.List.{list_any}
+use Rattle.std.specs.Option.{option_or}
 use Rattle.std.specs.Ordering.{eq_by_cmp, nat_cmp}
 use Rattle.std.specs.Cmp.{nat_cmp_total, eq_by_cmp_equiv}
 use Rattle.std.proofs.lemmas.Bool.{cond_both}
@@ -26,11 +27,13 @@ use Rattle.replica.specs.declared.item_outcome.LeaderNews.TheVariants as news
 use Rattle.client_frames.specs.declared.connecting.Connecting.{Connecting}
 use Rattle.client_frames.specs.Connect.{connecting_in}
 use Rattle.four_letter.specs.declared.word.Word.{Word}
+use Rattle.forwarding.specs.declared.request.ConnectKind.{ConnectKind}
+use Rattle.forwarding.specs.declared.request.ConnectKind.TheVariants.{New, Claimed}
 use Rattle.forwarding.specs.declared.request.Ready.{Ready}
 use Rattle.forwarding.specs.declared.request.Settled.{Settled}
 use Rattle.forwarding.specs.declared.request.Settled.TheVariants.{NoSync, Gone, Of}
 use Rattle.forwarding.specs.Queue.{RequestQueue, pending_limit, ready_request, without_front_if}
-use Rattle.forwarding.specs.Pending.{nothing_pending, is_idle, connecting_to, settle_sync, take_ready}
+use Rattle.forwarding.specs.Pending.{nothing_pending, is_idle, connecting_to, awaiting_as, awaiting, settle_sync, take_ready}
 use Rattle.forwarding.specs.State.{PendingTable}
 use Rattle.sessions.specs.State.{SessionTable as Sessions, ConnectedClient as SessionConnection}
 use Rattle.sessions.specs.Sessions.{session_in, session_of_connection, connection_of}
@@ -42,7 +45,7 @@ use Rattle.world.specs.Sending.{close_client, with_pending}
 use Rattle.client_service.specs.Serve.{touched_as, handle_connect, serve_by, is_refused_frame, serve_frame, word_at, is_unheard, with_waiting_bytes, wait_if_heard, frames_of_client, tell_or_serve, take_client_bytes}
 use Rattle.leader_answers.specs.declared.due.Due.{Due}
 use Rattle.leader_answers.specs.declared.due.Due.TheVariants as dues
-use Rattle.leader_answers.specs.Answering.{answer_if_ready, answer_up_to, answer_due, due_by, admission_of, ending_of, reply_of, give_answer, answer_optional_txn, answer_settled}
+use Rattle.leader_answers.specs.Answering.{answer_if_ready, answer_up_to, answer_due, due_by, admission_of, ending_of, reply_of, answer_claim, give_answer, answer_optional_txn, answer_settled}
 use Rattle.observer_core.specs.Leader.{tell_effect, answer_news, send_effect, part_reader, meet_leader, disconnect_all}
 use Rattle.observer_core.specs.Play.{is_serving_clients, with_checkpoint, play}
 use Rattle.observer_core.specs.Agreement.{ClientsAgree, IsQuietUnlessServing, SessionsAreServed}
@@ -230,6 +233,16 @@ client_quiet n w (Some k) bytes q = by (word_at n w came)
 
 -- ---- where it is quiet, no news answer anybody
 
+none_awaits : (c : Clients) → ClientsAgree c → IsQuiet c → (session : ℤ) (kind : ConnectKind)
+    → awaiting c.pending session kind ≡ None
+none_awaits c a q session kind = ap (awaiting_as c.pending kind) (of (connecting_to c.pending session) refl)
+  where
+    of : (o : Option ℕ) → connecting_to c.pending session ≡ o → o ≡ None
+    of None e = refl
+    of (Some n) e =
+        let f = a.pending.in_front session n e in
+        absurd (true≢false (sym (none_waits c.pending q.nothing n) ∙ waits_busy c.pending n f.0 f.1.0))
+
 none_due : (c : Clients) (t : Txn) → ClientsAgree c → IsQuiet c → answer_due c t ≡ dues.Nothing
 none_due c t a q = by (session_change t.body)
   where
@@ -245,18 +258,14 @@ none_due c t a q = by (session_change t.body)
             absurd (true≢false (sym (ap is_some (owner_has c.sessions session n a.sessions e))
             ∙ ap is_some (none_has c.sessions q.nobody n)))
 
-    unwanted : connecting_to c.pending session ≡ None
-    unwanted = of (connecting_to c.pending session) refl
-      where
-        of : (o : Option ℕ) → connecting_to c.pending session ≡ o → o ≡ None
-        of None e = refl
-        of (Some n) e =
-            let f = a.pending.in_front session n e in
-            absurd (true≢false (sym (none_waits c.pending q.nothing n) ∙ waits_busy c.pending n f.0 f.1.0))
+    unwanted : (kind : ConnectKind) → awaiting c.pending session kind ≡ None
+    unwanted kind = none_awaits c a q session kind
 
     by : (change : SessionChange) → due_by c t change ≡ dues.Nothing
-    by (changes.Begins time_out) = ap admission_of unwanted
-    by changes.Ends = ap ending_of unowned
+    by (changes.Begins time_out) = ap admission_of (unwanted New)
+    by changes.Ends =
+        ap (λ (o : Option ℕ). ending_of (option_or o (awaiting c.pending session Claimed))) unowned
+        ∙ ap ending_of (unwanted Claimed)
     by changes.Nothing = ap (reply_of c t) unowned
 
 txn_quiet : (w : World) (err : ℤ) (o : Option Txn) → Agreeing w → IsQuiet w.clients
@@ -296,6 +305,8 @@ pub news_quiet : (o : Option LeaderNews) (w : World) → Agreeing w → IsQuiet 
 news_quiet None w a q = q
 news_quiet (Some (news.Ping ping)) w a q = record { nobody = q.nobody; nothing = q.nothing }
 news_quiet (Some (news.Applied place err)) w a q = txn_quiet w err (slice_get w.replica.learner.log place) a q
+news_quiet (Some (news.Revalidated session lives)) w a q =
+    subst (λ (o : Option ℕ). QuietAfter (answer_claim w o lives)) (sym (none_awaits w.clients a q session Claimed)) q
 news_quiet (Some news.SyncSettled) w a q =
     let s = settle_sync w.clients.pending in
     sync_quiet (with_pending w s.after) s.settled

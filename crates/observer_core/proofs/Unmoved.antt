@@ -48,6 +48,8 @@ connects_same n = record {
       let c = give_session w.clients.sessions n session time_out in
       left_same (with_sessions w c.after) c.connected.older;
   asks = λ w time_out has_byte none idle a b. refl;
+  displaces = λ w session k with a. refl;
+  claims = λ w has_byte response move none idle a. refl;
   may = λ w session live. tt;
 }
 

@@ -1,7 +1,8 @@
 -- What a connection's small steps keep, its frames keep.
-use Rattle.std.proofs.Common.{◌≡◌, ℕ, ◌+◌, ◌==◌, ℤ, pos, negsuc, Bool, true, false, cond, not, ◌||◌, ◌&&◌, List, [], ◌∷◌, ◌++◌, length, Option, Some, None, Result, Ok, Err, refl, sym, ap, ◌∙◌}
+use Rattle.std.proofs.Common.{◌≡◌, ◌≢◌, ◌⊎◌, inl, inr, ℕ, ◌+◌, ◌==◌, ℤ, pos, negsuc, Bool, true, false, cond, not, ◌||◌, ◌&&◌, List, [], ◌∷◌, ◌++◌, length, Option, Some, None, Result, Ok, Err, refl, sym, ap, ◌∙◌}
 use Rattle.std.specs.Prelude.{is_some, nat_lt}
-use Rattle.std.specs.Ordering.{int_eq}
+use Rattle.std.specs.Ordering.{eq_by_cmp, nat_cmp, int_eq}
+use Rattle.std.specs.Cmp.{nat_cmp_total}
 use Rattle.std.proofs.lemmas.Bool.{cond_both}
 use Rattle.std.specs.FinMap as finmap
 use mathlib.Core.Bool.{true≢false}
@@ -16,17 +17,19 @@ use Rattle.client_frames.specs.declared.call.CallBody.TheVariants as bodies
 use Rattle.client_frames.specs.declared.call.LocalCall.{LocalCall}
 use Rattle.client_frames.specs.declared.call.LocalCall.TheVariants as locals
 use Rattle.client_frames.specs.declared.connecting.Connecting.{Connecting}
-use Rattle.client_frames.specs.Call.{call_in}
 use Rattle.client_frames.specs.Connect.{connecting_in, session_request_of, answer_to_connect}
 use Rattle.sessions.specs.State.{SessionTable as Sessions, ConnectedClient as Joined}
 use Rattle.sessions.specs.Credentials.{session_id_of}
-use Rattle.sessions.specs.Sessions.{session_in, session_of_connection, ids_of, greatest_counter, is_valid, ConnectResult, session_response, refusal_response, refused_connect, give_session, name_session, connect_session, AuthResult, add_auth}
+use Rattle.sessions.specs.Sessions.{session_in, session_of_connection, connection_of, ids_of, greatest_counter, claimed_session, is_valid, ConnectResult, session_response, refusal_response, refused_connect, give_session, name_session, connect_session, AuthResult, add_auth}
 use Rattle.sessions.specs.declared.request.SessionResponse.{SessionResponse}
+use Rattle.forwarding.specs.declared.request.ConnectKind.TheVariants.{New, Claimed}
+use Rattle.forwarding.specs.declared.request.PendingConnect.{PendingConnect}
 use Rattle.forwarding.specs.declared.request.WriteKind.{WriteKind}
 use Rattle.forwarding.specs.Queue.{RequestQueue, is_close, waiting_connect}
 use Rattle.forwarding.specs.State.{PendingTable}
-use Rattle.forwarding.specs.Pending.{queue_in, queue_of, is_idle, is_full, connecting_to, push_connect, push_write, push_sync, hold_frame, touch_session}
+use Rattle.forwarding.specs.Pending.{queue_in, queue_of, is_idle, is_full, connecting_to, push_connect, push_write, push_sync, hold_frame, touch_session, drop_connection}
 use Rattle.learner_sync.specs.Answers.{session_request}
+use Rattle.settings.specs.Dialects.{reads_of}
 use Rattle.read_processor.specs.declared.watch.Watch.{Watch}
 use Rattle.read_processor.specs.declared.renewal.Renewal.{Renewal}
 use Rattle.read_processor.specs.Look.{look_at_state, without_body}
@@ -42,8 +45,9 @@ use Rattle.world.specs.World.{OpenConnection, World}
 use Rattle.world.specs.Steps.{StepResult, no_output, and_then, fold_steps}
 use Rattle.world.specs.Clients.{is_open, heard_in, heard_connection, with_connection, sent_to, notice_to, notices_to}
 use Rattle.world.specs.Sending.{to_leader, close_client, send_or_close, send_last, with_watches, with_sessions, with_pending, close_client_if_some}
-use Rattle.client_service.specs.Serve.{with_watch, with_watch_if, with_each_watch, answer_set_watches, answer_add_watch, answer_auth, touched_as, touch_client, send_auth_result, send_connect_response, ask_for_session, is_new_session, finish_connect, may_connect, is_live, handle_connect, handle_local, forward_frame, with_leaving, handle_call, serve_as, serve_by, header_len, is_refused_frame, serve_frame, figures_of, word_at, is_unheard, with_waiting_bytes, wait_if_heard, wait_at, frames_of_client, tell_or_serve, take_client_bytes}
-use Rattle.world.proofs.NatMaps.{get-inserted}
+use Rattle.client_service.specs.Serve.{with_watch, with_watch_if, with_each_watch, answer_set_watches, answer_add_watch, answer_auth, touched_as, touch_client, send_auth_result, send_connect_response, ask_for_session, close_others, ask_about_session, claim_session, claim_or_refuse, is_claim, is_new_session, finish_connect, may_connect, is_live, connect_client, call_of, handle_connect, handle_local, forward_frame, with_leaving, handle_call, serve_as, serve_by, header_len, is_refused_frame, serve_frame, figures_of, word_at, is_unheard, with_waiting_bytes, wait_if_heard, wait_at, frames_of_client, tell_or_serve, take_client_bytes}
+use Rattle.world.proofs.NatMaps.{get-inserted, get-kept}
+use Rattle.observer_core.proofs.Passing.{closed_none}
 
 abbrev pub IsOpen : ℕ → World → Type 0
 IsOpen n w = is_open n w.clients ≡ true
@@ -71,20 +75,38 @@ counted w = with_sessions w (record w.clients.sessions { counter = w.clients.ses
 abbrev pub next_id : World → ℤ
 next_id w = session_id_of w.clients.sessions.terms.server_id (w.clients.sessions.counter + 1)
 
+-- The connect waits for its session.
+abbrev pub with_connect : ℕ → World → PendingConnect → World
+with_connect n w connect = with_pending w (push_connect w.clients.pending n connect)
+
+abbrev pub new_connect : ℤ → ℤ → Bool → PendingConnect
+new_connect session time_out has_byte =
+    record { kind = New; session = session; time_out = time_out; has_read_only = has_byte }
+
+abbrev pub claiming : ℤ → ℤ → Bool → PendingConnect
+claiming session time_out has_byte =
+    record { kind = Claimed; session = session; time_out = time_out; has_read_only = has_byte }
+
 -- The leader is asked for a session, and the connect waits for it.
 abbrev pub asked_for : ℕ → World → ℤ → ℤ → Bool → StepResult World
 asked_for n w session time_out has_byte = record {
   outputs = to_leader (session_request session time_out) ∷ [];
-  after =
-      with_pending w
-      (push_connect w.clients.pending n
-      (record { session = session; time_out = time_out; has_read_only = has_byte }));
+  after = with_connect n w (new_connect session time_out has_byte);
 }
+
+-- The connection has the session, or its connect waits for it.
+abbrev pub IsWith : ℤ → ℕ → World → Type 0
+IsWith session k w =
+    (connection_of w.clients.sessions session ≡ Some k) ⊎ (connecting_to w.clients.pending session ≡ Some k)
+
+-- Sessions move between servers.
+abbrev pub SessionsMove : World → Type 0
+SessionsMove w = (reads_of w.settings.dialect).moved_sessions ≡ true
 
 -- Connection n's small steps keep `A`, which is known of every world on the way. Where `Strict` holds they may require
 -- that the connection is open, or has no session.
 pub record IsGround (n : ℕ) (Strict : Type 0) (A : World → Type 0) : Type 0 where
-  pub closes : (w : World) → A w → A (close_client n w).after
+  pub closes : (k : ℕ) (w : World) → A w → A (close_client k w).after
   pub watches : (w : World) (watch : Watch) → (Strict → IsOpen n w) → A w
       → A (with_watches w (with_watch n w.clients.watches watch))
   pub auths : (w : World) (scheme bytes : Option (List ℕ)) → (Strict → IsOpen n w) → A w
@@ -101,9 +123,15 @@ pub record IsGround (n : ℕ) (Strict : Type 0) (A : World → Type 0) : Type 0 
       → A (with_sessions w (record w.clients.sessions { counter = w.clients.sessions.counter + 1 }))
   pub gives : (w : World) (session time_out : ℤ) → (Strict → HasNone n w) → NoConnect n w → (Strict → IsOpen n w)
       → A w → A (given n w session time_out).after
-  pub asks : (w : World) (session time_out : ℤ) (has_byte : Bool) → HasNone n w
-      → is_idle w.clients.pending n ≡ true → connecting_to w.clients.pending session ≡ None → (Strict → IsOpen n w)
-      → A w → A (asked_for n w session time_out has_byte).after
+  pub asks : (w : World) (connect : PendingConnect) → HasNone n w → is_idle w.clients.pending n ≡ true
+      → (Strict → connecting_to w.clients.pending connect.session ≡ None) → (Strict → IsOpen n w) → A w
+      → A (with_connect n w connect)
+  -- A connection that has a session, or waits for one, isn't one that has none and waits for nothing; and no two wait for
+  -- one session.
+  pub others : (w : World) (session : ℤ) (k : ℕ) → Strict → A w → HasNone n w → is_idle w.clients.pending n ≡ true
+      → IsWith session k w → k ≢ n
+  pub alone : (w : World) (session : ℤ) (k : ℕ) → Strict → A w → connecting_to w.clients.pending session ≡ Some k
+      → connecting_to (drop_connection w.clients.pending k) session ≡ None
 
 -- The relation holds of connection n's small steps that answer, and of one step after another.
 pub record HoldsOfReplies (n : ℕ) (A : World → Type 0) (Q : Steps) : Type 0 where
@@ -140,6 +168,11 @@ pub record HoldsOfConnects (n : ℕ) (A : World → Type 0) (Own : ℤ → Type 
   -- A counter is used, and the leader is asked for the session with its id.
   pub asks : (w : World) (time_out : ℤ) (has_byte : Bool) → HasNone n w → is_idle w.clients.pending n ≡ true → A w
       → A (counted w) → Q w (asked_for n (counted w) (next_id w) time_out has_byte)
+  -- Where sessions move, a client claims a session: the connections that have it, or wait for it, are closed, and the
+  -- leader is asked about it.
+  pub displaces : (w : World) (session : ℤ) (k : ℕ) → IsWith session k w → A w → Q w (close_client k w)
+  pub claims : (w : World) (has_byte : Bool) (response : SessionResponse) → SessionsMove w → HasNone n w
+      → is_idle w.clients.pending n ≡ true → A w → Q w (ask_about_session n has_byte response w)
   pub may : (w : World) (session : ℤ) → is_live session w ≡ true → May w session
 
 -- The step keeps `A`, and the relation holds of it.
@@ -191,6 +224,29 @@ heard_open n w e = by (finmap.get w.clients.connections n) e
     by None e = absurd (true≢false e)
     by (Some c) e = refl
 
+-- ---- other connections close
+
+pub none_if_closed : (n : ℕ) (w : World) (o : Option ℕ) → HasNone n w → HasNone n (close_client_if_some w o).after
+none_if_closed n w None none = none
+none_if_closed n w (Some k) none = closed_none w.clients.sessions k n none
+
+pub idle_if_closed : (n : ℕ) (w : World) (o : Option ℕ) → is_idle w.clients.pending n ≡ true
+    → is_idle (close_client_if_some w o).after.clients.pending n ≡ true
+idle_if_closed n w None idle = idle
+idle_if_closed n w (Some k) idle =
+    ap (λ (o : Option RequestQueue). not (is_some o)) (finmap.get-remove nat_cmp_total w.clients.pending.queues k n)
+    ∙ by (eq_by_cmp nat_cmp n k)
+  where
+    by : (b : Bool) → not (is_some (cond b None (finmap.get w.clients.pending.queues n))) ≡ true
+    by true = refl
+    by false = idle
+
+pub open_if_closed : (n : ℕ) (w : World) (o : Option ℕ) → ((k : ℕ) → o ≡ Some k → k ≢ n) → IsOpen n w
+    → IsOpen n (close_client_if_some w o).after
+open_if_closed n w None other here = here
+open_if_closed n w (Some k) other here =
+    ap is_some (get-kept w.clients.connections k n (λ same. other k refl (sym same))) ∙ here
+
 -- ---- replies
 
 module _ (n : ℕ) (Strict : Type 0) (A : World → Type 0) (Q : Steps) (ground : IsGround n Strict A)
@@ -204,7 +260,7 @@ module _ (n : ℕ) (Strict : Type 0) (A : World → Type 0) (Q : Steps) (ground 
   stay_makes w a = record { keeps = a; is = r.stays w }
 
   pub close_makes : (w : World) → A w → Makes A Q w (close_client n w)
-  close_makes w a = record { keeps = ground.closes w a; is = r.closes w a }
+  close_makes w a = record { keeps = ground.closes n w a; is = r.closes w a }
 
   pub send_makes : (w : World) (frame : Option (List ℕ)) → A w → Makes A Q w (send_or_close n w frame)
   send_makes w None a = close_makes w a
@@ -455,7 +511,8 @@ module _ (n : ℕ) (Strict : Type 0) (A : World → Type 0) (Q : Steps) (ground 
           (λ _. after_count b (send_connect_response n asked.has_byte refusal_response)
           (greet_makes v asked.has_byte refusal_response b))
           (λ free. record {
-            keeps = ground.asks v (next_id w) response.time_out asked.has_byte none idle (none_is waits free) here b;
+            keeps = ground.asks v (new_connect (next_id w) response.time_out asked.has_byte) none idle
+                (λ _. none_is waits free) here b;
             is = c.asks w response.time_out asked.has_byte none idle a b;
           }))
           (λ _. after_count b (λ u. send_connect_response n asked.has_byte response (touch_client n u))
@@ -530,13 +587,104 @@ module _ (n : ℕ) (Strict : Type 0) (A : World → Type 0) (Q : Steps) (ground 
           Finishes : ConnectResult → Type 0
           Finishes x = Makes A Q w (finish_connect n w asked x)
 
+      -- ---- claims
+
+      -- Another connection closes, or none.
+      displace_makes : (w : World) (session : ℤ) (o : Option ℕ) → ((k : ℕ) → o ≡ Some k → IsWith session k w) → A w
+          → Makes A Q w (close_client_if_some w o)
+      displace_makes w session None with a = stay_makes w a
+      displace_makes w session (Some k) with a =
+          record { keeps = ground.closes k w a; is = c.displaces w session k (with k refl) a }
+
+      others_make : (w : World) (session : ℤ) → A w → Makes A Q w (close_others session w)
+      others_make w session a =
+          then_makes w (close_client_if_some w (connection_of w.clients.sessions session))
+          (λ v. close_client_if_some v (connecting_to v.clients.pending session))
+          (displace_makes w session (connection_of w.clients.sessions session) (λ k e. inl e) a)
+          (displace_makes (close_client_if_some w (connection_of w.clients.sessions session)).after session _ (λ k e. inr e))
+
+      claim_makes : (w : World) (has_byte : Bool) (response : SessionResponse) → SessionsMove w → HasNone n w
+          → is_idle w.clients.pending n ≡ true → (Strict → IsOpen n w) → A w
+          → Makes A Q w (claim_session n has_byte w response)
+      claim_makes w has_byte response move none idle here a =
+          then_makes w (close_others session w) (ask_about_session n has_byte response) (others_make w session a)
+          (λ b. record {
+            keeps = ground.asks u (claiming session response.time_out has_byte) none_then idle_then
+                (λ strict. free_after v strict first.keeps) (λ strict. open_after strict) b;
+            is = c.claims u has_byte response (moves_after w session move) none_then idle_then b;
+          })
+        where
+          session : ℤ
+          session = response.session_id
+
+          holder : Option ℕ
+          holder = connection_of w.clients.sessions session
+
+          v : World
+          v = (close_client_if_some w holder).after
+
+          waiter : Option ℕ
+          waiter = connecting_to v.clients.pending session
+
+          u : World
+          u = (close_client_if_some v waiter).after
+
+          first : Makes A Q w (close_client_if_some w holder)
+          first = displace_makes w session holder (λ k e. inl e) a
+
+          none_then : HasNone n u
+          none_then = none_if_closed n v waiter (none_if_closed n w holder none)
+
+          idle_then : is_idle u.clients.pending n ≡ true
+          idle_then = idle_if_closed n v waiter (idle_if_closed n w holder idle)
+
+          free_after : (v : World) → Strict → A v
+              → connecting_to (close_client_if_some v (connecting_to v.clients.pending session)).after.clients.pending session
+              ≡ None
+          free_after v strict b = by (connecting_to v.clients.pending session) refl
+            where
+              by : (o : Option ℕ) → connecting_to v.clients.pending session ≡ o
+                  → connecting_to (close_client_if_some v o).after.clients.pending session ≡ None
+              by None e = e
+              by (Some k) e = ground.alone v session k strict b e
+
+          open_after : Strict → IsOpen n u
+          open_after strict =
+              open_if_closed n v waiter
+              (λ k e. ground.others v session k strict first.keeps (none_if_closed n w holder none)
+              (idle_if_closed n w holder idle) (inr e))
+              (open_if_closed n w holder (λ k e. ground.others w session k strict a none idle (inl e)) (here strict))
+
+          moves_after : (w : World) (session : ℤ) → SessionsMove w → SessionsMove (close_others session w).after
+          moves_after w session move = second (close_client_if_some w (connection_of w.clients.sessions session)).after
+              (one w (connection_of w.clients.sessions session) move)
+            where
+              one : (w : World) (o : Option ℕ) → SessionsMove w → SessionsMove (close_client_if_some w o).after
+              one w None move = move
+              one w (Some k) move = move
+
+              second : (v : World) → SessionsMove v
+                  → SessionsMove (close_client_if_some v (connecting_to v.clients.pending session)).after
+              second v move = one v (connecting_to v.clients.pending session) move
+
+      claimed_makes : (w : World) (asked : Connecting) (o : Option SessionResponse) → SessionsMove w → HasNone n w
+          → is_idle w.clients.pending n ≡ true → (Strict → IsOpen n w) → A w
+          → Makes A Q w (claim_or_refuse n asked.has_byte w o)
+      claimed_makes w asked None move none idle here a = greet_makes w asked.has_byte refusal_response a
+      claimed_makes w asked (Some response) move none idle here a =
+          claim_makes w asked.has_byte response move none idle here a
+
       connect_makes : (serving : Bool) (w : World) (r : Result Connecting Fault) → HasNone n w
           → is_idle w.clients.pending n ≡ true → (Strict → IsOpen n w) → A w
           → Makes A Q w (handle_connect serving n w r)
       connect_makes serving w (Err e) none idle here a = close_makes w a
       connect_makes serving w (Ok asked) none idle here a =
           cond_both (may_connect serving w asked.request) _ _ (Makes A Q w)
-          (λ _. finish_makes w asked none idle here a) (λ _. close_makes w a)
+          (λ _. cond_both (is_claim w asked.request) _ _ (Makes A Q w)
+          (λ claims. claimed_makes w asked (claimed_session w.clients.sessions (session_request_of asked.request))
+          (first_true (reads_of w.settings.dialect).moved_sessions _ claims) none idle here a)
+          (λ _. finish_makes w asked none idle here a))
+          (λ _. close_makes w a)
 
       -- ---- frames
 
@@ -549,7 +697,7 @@ module _ (n : ℕ) (Strict : Type 0) (A : World → Type 0) (Q : Steps) (ground 
           (no_session (finmap.get w.clients.sessions.connections n) e) idle here a)
           (λ busy. hold_makes w frame room busy a)
       serve_by_makes serving w frame (Some session) e room here a =
-          serve_as_makes w session frame (call_in frame) (c.own session) room here a
+          serve_as_makes w session frame (call_of w frame) (c.own session) room here a
 
       after_touch_makes : (serving : Bool) (w : World) (frame : List ℕ) → (Strict → IsOpen n w) → A w
           → Makes A Q w (cond (is_refused_frame n w frame) (close_client n w)

@@ -2,6 +2,7 @@
 use Rattle.std.specs.Prelude.{◌≡◌, ℕ, ℤ, List, Some, None, true, false, IsTrue}
 use Rattle.std.specs.FinMap as finmap
 use Rattle.settings.specs.Settings.{is_server_id, is_first_counter}
+use Rattle.settings.specs.Dialects.{reads_of}
 use Rattle.sessions.specs.Sessions.{session_of_connection}
 use Rattle.sessions.specs.Agreement.{SessionsAgree}
 use Rattle.watch_manager.specs.Laws.{WatchersPass}
@@ -62,9 +63,14 @@ pub record SessionsAreServed : Type 0 where
       → IsQuietUnlessServing (play m events).after.world
 
 -- The session of each connection lives: the tree has it.
-abbrev pub SessionsLive : World → Type 0
-SessionsLive w = (n : ℕ) (session : ℤ) → session_of_connection w.clients.sessions n ≡ Some session
+abbrev pub AllSessionsLive : World → Type 0
+AllSessionsLive w = (n : ℕ) (session : ℤ) → session_of_connection w.clients.sessions n ≡ Some session
     → is_live session w ≡ true
+
+-- So it is unless sessions move between servers: then the leader says which live, and the tree may have one of them only
+-- later.
+abbrev pub SessionsLive : World → Type 0
+SessionsLive w = (reads_of w.replica.learner.dialect).moved_sessions ≡ false → AllSessionsLive w
 
 -- This holds at the start, and no event ends it: a connection closes with its session.
 pub record ConnectedSessionsLive : Type 0 where

@@ -1,5 +1,5 @@
 -- How far an event of one client reaches.
-use Rattle.std.specs.Prelude.{◌≡◌, ◌≢◌, ◌⊎◌, ℕ, ℤ, List, Some, None, true}
+use Rattle.std.specs.Prelude.{◌≡◌, ◌≢◌, ◌⊎◌, ℕ, ℤ, Bool, List, Some, None, true}
 use Rattle.std.specs.List.{AllByRecursion}
 use Rattle.std.specs.FinMap as finmap
 use Rattle.std.specs.FinSet as set
@@ -11,18 +11,19 @@ use Rattle.observer_core.specs.Machine.{Machine}
 use Rattle.sessions.specs.Sessions.{session_of_connection}
 use Rattle.jute.specs.declared.owned.Id.{Id}
 use Rattle.quorum_packet.specs.Packet.{packet_format}
-use Rattle.learner_sync.specs.Answers.{request_of, session_request}
+use Rattle.learner_sync.specs.Answers.{request_of, session_request, session_question}
 use Rattle.txn_codec.specs.declared.txn.Txn.{Txn}
 use Rattle.forwarding.specs.declared.request.AnsweredWrite.{AnsweredWrite}
 use Rattle.forwarding.specs.declared.request.PendingConnect.{PendingConnect}
 use Rattle.forwarding.specs.declared.request.Settled.TheVariants.{Of}
 use Rattle.forwarding.specs.Queue.{waiting_connect}
-use Rattle.forwarding.specs.Pending.{queue_of, settle_sync}
+use Rattle.forwarding.specs.declared.request.ConnectKind.TheVariants.{Claimed}
+use Rattle.forwarding.specs.Pending.{queue_of, awaiting, settle_sync}
 use Rattle.forwarding.specs.Laws.{Stays}
 use Rattle.world.specs.Steps.{StepResult, no_output}
 use Rattle.world.specs.Clients.{is_open}
 use Rattle.leader_answers.specs.declared.due.Due.TheVariants as dues
-use Rattle.leader_answers.specs.Answering.{answer_due, answer_txn, answer_sync}
+use Rattle.leader_answers.specs.Answering.{answer_due, answer_txn, answer_revalidated, answer_sync}
 use Rattle.observer_core.specs.Agreement.{ClientsAgree}
 use Rattle.observer_core.specs.Play.{play_event}
 
@@ -32,13 +33,18 @@ pub record IsForwarded (session : ℤ) (bytes : List ℕ) : Type 0 where
   pub ids : List Id
   pub is : bytes ≡ packet_format.written (request_of session frame ids)
 
--- The packet asks for this session.
+-- The packet asks the leader to create this session.
 pub record IsAskedFor (session : ℤ) (bytes : List ℕ) : Type 0 where
   pub time_out : ℤ
   pub is : bytes ≡ packet_format.written (session_request session time_out)
 
+-- The packet asks the leader whether this session lives.
+pub record IsAskedAbout (session : ℤ) (bytes : List ℕ) : Type 0 where
+  pub time_out : ℤ
+  pub is : bytes ≡ packet_format.written (session_question session time_out)
+
 abbrev pub IsRequestOf : ℤ → List ℕ → Type 0
-IsRequestOf session bytes = IsForwarded session bytes ⊎ IsAskedFor session bytes
+IsRequestOf session bytes = IsForwarded session bytes ⊎ (IsAskedFor session bytes ⊎ IsAskedAbout session bytes)
 
 -- The connection's connect waits for this session.
 pub record WaitsForSession (n : ℕ) (c : Clients) (session : ℤ) : Type 0 where
@@ -54,21 +60,25 @@ ConcernsOnly n own left (ToClient k frame) = k ≡ n
 ConcernsOnly n own left (CloseLeader e) = ⊥
 ConcernsOnly n own left (CloseClient k) = (k ≡ n) ⊎ left k
 
+-- The client has the session, or waits for it.
+abbrev pub HasOrAsks : ℕ → Clients → ℤ → Type 0
+HasOrAsks n c session = (session_of_connection c.sessions n ≡ Some session) ⊎ WaitsForSession n c session
+
 -- The session that client n had, or the one that it got or asked for: it had none before, and has this one now, or waits
 -- for it, if it is still open.
 abbrev pub IsSessionOf : ℕ → Clients → Clients → ℤ → Type 0
 IsSessionOf n before after session =
     (session_of_connection before.sessions n ≡ Some session)
     ⊎ ((session_of_connection before.sessions n ≡ None)
-    × (is_open n after ≡ true
-    → (session_of_connection after.sessions n ≡ Some session) ⊎ WaitsForSession n after session))
+    × (is_open n after ≡ true → HasOrAsks n after session))
 
--- Client n took over the session of connection k: n had no session before, and has this one now if it is still open.
+-- Client n took over the session of connection k, which had it or waited for it: n had no session before, and has this
+-- one now, or waits for it, if it is still open.
 pub record IsTakenUp (n : ℕ) (before after : Clients) (k : ℕ) : Type 0 where
   pub session : ℤ
-  pub had : session_of_connection before.sessions k ≡ Some session
+  pub had : HasOrAsks k before session
   pub none : session_of_connection before.sessions n ≡ None
-  pub has : is_open n after ≡ true → session_of_connection after.sessions n ≡ Some session
+  pub has : is_open n after ≡ true → HasOrAsks n after session
 
 -- No output closes connection k.
 abbrev pub IsNotClosed : ℕ → List Output → Type 0
@@ -118,10 +128,10 @@ pub record AnswersReachOneClient : Type 0 where
   pub replies : (w : World) (t : Txn) (err : ℤ) (n : ℕ) (write : AnsweredWrite) → ClientsAgree w.clients
       → answer_due w.clients t ≡ dues.Reply n write
       → (session_of_connection w.clients.sessions n ≡ Some t.header.client_id) × AnswersOnly n w (answer_txn w t err)
-  -- One that ends a session answers the client that has it, whose connection closes.
+  -- One that ends a session answers the client that has it, or claims it, whose connection closes.
   pub endings : (w : World) (t : Txn) (err : ℤ) (n : ℕ) → ClientsAgree w.clients
       → answer_due w.clients t ≡ dues.Ending n
-      → (session_of_connection w.clients.sessions n ≡ Some t.header.client_id) × AnswersOnly n w (answer_txn w t err)
+      → HasOrAsks n w.clients t.header.client_id × AnswersOnly n w (answer_txn w t err)
   -- One that creates a session answers the client that waits for it. Then that client's requests go to the leader, and a
   -- connection that had the session before is closed.
   pub admissions : (w : World) (t : Txn) (err : ℤ) (n : ℕ) → ClientsAgree w.clients
@@ -131,6 +141,15 @@ pub record AnswersReachOneClient : Type 0 where
       (λ k. session_of_connection w.clients.sessions k ≡ Some t.header.client_id) w (answer_txn w t err)
   -- Any other answers nobody.
   pub others : (w : World) (t : Txn) (err : ℤ) → answer_due w.clients t ≡ dues.Nothing → answer_txn w t err ≡ no_output w
+  -- The leader's answer about a session answers the client that claims it, as the creation of one does; it answers nobody
+  -- if no client claims the session.
+  pub claims : (w : World) (session : ℤ) (lives : Bool) (n : ℕ) → ClientsAgree w.clients
+      → awaiting w.clients.pending session Claimed ≡ Some n
+      → WaitsForSession n w.clients session
+      × IsApart n (λ own. own ≡ session) (λ k. session_of_connection w.clients.sessions k ≡ Some session) w
+      (answer_revalidated w session lives)
+  pub unclaimed : (w : World) (session : ℤ) (lives : Bool) → awaiting w.clients.pending session Claimed ≡ None
+      → answer_revalidated w session lives ≡ no_output w
   -- A SYNC answers the client whose sync is settled.
   pub syncs : (w : World) (n : ℕ) → ClientsAgree w.clients → (settle_sync w.clients.pending).settled ≡ Of n
       → AnswersOnly n w (answer_sync w)

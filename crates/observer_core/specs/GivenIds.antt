@@ -1,12 +1,26 @@
 -- The ids of sessions that an observer gives out: none is asked for twice, whatever happens in between.
-use Rattle.std.specs.Prelude.{◌≡◌, ◌⊎◌, ◌≤◌, ℕ, ℤ, List}
+use Rattle.std.specs.Prelude.{◌≡◌, ◌⊎◌, ◌≤◌, ℕ, ℤ, List, Some, false}
+use Rattle.settings.specs.Dialects.{reads_of}
+use Rattle.forwarding.specs.declared.request.ConnectKind.TheVariants.{New}
+use Rattle.forwarding.specs.declared.request.PendingConnect.{PendingConnect}
+use Rattle.forwarding.specs.Queue.{waiting_connect}
+use Rattle.forwarding.specs.Pending.{queue_of}
+use Rattle.forwarding.specs.Laws.{Asks}
 use Rattle.sessions.specs.Agreement.{IsGivenOut, IsNewId}
 use Rattle.world.specs.World.{Clients}
 use Rattle.observer_core.specs.declared.event.Event.{Event}
 use Rattle.observer_core.specs.Machine.{Machine}
 use Rattle.observer_core.specs.Play.{play}
 use Rattle.observer_core.specs.Agreement.{ClientsAgree}
-use Rattle.observer_core.specs.Apart.{WaitsForSession}
+
+-- The connection's connect waits for a new session with this id.
+abbrev pub WaitsForNew : ℕ → Clients → ℤ → Type 0
+WaitsForNew n c session = Asks (queue_of c.pending n) session New
+
+-- Each connect that waits asks for a new session.
+abbrev pub AllAskForNew : Clients → Type 0
+AllAskForNew c =
+    (n : ℕ) (connect : PendingConnect) → waiting_connect (queue_of c.pending n) ≡ Some connect → connect.kind ≡ New
 
 -- The server has given out the id of this session.
 abbrev pub HasGivenOut : Clients → ℤ → Type 0
@@ -26,12 +40,16 @@ pub record IdsAreGivenOnce : Type 0 where
   -- What was given out stays given out.
   pub stays : (m : Machine) (events : List Event) (session : ℤ) → HasGivenOut m.world.clients session
       → HasGivenOut (play m events).after.world.clients session
-  -- A session for which a connect waits was waited for before, by the same connection; or its id is a new one.
+  -- A new session for which a connect waits was waited for before, by the same connection; or its id is a new one.
   pub asks : (m : Machine) (events : List Event) (session : ℤ) (n : ℕ) → ClientsAgree m.world.clients
-      → WaitsForSession n (play m events).after.world.clients session
-      → WaitsForSession n m.world.clients session
+      → WaitsForNew n (play m events).after.world.clients session
+      → WaitsForNew n m.world.clients session
       ⊎ IsGivenBetween m.world.clients (play m events).after.world.clients session
   -- So no other connect ever asks for an id that was given out.
   pub once : (m : Machine) (events : List Event) (session : ℤ) (n : ℕ) → ClientsAgree m.world.clients
-      → HasGivenOut m.world.clients session → WaitsForSession n (play m events).after.world.clients session
-      → WaitsForSession n m.world.clients session
+      → HasGivenOut m.world.clients session → WaitsForNew n (play m events).after.world.clients session
+      → WaitsForNew n m.world.clients session
+  -- Where sessions don't move between servers, each connect that waits asks for a new one.
+  pub stays_new : (m : Machine) (events : List Event) → ClientsAgree m.world.clients
+      → (reads_of m.world.settings.dialect).moved_sessions ≡ false → AllAskForNew m.world.clients
+      → AllAskForNew (play m events).after.world.clients

@@ -21,7 +21,7 @@ use Rattle.observer_core.specs.Machine.{Leader, MachineBy}
 use Rattle.world.specs.Steps.{StepResult, prepend_outputs, no_output, and_then, fold_steps}
 use Rattle.world.specs.Clients.{notices_of, close_all_clients}
 use Rattle.world.specs.Sending.{to_leader}
-use Rattle.leader_answers.specs.Answering.{answer_applied_txn, answer_sync, answer_ping}
+use Rattle.leader_answers.specs.Answering.{answer_applied_txn, answer_sync, answer_revalidated, answer_ping}
 use Rattle.forwarding.specs.Pending.{nothing_pending}
 
 -- ---- one packet, part or image
@@ -35,13 +35,14 @@ tell_effect w t =
       after = record w { replica = t.replica; clients = record w.clients { watches = fired.left } };
     }
 
--- A PING is answered, and so are the clients whose session was created or has ended, whose write was applied, or whose
--- sync the leader has done.
+-- A PING is answered, and so are the clients whose session was created or has ended, whose write was applied, whose sync
+-- the leader has done, or whose session it knows or doesn't.
 abbrev pub answer_news : Option LeaderNews → World → StepResult World
 answer_news None w = no_output w
 answer_news (Some (news.Ping ping)) w = answer_ping w ping
 answer_news (Some (news.Applied place err)) w = answer_applied_txn w place err
 answer_news (Some news.SyncSettled) w = answer_sync w
+answer_news (Some (news.Revalidated session lives)) w = answer_revalidated w session lives
 
 -- Events come before answers.
 abbrev pub send_effect : World → ItemEffect → StepResult World

@@ -76,13 +76,14 @@ pub fn sessions_are_served()
     forwarding::requests_and_syncs_agree();
 }
 
-/// The session of each connection lives, that is, the tree has it: at the start, and after every list of events if it
-/// was so before, the connections agreed, and none had a session or a request that waits where clients weren't served.
-/// So a connection closes when its session ends.
+/// Unless sessions move between servers, the session of each connection lives, that is, the tree has it: at the start,
+/// and after every list of events if it was so before, the connections agreed, and none had a session or a request that
+/// waits where clients weren't served. So a connection closes when its session ends.
 pub fn connected_sessions_live()
     ensures { ConnectedSessionsLive }
 {
     replica::law::serving();
+    replica::law::dialects();
     sessions::sessions_and_connections_agree();
     watch_manager::law::firing();
     forwarding::requests_and_syncs_agree();
@@ -131,8 +132,9 @@ pub fn machines_are_sound()
 }
 
 /// The counter of session ids never falls, and the server id stays, so an id that was given out stays given out. The id
-/// that a connect asks for is a new one: it was never given out before, and is from then on. So no two connects are
-/// given the same id, whatever happens between them, the end of a leader included.
+/// that a connect asks for as new is new: it was never given out before, and is from then on. So no two connects are
+/// given the same id, whatever happens between them, the end of a leader included. Unless sessions move between servers,
+/// no connect asks for another session than a new one.
 pub fn ids_are_given_once()
     ensures { IdsAreGivenOnce }
 {
@@ -145,8 +147,8 @@ pub fn ids_are_given_once()
 /// An event of a client (it connects, sends or leaves) leaves the tree and the log. It sends no frame to another
 /// client, and to the leader only requests of its own session, or for a session that it asks for. Every other
 /// connection that it doesn't close keeps its waiting bytes, its session, its ids, its watches and its waiting
-/// requests. It closes another connection only if its client takes over that connection's session: the client had no
-/// session before, and has this one from then on while it is open.
+/// requests. It closes another connection only if its client takes over that connection's session, or the one that it
+/// waits for: the client had no session before, and has this one from then on, or waits for it, while it is open.
 pub fn clients_are_apart()
     ensures { ClientsAreApart }
 {

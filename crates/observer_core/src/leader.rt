@@ -21,7 +21,9 @@ ghost use Rattle.world.specs.Results.{MakesStep, MeetsStep};
 use crate::gathering::{settle_txns, take_item};
 use crate::machine::{Leader, Machine};
 use data_tree::{Outcome, Tree, Trigger};
-use leader_answers::{answer_applied_txn, answer_ping, answer_sync, due_in_log};
+use leader_answers::{
+    answer_applied_txn, answer_ping, answer_revalidated, answer_sync, due_in_log,
+};
 use quorum_packet::{LentItem, LentItems, PacketFeed, QuorumPacket};
 use replica::{ItemOutcome, LeaderNews};
 use snapshot_codec::Loader;
@@ -93,6 +95,9 @@ fn answer_news(alloc: Global, stage: &mut Stage, news: Option<LeaderNews>) -> Re
             answer_applied_txn(alloc, stage, place, due, error)
         }
         Some(LeaderNews::SyncSettled) => answer_sync(alloc, stage),
+        Some(LeaderNews::Revalidated { session, is_valid }) => {
+            answer_revalidated(alloc, stage, session, is_valid)
+        }
     }
 }
 

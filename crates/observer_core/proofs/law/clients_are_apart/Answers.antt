@@ -22,7 +22,7 @@ returns c =
       sends = λ m n bytes agree. record {
         leader = refl;
         world = bytes_apart stay keep_watches queues (is_serving_clients m.world) n m.world
-            (heard_connection n m.world.clients) bytes agree.sessions;
+            (heard_connection n m.world.clients) bytes (agree.sessions, agree.pending);
       };
       goes = λ m n.
           let after = (end_client n m.world).clients in

@@ -3,7 +3,7 @@ use Rattle.observer_core.proofs.law.connected_sessions_live.Goals as goal
 
 pub returns : goal.returns
 returns c =
-    connected_sessions_live c.serving.ensures
+    connected_sessions_live c.serving.ensures c.dialects.ensures
     (record {
       kept = c.sessions_and_connections_agree.ensures.kept;
       told = c.firing.ensures.watchers;
