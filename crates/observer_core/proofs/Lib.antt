@@ -29,6 +29,7 @@ pub mod Apart
 pub mod Asking
 pub mod Served
 pub mod Leaderless
+pub mod Fronts
 pub mod GivenIds
 pub mod Living
 pub mod Awaiting
