@@ -48,7 +48,7 @@ impl WriteKind {
 }
 
 /// The way in which a connect asks for its session.
-#[derive(Clone, Copy, Debug)]
+#[derive(Clone, Copy)]
 pub enum ConnectKind {
     /// It is new: the leader is asked to create it.
     New,

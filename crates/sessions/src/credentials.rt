@@ -56,6 +56,7 @@ fn first_state(session: i64) -> u64
 }
 
 // The state of java.util.Random after this one.
+#[tactic(auto, unfolding(crate::specs::Credentials::next_state))]
 fn next_state(state: u64) -> u64
     ensures state { result ≡ next_state state }
     ensures bound { result < 2 ^ 48 }
@@ -64,6 +65,7 @@ fn next_state(state: u64) -> u64
 }
 
 // The bytes that a state gives.
+#[tactic(auto, unfolding(crate::specs::Credentials::state_bytes))]
 fn state_bytes(state: u64) -> [u8; 4]
     requires { state < 2 ^ 48 }
     ensures { result ≡ state_bytes state }

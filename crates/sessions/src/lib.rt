@@ -31,7 +31,10 @@ mod passwords;
 mod request;
 mod table;
 
-pub use law::{ended_sessions_are_refused, others_stay, sessions_and_connections_agree};
+pub use law::{
+    ended_sessions_are_refused, java_passwords_are_zookeepers, others_stay,
+    sessions_and_connections_agree,
+};
 pub use passwords::Passwords;
 pub use request::{Connected, PASSWORD_LEN, SessionRequest, SessionResponse};
 pub use table::{AUTH_LIMIT, IDS_BYTES_LIMIT, IDS_LIMIT, Sessions};

@@ -7,6 +7,7 @@ use forwarding::SessionTimeouts;
 use sessions::Sessions;
 
 /// The timeouts of sessions: those that connections were told, if these count, and those of the tree.
+#[derive(Clone, Copy)]
 pub struct KnownTimeouts<'a> {
     /// Whether the timeout that a session's connection was told comes before the tree's.
     pub counts_told: bool,
