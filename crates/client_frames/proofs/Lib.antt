@@ -1,3 +1,5 @@
+-- The types of the frames that are forwarded.
+pub mod Forwarded
 -- The length of the answer to a connect.
 mod Lengths
 -- The worked calls, by evaluation.

@@ -7,7 +7,7 @@ use Rattle.std.proofs.lemmas.Str.{is_utf8-from_IsUtf8}
 use Rattle.settings.specs.declared.dialect.Dialect.{Dialect}
 use Rattle.jute.specs.Format.{judged_at, buffer_at}
 use Rattle.jute.specs.Records.{request_header}
-use Rattle.client_records.specs.Kinds.{kind_among}
+use Rattle.client_records.specs.Kinds.{kind_of}
 use Rattle.client_records.specs.Requests.{path_alone, auth_packet}
 use Rattle.client_frames.specs.declared.call.LocalCall.TheVariants.{Unreadable}
 use Rattle.client_frames.specs.declared.call.CallBody.TheVariants.{Sync, Local}
@@ -23,15 +23,15 @@ unfolding encode
 empty_is_text = ([], (refl, refl))
 
 sync_of_root_read : (d : Dialect) → call_in d (frame_of 9 (0 ∷ 0 ∷ 0 ∷ 1 ∷ 47 ∷ [])) ≡ frame_call (Sync (codes "/"))
-unfolding request_header kind_among path_alone judged_at buffer_at
+unfolding request_header kind_of path_alone judged_at buffer_at
 sync_of_root_read d = rw (is_utf8-from_IsUtf8 (codes "/") root_is_text)
 
 sync_of_empty_read : (d : Dialect) → call_in d (frame_of 9 (0 ∷ 0 ∷ 0 ∷ 0 ∷ [])) ≡ frame_call (Local Unreadable)
-unfolding request_header kind_among path_alone judged_at buffer_at
+unfolding request_header kind_of path_alone judged_at buffer_at
 sync_of_empty_read d = rw (is_utf8-from_IsUtf8 [] empty_is_text)
 
 pub worked_calls : WorkedCalls
-unfolding request_header kind_among path_alone auth_packet judged_at buffer_at
+unfolding request_header kind_of path_alone auth_packet judged_at buffer_at
 worked_calls = record {
   create = λ d. refl;
   sync_of_root = sync_of_root_read;

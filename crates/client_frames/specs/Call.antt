@@ -9,7 +9,7 @@ use Rattle.client_records.specs.declared.kind.RequestKind.{RequestKind}
 use Rattle.client_records.specs.declared.kind.RequestKind.TheVariants as kinds
 use Rattle.client_records.specs.declared.request.PathAlone.{PathAlone}
 use Rattle.client_records.specs.declared.request.PathAndWatch.{PathAndWatch}
-use Rattle.client_records.specs.Kinds.{kind_in}
+use Rattle.client_records.specs.Kinds.{request_kind_in}
 use Rattle.client_records.specs.Requests.{path_and_watch, path_alone, set_watches, add_watch, auth_packet}
 use Rattle.read_processor.specs.declared.request.Request.{Request}
 use Rattle.forwarding.specs.declared.request.WriteKind.TheVariants as writes
@@ -81,7 +81,7 @@ call_body (Some kinds.CreateTtl) bytes = Forward writes.CreateTtl
 
 abbrev pub call_after_header : Dialect → Result (RequestHeader × List ℕ) Fault → Result Call Fault
 call_after_header dialect (Ok x) =
-    Ok (record { xid = x.0.xid; body = call_body (kind_in dialect x.0.kind) x.1 })
+    Ok (record { xid = x.0.xid; body = call_body (request_kind_in dialect x.0.kind) x.1 })
 call_after_header dialect (Err e) = Err e
 
 -- The call of a client's frame in a dialect, if the frame has a whole header.

@@ -1,3 +1,4 @@
 pub mod Call
 pub mod Connect
+pub mod Laws
 pub mod Rows

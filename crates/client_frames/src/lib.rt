@@ -20,4 +20,4 @@ mod law;
 
 pub use call::{Call, CallBody, LocalCall, call_in, read_call};
 pub use connecting::{Connecting, answer_to_connect, read_connecting, session_request_of};
-pub use law::worked_calls;
+pub use law::{forwarded_by_type, worked_calls};

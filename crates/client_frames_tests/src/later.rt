@@ -1,6 +1,7 @@
 //! Frames of later clients.
 
 use crate::{asked, asked_in};
+use client_frames::{forwarded_by_type, worked_calls};
 use settings::Dialect;
 use std::alloc::Global;
 use std::test::*;
@@ -63,6 +64,8 @@ fn checks_and_multis(rt: HostRuntime) {
     let multi = asked_in(alloc, Dialect::Zk34, 1, MULTI.as_slice());
     assert_eq!(rt; multi, "refused");
     assert_eq!(rt; later(alloc, 1, MULTI.as_slice()), "refused");
+    worked_calls();
+    forwarded_by_type();
 }
 
 /// What clients of ZooKeeper 3.4 send is read as before, and other types stay unknown.

@@ -42,16 +42,17 @@ request_kinds = Create ∷ Delete ∷ Read Exists ∷ Read GetData ∷ SetData �
     ∷ Ping ∷ Read GetChildren2 ∷ Check ∷ Multi ∷ Auth ∷ SetWatches ∷ AddWatch ∷ CloseSession ∷ []
 
 -- Those that only later clients send, where these are read.
-abbrev pub later_kinds : Reads → List RequestKind
-later_kinds reads =
+abbrev pub later_request_kinds : Reads → List RequestKind
+later_request_kinds reads =
     if reads.later_requests then Create2 ∷ Reconfig ∷ CreateContainer ∷ DeleteContainer ∷ CreateTtl ∷ [] else []
 
-abbrev pub known_kinds : Reads → List RequestKind
-known_kinds reads = request_kinds ++ later_kinds reads
+abbrev pub request_kinds_in : Reads → List RequestKind
+request_kinds_in reads = request_kinds ++ later_request_kinds reads
 
-unfoldable pub kind_among : List RequestKind → ℤ → Option RequestKind
-kind_among kinds code = find (λ k. int_eq code (code_of k)) kinds
+-- The one of these types that has the code.
+unfoldable pub kind_of : List RequestKind → ℤ → Option RequestKind
+kind_of kinds code = find (λ k. int_eq code (code_of k)) kinds
 
 -- The type with this code in a dialect.
-abbrev pub kind_in : Dialect → ℤ → Option RequestKind
-kind_in dialect code = kind_among (known_kinds (reads_of dialect)) code
+abbrev pub request_kind_in : Dialect → ℤ → Option RequestKind
+request_kind_in dialect code = kind_of (request_kinds_in (reads_of dialect)) code

@@ -3,7 +3,7 @@
 ghost use Rattle.std.specs.Prelude.{◌≡◌, Some};
 ghost use Rattle.settings.specs.Dialects.{reads_of};
 ghost use Rattle.settings.specs.declared.dialect.Dialect.TheVariants.{Zk38};
-ghost use Rattle.client_records.specs.Kinds.{code_of, later_kinds, kind_among, kind_in};
+ghost use Rattle.client_records.specs.Kinds.{code_of, later_request_kinds, kind_of, request_kind_in};
 
 use settings::Dialect;
 
@@ -65,9 +65,9 @@ pub enum RequestKind {
 
 impl RequestKind {
     // The type with this code among those that only later clients send.
-    #[tactic(auto, unfolding(crate::specs::Kinds::kind_among))]
+    #[tactic(auto, unfolding(crate::specs::Kinds::kind_of))]
     fn later(dialect: Dialect, code: i32) -> Option<RequestKind>
-        ensures { result ≡ kind_among (later_kinds (reads_of dialect)) code }
+        ensures { result ≡ kind_of (later_request_kinds (reads_of dialect)) code }
     {
         if !dialect.reads().later_requests {
             return None;
@@ -83,9 +83,9 @@ impl RequestKind {
     }
 
     /// The type with this code in a dialect; `None` for a code that is unknown there.
-    #[tactic(auto, unfolding(crate::specs::Kinds::kind_among))]
+    #[tactic(auto, unfolding(crate::specs::Kinds::kind_of))]
     pub fn from_code(dialect: Dialect, code: i32) -> Option<RequestKind>
-        ensures { result ≡ kind_in dialect code }
+        ensures { result ≡ request_kind_in dialect code }
     {
         match code {
             1 => Some(RequestKind::Create),
@@ -110,10 +110,10 @@ impl RequestKind {
     }
 
     /// The code in a request's header.
-    #[tactic(auto, unfolding(crate::specs::Kinds::kind_among))]
+    #[tactic(auto, unfolding(crate::specs::Kinds::kind_of))]
     pub fn code(self) -> i32
         ensures code { result ≡ code_of self }
-        ensures back { kind_in Zk38 result ≡ Some self }
+        ensures back { request_kind_in Zk38 result ≡ Some self }
     {
         match self {
             RequestKind::Create => 1,

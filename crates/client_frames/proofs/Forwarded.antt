@@ -1,0 +1,101 @@
+-- What is forwarded is of the type of its write.
+use Rattle.std.proofs.Common.{◌≡◌, ◌≢◌, ℕ, List, [], ◌∷◌, Option, Some, None, Ok, Bool, true, false, cond, ℤ, pos, refl, ap, sym, ◌∙◌, arith}
+use Rattle.std.specs.List.{find}
+use Rattle.std.specs.Ordering.{int_eq}
+use Rattle.std.proofs.lemmas.Int.{Decides-int_eq}
+use Rattle.settings.specs.Dialects.{reads_of}
+use Rattle.settings.specs.declared.dialect.Dialect.{Dialect}
+use Rattle.jute.specs.Records.{request_header}
+use Rattle.client_records.specs.declared.request.PathAlone.{PathAlone}
+use Rattle.client_records.specs.declared.kind.RequestKind.{RequestKind}
+use Rattle.client_records.specs.declared.kind.RequestKind.TheVariants as kinds
+use Rattle.client_records.specs.Kinds.{code_of, request_kinds_in, kind_of, request_kind_in}
+use Rattle.forwarding.specs.declared.request.WriteKind.{WriteKind}
+use Rattle.forwarding.specs.declared.request.WriteKind.TheVariants as writes
+use Rattle.forwarding.specs.Queue.{write_number}
+use Rattle.read_processor.specs.Look.{is_request_path}
+use Rattle.client_frames.specs.declared.call.CallBody.{CallBody}
+use Rattle.client_frames.specs.declared.call.CallBody.TheVariants.{Forward, Sync, Local}
+use Rattle.client_frames.specs.declared.call.LocalCall.TheVariants.{Unreadable}
+use Rattle.client_frames.specs.Call.{sync_of, sync_of_path, call_body}
+use Rattle.client_frames.specs.Laws.{ForwardedByType}
+
+-- The type that is found has the code.
+code_found : (z : ℤ) (ks : List RequestKind) (k : RequestKind) → find (λ j. int_eq z (code_of j)) ks ≡ Some k
+    → z ≡ code_of k
+code_found z [] k e = absurd cc
+code_found z (j ∷ ks) k e = step (int_eq z (code_of j)) (Decides-int_eq z (code_of j)).0 e
+  where
+    step : (b : Bool) → (b ≡ true → z ≡ code_of j)
+        → cond b (Some j) (find (λ i. int_eq z (code_of i)) ks) ≡ Some k → z ≡ code_of k
+    step true is e =
+        let same : j ≡ k = cc in
+        is refl ∙ ap code_of same
+    step false is e = code_found z ks k e
+
+code_of_found : (dialect : Dialect) (z : ℤ) (k : RequestKind) → request_kind_in dialect z ≡ Some k → z ≡ code_of k
+unfolding kind_of
+code_of_found dialect z k e = code_found z (request_kinds_in (reads_of dialect)) k e
+
+-- A sync isn't forwarded as a write.
+no_sync : (found : Option PathAlone) (write : WriteKind) → sync_of found ≡ Forward write → ⊥
+no_sync None write e = cc
+no_sync (Some r) write e = of_path r.path e
+  where
+    tested : (b : Bool) (path : List ℕ) → cond b (Sync path) (Local Unreadable) ≡ Forward write → ⊥
+    tested true path e = cc
+    tested false path e = cc
+
+    of_path : (path : Option (List ℕ)) → sync_of_path path ≡ Forward write → ⊥
+    of_path None e = cc
+    of_path (Some path) e = tested (is_request_path path) path e
+
+forwarded_same : {w write : WriteKind} → Forward w ≡ Forward write → w ≡ write
+forwarded_same e = cc
+
+same_number : {z : ℤ} {w write : WriteKind} → z ≡ write_number w → Forward w ≡ Forward write → z ≡ write_number write
+same_number is e = is ∙ ap write_number (forwarded_same e)
+
+number_of_forwarded : (found : Option RequestKind) (z : ℤ) (bytes : List ℕ) (write : WriteKind)
+    → ((k : RequestKind) → found ≡ Some k → z ≡ code_of k) → call_body found bytes ≡ Forward write
+    → z ≡ write_number write
+number_of_forwarded None z bytes write is e = absurd cc
+number_of_forwarded (Some kinds.Create) z bytes write is e = same_number (is _ refl) e
+number_of_forwarded (Some kinds.Delete) z bytes write is e = same_number (is _ refl) e
+number_of_forwarded (Some (kinds.Read kind)) z bytes write is e = absurd cc
+number_of_forwarded (Some kinds.SetData) z bytes write is e = same_number (is _ refl) e
+number_of_forwarded (Some kinds.SetAcl) z bytes write is e = same_number (is _ refl) e
+number_of_forwarded (Some kinds.Sync) z bytes write is e = absurd (no_sync _ write e)
+number_of_forwarded (Some kinds.Ping) z bytes write is e = absurd cc
+number_of_forwarded (Some kinds.Check) z bytes write is e = absurd cc
+number_of_forwarded (Some kinds.Multi) z bytes write is e = absurd cc
+number_of_forwarded (Some kinds.Auth) z bytes write is e = absurd cc
+number_of_forwarded (Some kinds.SetWatches) z bytes write is e = absurd cc
+number_of_forwarded (Some kinds.AddWatch) z bytes write is e = absurd cc
+number_of_forwarded (Some kinds.CloseSession) z bytes write is e = same_number (is _ refl) e
+number_of_forwarded (Some kinds.Create2) z bytes write is e = same_number (is _ refl) e
+number_of_forwarded (Some kinds.Reconfig) z bytes write is e = same_number (is _ refl) e
+number_of_forwarded (Some kinds.CreateContainer) z bytes write is e = same_number (is _ refl) e
+number_of_forwarded (Some kinds.DeleteContainer) z bytes write is e = same_number (is _ refl) e
+number_of_forwarded (Some kinds.CreateTtl) z bytes write is e = same_number (is _ refl) e
+
+no_check : (write : WriteKind) → write_number write ≢ pos 13
+no_check writes.Create e = grind arith
+no_check writes.Delete e = grind arith
+no_check writes.SetData e = grind arith
+no_check writes.SetAcl e = grind arith
+no_check writes.Create2 e = grind arith
+no_check writes.Reconfig e = grind arith
+no_check writes.CreateContainer e = grind arith
+no_check writes.DeleteContainer e = grind arith
+no_check writes.CreateTtl e = grind arith
+no_check writes.CloseSession e = cc
+
+pub forwarded_by_type : ForwardedByType
+forwarded_by_type = record {
+  same_type = λ dialect frame rest header call write whole read forwards.
+      let found = rw whole at read in
+      let body : call_body (request_kind_in dialect header.kind) rest ≡ Forward write = cc (found, forwards) in
+      number_of_forwarded (request_kind_in dialect header.kind) header.kind rest write (code_of_found dialect header.kind) body;
+  no_check = no_check;
+}
