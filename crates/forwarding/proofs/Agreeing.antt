@@ -321,5 +321,5 @@ agreement_is_kept = record {
   takes_connect = λ s n a. connect_leaves s n (waiting_connect (queue_of s n)) a;
   drops = drops;
   touches = λ s session a. touched s (set.insert s.touched session) a;
-  takes_touched = λ s timeouts a. touched s (take_touched s timeouts).after.touched a;
+  takes_touched = λ s timeout_of a. touched s (take_touched s timeout_of).after.touched a;
 }

@@ -1,19 +1,23 @@
 -- The rows that were worked out by hand, evaluated.
 use Rattle.std.proofs.Common.{◌≡◌, ◌≢◌, ◌==◌, ℕ, ℤ, pos, negsuc, Bool, true, false, ◌||◌, List, [], ◌∷◌, ◌++◌, map, take, drop, Some, None, refl, sym, ap, ◌∙◌, arith}
+use Rattle.std.specs.Prelude.{if◌then◌else◌}
 use Rattle.std.specs.List.Sorted.{IsStrictlySortedBy}
 use Rattle.std.specs.Ordering.{eq_by_cmp, nat_cmp, int_cmp}
 use Rattle.std.specs.Cmp.{nat_cmp_total, int_cmp_total}
 use Rattle.std.proofs.lemmas.Map.Lookups.{exact_unsigned, exact_signed}
 use Rattle.std.specs.FinMap as finmap
 use Rattle.std.specs.FinSet as set
-use Rattle.forwarding.specs.declared.request.WriteKind.TheVariants.{Create, SetData, CloseSession}
+use Rattle.forwarding.specs.declared.request.WriteKind.TheVariants.{Create, Create2, CreateTtl, SetData, CloseSession}
+use Rattle.forwarding.specs.declared.request.ConnectKind.{ConnectKind}
+use Rattle.forwarding.specs.declared.request.ConnectKind.TheVariants.{New, Claimed}
+use Rattle.forwarding.specs.declared.request.PendingConnect.{PendingConnect}
 use Rattle.forwarding.specs.declared.request.PendingRequest.{PendingRequest}
 use Rattle.forwarding.specs.declared.request.PendingRequest.TheVariants.{Connect, Write, Held}
-use Rattle.forwarding.specs.Queue.{RequestQueue, answered_write, after_answer, oldest_close, with_oldest_settled, ready_request, without_front_if, waiting_connect, held_frames}
+use Rattle.forwarding.specs.Queue.{RequestQueue, answered_write, after_answer, oldest_close, with_oldest_settled, ready_request, without_front_if, waiting_connect, asks_as, held_frames}
 use Rattle.forwarding.specs.State.{RequestQueues, TouchedSessions, PendingTable}
-use Rattle.forwarding.specs.Pending.{nothing_pending, queue_in, queue_of, has_no_request, with_queue, push_connect, push_write, push_sync, unsettled_sync, settle_sync, drop_connection, without_connect, take_connect_as, sorted_touched, with_timeout, live_rows, touched_limit, touched_rows}
-use Rattle.forwarding.specs.Rows.{held_frame, path_a, create_waits, create_answered, CreateIsAnswered, RequestsAreSeen, sync_then_write, WriteOvertakesSync, sync_of_gone, SyncOfGone, new_session, connect_waits, ConnectIsAnswered, CloseIsFound, three_touched, two_live, TouchedAreTold, WorkedRows}
-use Rattle.values.proofs.Keyed.{inserted, remove_absent, remove_inserted, insert_inserted}
+use Rattle.forwarding.specs.Pending.{nothing_pending, queue_in, queue_of, has_no_request, with_queue, push_connect, push_write, push_sync, unsettled_sync, settle_sync, drop_connection, without_connect, awaiting_as, take_connect_as, sorted_touched, with_timeout, live_rows, touched_limit, touched_rows}
+use Rattle.forwarding.specs.Rows.{held_frame, path_a, create_waits, create_answered, CreateIsAnswered, RequestsAreSeen, sync_then_write, WriteOvertakesSync, sync_of_gone, SyncOfGone, new_session, connect_waits, ConnectIsAnswered, claim_waits, ClaimIsFound, later_creates, LaterCreatesAreAnswered, CloseIsFound, three_touched, two_live, TouchedAreTold, WorkedRows}
+use Rattle.values.proofs.Keyed.{inserted, inserted_elsewhere, remove_absent, remove_inserted, insert_inserted}
 use Rattle.forwarding.proofs.SessionSets.{items-sorted}
 use Rattle.forwarding.proofs.Changing.{queue_put}
 use Rattle.forwarding.proofs.Others.{others_stay, put_leaves}
@@ -215,16 +219,77 @@ connect_found = ap waiting_connect connect_and_frame
 no_connect_found : waiting_connect (queue_of create_waits 1) ≡ None
 no_connect_found = ap waiting_connect both_wait
 
+-- A connect that is found is looked at.
+seen_as : (kind : ConnectKind) (n : ℕ) (c : PendingConnect) (s : PendingTable) (session : ℤ)
+    → finmap.get s.connects session ≡ Some n → waiting_connect (queue_of s n) ≡ Some c
+    → awaiting_as s kind (finmap.get s.connects session) ≡ (if asks_as kind (Some c) then Some n else None)
+seen_as kind n c s session at front =
+    ap (awaiting_as s kind) at ∙ ap (λ o. if asks_as kind o then Some n else None) front
+
+connecting : finmap.get connect_waits.connects (pos 9) ≡ Some 2
+connecting = inserted int_cmp_total exact_signed finmap.empty (pos 9) 2
+
 connect_is_answered : ConnectIsAnswered
 connect_is_answered = record {
   waits = ap ready_request connect_and_frame;
-  found = inserted int_cmp_total exact_signed finmap.empty (pos 9) 2;
+  found = connecting;
+  as_new = seen_as New 2 new_session connect_waits (pos 9) connecting connect_found;
+  as_claimed = seen_as Claimed 2 new_session connect_waits (pos 9) connecting connect_found;
   taken = ap (λ o. (take_connect_as connect_waits 2 o).connect) connect_found;
   frames = ap (λ o. (take_connect_as connect_waits 2 o).frames) connect_found ∙ ap held_frames connect_and_frame;
   rest = ap (λ o. (take_connect_as connect_waits 2 o).after) connect_found ∙ all_taken;
   none = ap (λ o. (take_connect_as create_waits 1 o).connect) no_connect_found;
   stays = ap (λ o. (take_connect_as create_waits 1 o).after) no_connect_found;
   dropped = all_taken;
+}
+
+-- ---- a claim
+
+abbrev claim : PendingConnect
+claim = record new_session { kind = Claimed; session = pos 8 }
+
+claim_alone : queue_of claim_waits 3 ≡ Connect claim ∷ []
+claim_alone = requests_keep_order.pushes_connect nothing_pending 3 claim ∙ ap (λ q. q ++ Connect claim ∷ []) (at_first 3)
+
+claiming : finmap.get claim_waits.connects (pos 8) ≡ Some 3
+claiming = inserted int_cmp_total exact_signed finmap.empty (pos 8) 3
+
+claim_is_found : ClaimIsFound
+claim_is_found = record {
+  as_claimed = seen_as Claimed 3 claim claim_waits (pos 8) claiming (ap waiting_connect claim_alone);
+  as_new = seen_as New 3 claim claim_waits (pos 8) claiming (ap waiting_connect claim_alone);
+  other_session =
+      ap (awaiting_as claim_waits Claimed)
+      (inserted_elsewhere int_cmp_total exact_signed finmap.empty (pos 8) 3 (pos 9) refl
+      ∙ finmap.get-empty int_cmp (pos 9));
+}
+
+-- ---- creates of later releases
+
+abbrev later_create : PendingRequest
+later_create = Write (record { xid = pos 4; kind = Create2 })
+
+abbrev ttl_create : PendingRequest
+ttl_create = Write (record { xid = pos 5; kind = CreateTtl })
+
+later_alone : queue_of (push_write nothing_pending 1 (pos 4) Create2) 1 ≡ later_create ∷ []
+later_alone =
+    requests_keep_order.pushes_write nothing_pending 1 (pos 4) Create2 ∙ ap (λ q. q ++ later_create ∷ []) (at_first 1)
+
+both_later : queue_of later_creates 1 ≡ later_create ∷ ttl_create ∷ []
+both_later =
+    requests_keep_order.pushes_write (push_write nothing_pending 1 (pos 4) Create2) 1 (pos 5) CreateTtl
+    ∙ ap (λ q. q ++ ttl_create ∷ []) later_alone
+
+later_creates_are_answered : LaterCreatesAreAnswered
+later_creates_are_answered = record {
+  answers = ap (λ q. answered_write q (pos 4) (pos 15)) both_later;
+  fails = ap (λ q. answered_write q (pos 4) (negsuc 0)) both_later;
+  other_type = ap (λ q. answered_write q (pos 4) (pos 1)) both_later;
+  next =
+      ap (λ q. answered_write q (pos 5) (pos 21))
+      (queue_put later_creates.queues 1 (after_answer (queue_of later_creates 1) (pos 4) (pos 15))
+      ∙ ap (λ q. after_answer q (pos 4) (pos 15)) both_later);
 }
 
 -- ---- a closeSession
@@ -271,7 +336,7 @@ are_three = set.same_set int_cmp_total exact_signed _ _ (λ q.
 sorted_three : sorted_touched three_touched.touched ≡ three
 sorted_three = ap (λ s. sorted_touched s) are_three ∙ items-sorted three ascending
 
-timeout : (session : ℤ) → finmap.get two_live session
+timeout : (session : ℤ) → two_live session
     ≡ finmap.find int_cmp session ((pos 5, pos 40000) ∷ (negsuc 2, pos 4000) ∷ (pos 6, pos 1) ∷ [])
 timeout session =
     finmap.get-from_entries int_cmp_total ((pos 5, pos 40000) ∷ (negsuc 2, pos 4000) ∷ (pos 6, pos 1) ∷ []) session
@@ -306,6 +371,8 @@ rows_hold = record {
   overtakes = write_overtakes_sync;
   gone = sync_of_gone_is_gone;
   connect = connect_is_answered;
+  claim = claim_is_found;
+  later = later_creates_are_answered;
   close = close_is_found;
   touched = touched_are_told;
 }

@@ -1,9 +1,8 @@
 -- What holds for each call, with any requests that agree.
 use Rattle.std.specs.Prelude.{◌≡◌, ◌≢◌, ℕ, ℤ, List, [], ◌∷◌, ◌++◌, Option, None, Some, true, false, drop, length}
-use Rattle.std.specs.Ordering.{int_cmp}
 use Rattle.std.specs.List.{list_any}
-use Rattle.std.specs.FinMap as finmap
 use Rattle.forwarding.specs.declared.request.WriteKind.{WriteKind}
+use Rattle.forwarding.specs.declared.request.ConnectKind.{ConnectKind}
 use Rattle.forwarding.specs.declared.request.PendingConnect.{PendingConnect}
 use Rattle.forwarding.specs.declared.request.PendingWrite.{PendingWrite}
 use Rattle.forwarding.specs.declared.request.PendingRequest.{PendingRequest}
@@ -11,9 +10,9 @@ use Rattle.forwarding.specs.declared.request.PendingRequest.TheVariants.{Connect
 use Rattle.forwarding.specs.declared.request.Ready.{Ready}
 use Rattle.forwarding.specs.declared.request.Ready.TheVariants.{SettledSync, HeldFrame}
 use Rattle.forwarding.specs.declared.request.Settled.TheVariants.{Gone, Of}
-use Rattle.forwarding.specs.Queue.{RequestQueue, is_write, is_answered_by, is_unsettled, settled_request, held_frames}
+use Rattle.forwarding.specs.Queue.{RequestQueue, is_write, is_answered_by, is_unsettled, settled_request, waiting_connect, held_frames}
 use Rattle.forwarding.specs.State.{PendingTable}
-use Rattle.forwarding.specs.Pending.{nothing_pending, queue_of, has_no_request, is_idle, is_full, push_connect, push_write, push_sync, unsettled_sync, hold_frame, answer_write, settle_sync, take_ready, take_connect, connecting_to, drop_connection, touch_session, take_touched}
+use Rattle.forwarding.specs.Pending.{nothing_pending, queue_of, has_no_request, is_idle, is_full, push_connect, push_write, push_sync, unsettled_sync, hold_frame, answer_write, settle_sync, take_ready, take_connect, connecting_to, awaiting, drop_connection, touch_session, take_touched}
 use Rattle.forwarding.specs.Agreement.{PendingAgrees, places_of}
 
 -- ---- agreement
@@ -35,8 +34,8 @@ pub record PendingAgreementIsKept : Type 0 where
   pub takes_connect : (s : PendingTable) (n : ℕ) → PendingAgrees s → PendingAgrees (take_connect s n).after
   pub drops : (s : PendingTable) (n : ℕ) → PendingAgrees s → PendingAgrees (drop_connection s n)
   pub touches : (s : PendingTable) (session : ℤ) → PendingAgrees s → PendingAgrees (touch_session s session)
-  pub takes_touched : (s : PendingTable) (timeouts : finmap.FinMap int_cmp ℤ) → PendingAgrees s
-      → PendingAgrees (take_touched s timeouts).after
+  pub takes_touched : (s : PendingTable) (timeout_of : ℤ → Option ℤ) → PendingAgrees s
+      → PendingAgrees (take_touched s timeout_of).after
 
 -- ---- other connections
 
@@ -86,6 +85,22 @@ pub record AnswersAreMatched : Type 0 where
       → IsAnswered (queue_of s n) xid txn_kind kind (queue_of (answer_write s n xid txn_kind).after n)
   pub unanswered : (s : PendingTable) (n : ℕ) (xid txn_kind : ℤ) → PendingAgrees s
       → (answer_write s n xid txn_kind).kind ≡ None → (answer_write s n xid txn_kind).after ≡ s
+
+-- ---- connects
+
+-- The connect in front of the queue asks for the session in this way.
+pub record Asks (q : RequestQueue) (session : ℤ) (kind : ConnectKind) : Type 0 where
+  pub connect : PendingConnect
+  pub front : waiting_connect q ≡ Some connect
+  pub same_session : connect.session ≡ session
+  pub same_kind : connect.kind ≡ kind
+
+-- A connect is found by its session and the way in which it asks for it, and so is nothing else.
+pub record ConnectsAreFound : Type 0 where
+  pub found : (s : PendingTable) (session : ℤ) (kind : ConnectKind) (n : ℕ) → PendingAgrees s
+      → awaiting s session kind ≡ Some n → Asks (queue_of s n) session kind
+  pub each : (s : PendingTable) (session : ℤ) (kind : ConnectKind) (n : ℕ) → PendingAgrees s
+      → Asks (queue_of s n) session kind → awaiting s session kind ≡ Some n
 
 -- ---- order
 

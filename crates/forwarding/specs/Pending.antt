@@ -4,6 +4,7 @@ use Rattle.std.specs.Ordering.{int_cmp}
 use Rattle.std.specs.FinMap as finmap
 use Rattle.std.specs.FinSet as set
 use Rattle.forwarding.specs.declared.request.WriteKind.{WriteKind}
+use Rattle.forwarding.specs.declared.request.ConnectKind.{ConnectKind}
 use Rattle.forwarding.specs.declared.request.PendingConnect.{PendingConnect}
 use Rattle.forwarding.specs.declared.request.PendingRequest.{PendingRequest}
 use Rattle.forwarding.specs.declared.request.PendingRequest.TheVariants.{Connect, Write, Sync, Held}
@@ -12,7 +13,7 @@ use Rattle.forwarding.specs.declared.request.Occupancy.{Occupancy}
 use Rattle.forwarding.specs.declared.request.Occupancy.TheVariants.{Idle, Busy, Full}
 use Rattle.forwarding.specs.declared.request.Settled.{Settled}
 use Rattle.forwarding.specs.declared.request.Settled.TheVariants.{NoSync, Gone, Of}
-use Rattle.forwarding.specs.Queue.{RequestQueue, pending_limit, answered_write, without_oldest_write, after_answer, oldest_close, with_oldest_settled, ready_request, without_front_if, waiting_connect, held_frames}
+use Rattle.forwarding.specs.Queue.{RequestQueue, pending_limit, answered_write, without_oldest_write, after_answer, oldest_close, with_oldest_settled, ready_request, without_front_if, waiting_connect, asks_as, held_frames}
 use Rattle.forwarding.specs.State.{RequestQueues, WaitingConnects, TouchedSessions, PendingTable}
 
 -- No request, no sync and no session.
@@ -144,6 +145,14 @@ without_connect connects (Some c) = finmap.remove connects c.session
 abbrev pub connecting_to : PendingTable → ℤ → Option ℕ
 connecting_to s session = finmap.get s.connects session
 
+abbrev pub awaiting_as : PendingTable → ConnectKind → Option ℕ → Option ℕ
+awaiting_as s kind None = None
+awaiting_as s kind (Some n) = if asks_as kind (waiting_connect (queue_of s n)) then Some n else None
+
+-- The connection whose connect asks for the session in this way.
+abbrev pub awaiting : PendingTable → ℤ → ConnectKind → Option ℕ
+awaiting s session kind = awaiting_as s kind (connecting_to s session)
+
 -- ---- connections that go
 
 -- The place of a sync whose connection has gone stays, as nobody's.
@@ -189,28 +198,28 @@ with_timeout session None rows = rows
 with_timeout session (Some timeout) rows = (session, timeout) ∷ rows
 
 -- Those of the sessions that have a timeout, each with it.
-abbrev pub live_rows : finmap.FinMap int_cmp ℤ → List ℤ → List (ℤ × ℤ)
-live_rows timeouts [] = []
-live_rows timeouts (session ∷ rest) = with_timeout session (finmap.get timeouts session) (live_rows timeouts rest)
+abbrev pub live_rows : (ℤ → Option ℤ) → List ℤ → List (ℤ × ℤ)
+live_rows timeout_of [] = []
+live_rows timeout_of (session ∷ rest) = with_timeout session (timeout_of session) (live_rows timeout_of rest)
 
 -- In ascending order of the signed ids.
 abbrev pub sorted_touched : TouchedSessions → List ℤ
 sorted_touched sessions =
     finmap.keys (finmap.from_entries {R = int_cmp} (map (λ (session : ℤ). (session, tt {0})) (set.items sessions)))
 
--- The touched sessions that live, in ascending order.
-abbrev pub touched_rows : PendingTable → finmap.FinMap int_cmp ℤ → List (ℤ × ℤ)
-touched_rows s timeouts = live_rows timeouts (sorted_touched s.touched)
+-- The touched sessions that have a timeout, in ascending order.
+abbrev pub touched_rows : PendingTable → (ℤ → Option ℤ) → List (ℤ × ℤ)
+touched_rows s timeout_of = live_rows timeout_of (sorted_touched s.touched)
 
 pub record TakenTouched : Type 0 where
   pub rows : List (ℤ × ℤ)
   pub after : PendingTable
 
--- The least of them, up to the limit; the rest stay touched, and those that don't live don't.
-abbrev pub take_touched : PendingTable → finmap.FinMap int_cmp ℤ → TakenTouched
-take_touched s timeouts = record {
-  rows = take touched_limit (touched_rows s timeouts);
+-- The least of them, up to the limit; the rest stay touched, and those without a timeout don't.
+abbrev pub take_touched : PendingTable → (ℤ → Option ℤ) → TakenTouched
+take_touched s timeout_of = record {
+  rows = take touched_limit (touched_rows s timeout_of);
   after = record s {
-    touched = set.from_list (map (λ (row : ℤ × ℤ). row.0) (drop touched_limit (touched_rows s timeouts)));
+    touched = set.from_list (map (λ (row : ℤ × ℤ). row.0) (drop touched_limit (touched_rows s timeout_of)));
   };
 }

@@ -2,7 +2,9 @@
 use Rattle.std.specs.Prelude.{◌≡◌, ℕ, suc, ℤ, pos, negsuc, List, [], ◌∷◌, Option, None, Some, is_some, Bool, true, false, ◌&&◌, ◌||◌, not, drop, if◌then◌else◌}
 use Rattle.std.specs.Ordering.{int_eq}
 use Rattle.forwarding.specs.declared.request.WriteKind.{WriteKind}
-use Rattle.forwarding.specs.declared.request.WriteKind.TheVariants.{Create, Delete, SetData, SetAcl, CloseSession}
+use Rattle.forwarding.specs.declared.request.WriteKind.TheVariants.{Create, Create2, CreateContainer, CreateTtl, Delete, DeleteContainer, SetData, SetAcl, Reconfig, CloseSession}
+use Rattle.forwarding.specs.declared.request.ConnectKind.{ConnectKind}
+use Rattle.forwarding.specs.declared.request.ConnectKind.TheVariants.{New, Claimed}
 use Rattle.forwarding.specs.declared.request.PendingConnect.{PendingConnect}
 use Rattle.forwarding.specs.declared.request.PendingWrite.{PendingWrite}
 use Rattle.forwarding.specs.declared.request.AnsweredWrite.{AnsweredWrite}
@@ -26,6 +28,11 @@ write_number Create = pos 1
 write_number Delete = pos 2
 write_number SetData = pos 5
 write_number SetAcl = pos 7
+write_number Create2 = pos 15
+write_number Reconfig = pos 16
+write_number CreateContainer = pos 19
+write_number DeleteContainer = pos 20
+write_number CreateTtl = pos 21
 write_number CloseSession = negsuc 10
 
 -- The type of a transaction that stands for one that failed.
@@ -88,10 +95,7 @@ after_answer q xid txn_kind = if is_answered (oldest_write q) xid txn_kind then 
 
 abbrev pub is_close : WriteKind → Bool
 is_close CloseSession = true
-is_close Create = false
-is_close Delete = false
-is_close SetData = false
-is_close SetAcl = false
+is_close kind = false
 
 -- The xid of the oldest closeSession.
 abbrev pub oldest_close : RequestQueue → Option ℤ
@@ -144,6 +148,17 @@ waiting_connect (Connect c ∷ rest) = Some c
 waiting_connect (Write w ∷ rest) = None
 waiting_connect (Sync s ∷ rest) = None
 waiting_connect (Held frame ∷ rest) = None
+
+abbrev pub is_same_kind : ConnectKind → ConnectKind → Bool
+is_same_kind New New = true
+is_same_kind New Claimed = false
+is_same_kind Claimed New = false
+is_same_kind Claimed Claimed = true
+
+-- The connect asks for its session in this way.
+abbrev pub asks_as : ConnectKind → Option PendingConnect → Bool
+asks_as kind None = false
+asks_as kind (Some c) = is_same_kind c.kind kind
 
 -- The frames that are held, in order.
 abbrev pub held_frames : RequestQueue → List (List ℕ)

@@ -1,19 +1,21 @@
 -- All requests that aren't answered yet.
-use Rattle.std.specs.Prelude.{◌≡◌, ℕ, zero, suc, ℤ, List, Option, Bool, refl, ◌⊎◌}
-use Rattle.std.specs.Ordering.{nat_cmp, int_cmp}
+use Rattle.std.specs.Prelude.{◌≡◌, ℕ, ℤ, List, [], ◌∷◌, Option, Bool, true, false, refl, ◌⊎◌, if◌then◌else◌}
+use Rattle.std.specs.Ordering.{nat_cmp, int_cmp, int_eq}
 use Rattle.std.specs.Coded.{Coded, code_by, coded×, coded⊎, coded_ℕ, coded_ℤ, coded_bool, coded_list, coded_option}
 use mathlib.Core.Logic.{inl, inr}
 use Rattle.std.specs.FinMap as finmap
 use Rattle.std.specs.FinSet as set
 use Rattle.session_map.specs.SessionMap.{ConnectionBySession, connection_by_session_code}
 use Rattle.forwarding.specs.declared.request.WriteKind.{WriteKind}
-use Rattle.forwarding.specs.declared.request.WriteKind.TheVariants.{Create, Delete, SetData, SetAcl, CloseSession}
+use Rattle.forwarding.specs.declared.request.WriteKind.TheVariants.{Create, Create2, CreateContainer, CreateTtl, Delete, DeleteContainer, SetData, SetAcl, Reconfig, CloseSession}
+use Rattle.forwarding.specs.declared.request.ConnectKind.{ConnectKind}
+use Rattle.forwarding.specs.declared.request.ConnectKind.TheVariants.{New, Claimed}
 use Rattle.forwarding.specs.declared.request.PendingConnect.{PendingConnect}
 use Rattle.forwarding.specs.declared.request.PendingWrite.{PendingWrite}
 use Rattle.forwarding.specs.declared.request.PendingSync.{PendingSync}
 use Rattle.forwarding.specs.declared.request.PendingRequest.{PendingRequest}
 use Rattle.forwarding.specs.declared.request.PendingRequest.TheVariants.{Connect, Write, Sync, Held}
-use Rattle.forwarding.specs.Queue.{RequestQueue}
+use Rattle.forwarding.specs.Queue.{RequestQueue, write_number}
 
 -- By connection; a connection with nothing pending isn't in the map.
 abbrev pub RequestQueues : Type 0
@@ -40,35 +42,51 @@ pending_table_of queues syncs connects touched =
 
 -- ---- codes
 
-abbrev pub write_kind_place : WriteKind → ℕ
-write_kind_place Create = 0
-write_kind_place Delete = 1
-write_kind_place SetData = 2
-write_kind_place SetAcl = 3
-write_kind_place CloseSession = 4
+abbrev pub write_kinds : List WriteKind
+write_kinds =
+    Create ∷ Delete ∷ SetData ∷ SetAcl ∷ Create2 ∷ Reconfig ∷ CreateContainer ∷ DeleteContainer ∷ CreateTtl
+    ∷ CloseSession ∷ []
 
-abbrev pub write_kind_at : ℕ → WriteKind
-write_kind_at zero = Create
-write_kind_at (suc zero) = Delete
-write_kind_at (suc (suc zero)) = SetData
-write_kind_at (suc (suc (suc zero))) = SetAcl
-write_kind_at (suc (suc (suc (suc n)))) = CloseSession
+-- The one of these kinds that has the number.
+abbrev pub kind_among : List WriteKind → ℤ → WriteKind
+kind_among [] number = CloseSession
+kind_among (kind ∷ rest) number = if int_eq (write_number kind) number then kind else kind_among rest number
 
-pub write_kinds_apart : (k : WriteKind) → write_kind_at (write_kind_place k) ≡ k
+pub write_kinds_apart : (k : WriteKind) → kind_among write_kinds (write_number k) ≡ k
 write_kinds_apart Create = refl
 write_kinds_apart Delete = refl
 write_kinds_apart SetData = refl
 write_kinds_apart SetAcl = refl
+write_kinds_apart Create2 = refl
+write_kinds_apart Reconfig = refl
+write_kinds_apart CreateContainer = refl
+write_kinds_apart DeleteContainer = refl
+write_kinds_apart CreateTtl = refl
 write_kinds_apart CloseSession = refl
 
 abbrev pub write_kind_code : Coded WriteKind
-write_kind_code = code_by ℕ coded_ℕ write_kind_place write_kind_at write_kinds_apart
+write_kind_code = code_by ℤ coded_ℤ write_number (kind_among write_kinds) write_kinds_apart
+
+abbrev pub is_claimed : ConnectKind → Bool
+is_claimed New = false
+is_claimed Claimed = true
+
+abbrev pub connect_kind_of : Bool → ConnectKind
+connect_kind_of false = New
+connect_kind_of true = Claimed
+
+pub connect_kinds_apart : (k : ConnectKind) → connect_kind_of (is_claimed k) ≡ k
+connect_kinds_apart New = refl
+connect_kinds_apart Claimed = refl
+
+abbrev pub connect_kind_code : Coded ConnectKind
+connect_kind_code = code_by Bool coded_bool is_claimed connect_kind_of connect_kinds_apart
 
 abbrev pub connect_code : Coded PendingConnect
 connect_code =
-    code_by (ℤ × (ℤ × Bool)) (coded× coded_ℤ (coded× coded_ℤ coded_bool))
-    (λ c. (c.session, (c.time_out, c.has_read_only)))
-    (λ p. record { session = p.0; time_out = p.1.0; has_read_only = p.1.1 }) (λ _. refl)
+    code_by (ConnectKind × (ℤ × (ℤ × Bool))) (coded× connect_kind_code (coded× coded_ℤ (coded× coded_ℤ coded_bool)))
+    (λ c. (c.kind, (c.session, (c.time_out, c.has_read_only))))
+    (λ p. record { kind = p.0; session = p.1.0; time_out = p.1.1.0; has_read_only = p.1.1.1 }) (λ _. refl)
 
 abbrev pub write_code : Coded PendingWrite
 write_code =

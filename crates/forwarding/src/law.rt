@@ -1,6 +1,6 @@
 //! Laws of what is pending. Each is the contract of a function that does nothing.
 
-ghost use Rattle.forwarding.specs.Laws.{PendingAgreementIsKept, OtherQueuesStay, EmptinessIsTold, AnswersAreMatched, RequestsKeepOrder, SyncsKeepOrder, NothingWaitsInVain};
+ghost use Rattle.forwarding.specs.Laws.{PendingAgreementIsKept, OtherQueuesStay, EmptinessIsTold, AnswersAreMatched, ConnectsAreFound, RequestsKeepOrder, SyncsKeepOrder, NothingWaitsInVain};
 ghost use Rattle.forwarding.specs.Rows.{WorkedRows};
 
 /// Requests, syncs and waiting connects agree from the start on: a connect stands in front of its connection's
@@ -23,6 +23,11 @@ pub fn emptiness_is_told()
 /// A transaction answers at most one write, the oldest of its connection, of its xid and type.
 pub fn answers_are_matched()
     ensures { AnswersAreMatched }
+{}
+
+/// A connect is found by its session and by the way in which it asks for it.
+pub fn connects_are_found()
+    ensures { ConnectsAreFound }
 {}
 
 /// Requests leave in the order in which they came, but for writes, which overtake. Syncs are settled in the order in

@@ -24,14 +24,17 @@ mod queues;
 mod request;
 mod syncs;
 mod table;
+mod timeouts;
 mod touched;
 
 pub use law::{
-    answers_are_matched, emptiness_is_told, nothing_waits_in_vain, order_is_kept,
-    other_connections_stay, requests_and_syncs_agree, worked_rows,
+    answers_are_matched, connects_are_found, emptiness_is_told, nothing_waits_in_vain,
+    order_is_kept, other_connections_stay, requests_and_syncs_agree, worked_rows,
 };
 pub use queue::PENDING_LIMIT;
 pub use request::{
-    AnsweredWrite, ERROR_TXN, Occupancy, PendingConnect, Ready, Settled, TakenConnect, WriteKind,
+    AnsweredWrite, ConnectKind, ERROR_TXN, Occupancy, PendingConnect, Ready, Settled, TakenConnect,
+    WriteKind,
 };
 pub use table::{Pending, TOUCHED_LIMIT};
+pub use timeouts::SessionTimeouts;

@@ -1,7 +1,7 @@
 //! The requests of clients that the leader's stream hasn't answered yet.
 
 ghost use Rattle.std.specs.Prelude.{◌≡◌, [], None};
-ghost use Rattle.forwarding.specs.Queue.{is_write, write_number, is_answered_by, is_unsettled, settled_request};
+ghost use Rattle.forwarding.specs.Queue.{is_same_kind, is_write, write_number, is_answered_by, is_unsettled, settled_request};
 ghost use Rattle.forwarding.specs.Inner.{as_write, is_close_request};
 
 use std::alloc::Global;
@@ -17,6 +17,13 @@ pub enum WriteKind {
     Delete,
     SetData,
     SetAcl,
+    /// A create that is answered with the Stat.
+    Create2,
+    Reconfig,
+    CreateContainer,
+    DeleteContainer,
+    /// A create of a node with a time to live.
+    CreateTtl,
     CloseSession,
 }
 
@@ -30,14 +37,40 @@ impl WriteKind {
             WriteKind::Delete => 2,
             WriteKind::SetData => 5,
             WriteKind::SetAcl => 7,
+            WriteKind::Create2 => 15,
+            WriteKind::Reconfig => 16,
+            WriteKind::CreateContainer => 19,
+            WriteKind::DeleteContainer => 20,
+            WriteKind::CreateTtl => 21,
             WriteKind::CloseSession => -11,
         }
     }
 }
 
-/// A connect that asks for a new session.
+/// The way in which a connect asks for its session.
+#[derive(Clone, Copy)]
+pub enum ConnectKind {
+    /// It is new: the leader is asked to create it.
+    New,
+    /// The client had it, here or at another server: the leader is asked whether it lives.
+    Claimed,
+}
+
+impl ConnectKind {
+    pub(crate) fn is_same(self, other: ConnectKind) -> bool
+        ensures { result ≡ is_same_kind self other }
+    {
+        match self {
+            ConnectKind::New => matches!(other, ConnectKind::New),
+            ConnectKind::Claimed => matches!(other, ConnectKind::Claimed),
+        }
+    }
+}
+
+/// A connect that waits for its session.
 #[derive(Clone, Copy)]
 pub struct PendingConnect {
+    pub kind: ConnectKind,
     pub session: i64,
     /// The timeout that the client is told, in milliseconds.
     pub time_out: i32,

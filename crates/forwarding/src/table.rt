@@ -3,18 +3,18 @@
 ghost use Rattle.std.specs.Prelude.{◌≡◌, ℕ, [], OnOk, OnErr, IfOk, IfSome, IsTrue, None, true, false, drop};
 ghost use Rattle.std.specs.FinMap as finmap;
 ghost use Rattle.forwarding.specs.Queue.{found_write, OldestWriteIsAt};
-ghost use Rattle.forwarding.specs.Pending.{nothing_pending, queue_of, has_no_request, is_idle, is_full, means_idle, means_full, push_connect, push_write, push_sync, hold_frame, remove_write, pending_close, settle_sync, take_ready, take_connect, connecting_to, drop_connection, without_connect, touch_session, take_touched, touched_limit};
+ghost use Rattle.forwarding.specs.Pending.{nothing_pending, queue_of, has_no_request, is_idle, is_full, means_idle, means_full, push_connect, push_write, push_sync, hold_frame, remove_write, pending_close, settle_sync, take_ready, take_connect, connecting_to, awaiting, drop_connection, without_connect, touch_session, take_touched, touched_limit};
 ghost use Rattle.forwarding.specs.Agreement.{PendingAgrees};
 
 use crate::queue::Queue;
 use crate::queues::Queues;
 use crate::request::{
-    AnsweredWrite, Occupancy, PendingConnect, PendingRequest, PendingSync, PendingWrite, Ready,
-    Settled, TakenConnect, WriteKind,
+    AnsweredWrite, ConnectKind, Occupancy, PendingConnect, PendingRequest, PendingSync,
+    PendingWrite, Ready, Settled, TakenConnect, WriteKind,
 };
 use crate::syncs::Syncs;
+use crate::timeouts::SessionTimeouts;
 use crate::touched::Touched;
-use data_tree::Timeouts;
 use session_map::SessionMap;
 use std::alloc::Global;
 use std::marker::Model;
@@ -125,6 +125,24 @@ impl Pending {
         ensures { result ≡ connecting_to self.now session }
     {
         self.connects.get(session)
+    }
+
+    /// The connection whose connect asks for the session in this way.
+    pub fn awaiting(&self, session: i64, kind: ConnectKind) -> Option<u64>
+        ensures { result ≡ awaiting self.now session kind }
+    {
+        let Some(number) = self.connects.get(session) else {
+            return None;
+        };
+        match self.queues.connect(number) {
+            None => None,
+            Some(connect) => {
+                if !connect.kind.is_same(kind) {
+                    return None;
+                }
+                Some(number)
+            }
+        }
     }
 
     /// The xid of the connection's oldest closeSession. A closeSession of its session answers it, whatever its xid.
@@ -304,13 +322,13 @@ impl Pending {
 
     /// The touched sessions that have a timeout, each with it, in ascending order: at most `TOUCHED_LIMIT`. They are no
     /// longer touched, nor are those without a timeout. A refused allocation changes nothing.
-    pub fn take_touched(
+    pub fn take_touched<T: SessionTimeouts>(
         &mut self,
         alloc: Global,
-        timeouts: &Timeouts,
+        timeouts: &T,
     ) -> Result<Vec<(i64, i32)>, NoMemory>
         ensures ok { IfOk result (λ rows.
-            take_touched self.old timeouts.now ≡ record { rows = rows.items; after = self.new }) }
+            take_touched self.old (T.timeout timeouts.now) ≡ record { rows = rows.items; after = self.new }) }
         ensures err { OnErr result (self.new ≡ self.old) }
     {
         let mut rows = self.touched.live_rows(alloc, timeouts)?;

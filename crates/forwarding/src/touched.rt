@@ -4,7 +4,7 @@ ghost use Rattle.std.specs.Prelude.{◌≡◌, OnOk, OnErr, IfOk, ℤ, map};
 ghost use Rattle.std.specs.FinSet as set;
 ghost use Rattle.forwarding.specs.Pending.{live_rows, sorted_touched};
 
-use data_tree::Timeouts;
+use crate::timeouts::SessionTimeouts;
 use std::alloc::Global;
 use std::collections::BTreeSet;
 use std::marker::Model;
@@ -68,16 +68,16 @@ impl Touched {
     }
 
     /// The sessions that have a timeout, each with it, in ascending order. Fails only if an allocation is refused.
-    pub(crate) fn live_rows(
+    pub(crate) fn live_rows<T: SessionTimeouts>(
         &self,
         alloc: Global,
-        timeouts: &Timeouts,
+        timeouts: &T,
     ) -> Result<Vec<(i64, i32)>, NoMemory>
-        ensures { IfOk result (λ rows. rows.items ≡ live_rows timeouts.now (sorted_touched self.now)) }
+        ensures { IfOk result (λ rows. rows.items ≡ live_rows (T.timeout timeouts.now) (sorted_touched self.now)) }
     {
         let mut rows = Vec::new(alloc);
         for session in self.sessions.iter() {
-            if let Some(timeout) = timeouts.get(*session) {
+            if let Some(timeout) = timeouts.timeout_of(*session) {
                 rows.push((*session, timeout))?;
             }
         }

@@ -1,5 +1,5 @@
 -- The steps that keep sessions and connections in agreement.
-use Rattle.std.proofs.Common.{◌≡◌, ◌⊎◌, inl, inr, ℕ, ◌+◌, ◌^◌, ◌<◌, ◌≤◌, ℤ, true, false, List, [], ◌∷◌, ◌++◌, length, Option, Some, None, refl, sym, ap, subst, ◌∙◌, arith}
+use Rattle.std.proofs.Common.{◌≡◌, ◌⊎◌, inl, inr, ℕ, ◌+◌, ◌^◌, ◌<◌, ◌≤◌, ℤ, true, false, List, length, Option, Some, None, refl, sym, ap, subst, ◌∙◌, arith}
 use Rattle.std.specs.Prelude.{IsTrue, nat_le}
 use Rattle.std.specs.Ordering.{eq_by_cmp, nat_cmp, int_cmp}
 use Rattle.std.specs.List.{All}
@@ -21,8 +21,7 @@ use Rattle.values.proofs.Keyed.{some-some, apart, other, same_or_other, inserted
 
 -- A connection that has this session.
 abbrev pub Has : ℤ → ConnectedClients → ℕ → Type 0
-Has session connections n = (ids : List Id)
-    × (finmap.get connections n ≡ Some (record { session = session; ids = ids }))
+Has session connections n = (c : ConnectedClient) × ((finmap.get connections n ≡ Some c) × (c.session ≡ session))
 
 abbrev pub AtOwner : SessionOwners → ℤ → ℕ → ℤ → ℕ → Type 0
 AtOwner owners key new session n =
@@ -81,11 +80,14 @@ closed s n c a here = record {
     still session m b =
         let old = a.connections session m b.1 in (
           old.0,
-          removed_elsewhere nat_cmp_total exact_unsigned s.connections n m
-              (other nat_cmp_total exact_unsigned m n (λ same. apart int_cmp_total exact_signed session c.session b.0
-              (ap (λ (x : ConnectedClient). x.session)
-              (some-some (sym old.1 ∙ ap (finmap.get s.connections) same ∙ here)))))
-              ∙ old.1,
+          (
+            removed_elsewhere nat_cmp_total exact_unsigned s.connections n m
+                (other nat_cmp_total exact_unsigned m n (λ same. apart int_cmp_total exact_signed session c.session b.0
+                (sym old.1.1 ∙ ap (λ (x : ConnectedClient). x.session)
+                (some-some (sym old.1.0 ∙ ap (finmap.get s.connections) same ∙ here)))))
+                ∙ old.1.0,
+            old.1.1,
+          ),
         )
 
 -- Removing a connection that has no session changes nothing.
@@ -102,7 +104,13 @@ pub closing : (s : SessionTable) (session : ℤ) (n : ℕ) → SessionsAgree s �
       connections =
           finmap.remove s.connections n;
     }
-closing s session n a has = ap (close_as s n) (a.connections session n has).1
+closing s session n a has =
+    let at = a.connections session n has in
+    ap (close_as s n) at.1.0
+    ∙ ap (λ (t : ℤ). record s {
+      owners = finmap.remove s.owners t;
+      connections = finmap.remove s.connections n;
+    }) at.1.1
 
 pub closing_agrees : (s : SessionTable) (session : ℤ) (n : ℕ) → SessionsAgree s
     → finmap.get s.owners session ≡ Some n
@@ -113,7 +121,10 @@ pub closing_agrees : (s : SessionTable) (session : ℤ) (n : ℕ) → SessionsAg
     })
 closing_agrees s session n a has =
     let at = a.connections session n has in
-    closed s n (record { session = session; ids = at.0 }) a at.1
+    subst (λ (t : ℤ). SessionsAgree (record s {
+      owners = finmap.remove s.owners t;
+      connections = finmap.remove s.connections n;
+    })) at.1.1 (closed s n at.0 a at.1.0)
 
 -- ---- a session ends
 
@@ -142,9 +153,9 @@ expires_closing s session n a has =
 
 -- ---- a connection without a session gets one that no connection has
 
-pub joins : (s : SessionTable) (n : ℕ) (session : ℤ) → SessionsAgree s → finmap.get s.connections n ≡ None
-    → finmap.get s.owners session ≡ None → SessionsAgree (with_session_connected s n session)
-joins s n session a none free = record {
+pub joins : (s : SessionTable) (n : ℕ) (session time_out : ℤ) → SessionsAgree s → finmap.get s.connections n ≡ None
+    → finmap.get s.owners session ≡ None → SessionsAgree (with_session_connected s n session time_out)
+joins s n session time_out a none free = record {
   server_id = a.server_id;
   counter = a.counter;
   owners = λ m d e. has m d (at_inserted nat_cmp_total exact_unsigned s.connections n new m d e);
@@ -155,7 +166,7 @@ joins s n session a none free = record {
 }
   where
     new : ConnectedClient
-    new = record { session = session; ids = [] }
+    new = new_connection session time_out
 
     has : (m : ℕ) (d : ConnectedClient) → AtConnection s.connections n new m d
         → finmap.get (finmap.insert s.owners session n) d.session ≡ Some m
@@ -171,19 +182,23 @@ joins s n session a none free = record {
 
     of : (t : ℤ) (m : ℕ) → AtOwner s.owners session n t m → Has t (finmap.insert s.connections n new) m
     of t m (inl b) = (
-      [],
-      ap (finmap.get (finmap.insert s.connections n new)) (sym b.1)
-          ∙ inserted nat_cmp_total exact_unsigned s.connections n new
-          ∙ (λ i. Some (record { session = sym b.0 i; ids = [] })),
+      new,
+      (
+        ap (finmap.get (finmap.insert s.connections n new)) (sym b.1)
+            ∙ inserted nat_cmp_total exact_unsigned s.connections n new,
+        sym b.0,
+      ),
     )
     of t m (inr b) =
         let old = a.connections t m b.1 in (
           old.0,
-          inserted_elsewhere nat_cmp_total exact_unsigned s.connections n new m
-              (other nat_cmp_total exact_unsigned m n
-              (λ same. none-some (record { session = t; ids = old.0 })
-              (sym none ∙ sym (ap (finmap.get s.connections) same) ∙ old.1)))
-              ∙ old.1,
+          (
+            inserted_elsewhere nat_cmp_total exact_unsigned s.connections n new m
+                (other nat_cmp_total exact_unsigned m n
+                (λ same. none-some old.0 (sym none ∙ sym (ap (finmap.get s.connections) same) ∙ old.1.0)))
+                ∙ old.1.0,
+            old.1.1,
+          ),
         )
 
     few : (m : ℕ) (d : ConnectedClient) → AtConnection s.connections n new m d → length d.ids ≤ ids_limit
@@ -206,7 +221,11 @@ older_apart : (s : SessionTable) (session : ℤ) (n older : ℕ) → SessionsAgr
     → finmap.get s.owners session ≡ Some older → older ≡ n → ⊥
 older_apart s session n older a none has same =
     let at = a.connections session older has in
-    none-some (record { session = session; ids = at.0 }) (sym none ∙ sym (ap (finmap.get s.connections) same) ∙ at.1)
+    none-some at.0 (sym none ∙ sym (ap (finmap.get s.connections) same) ∙ at.1.0)
+
+-- The connection that is given the session.
+abbrev pub session_client : SessionTable → ℤ → ℤ → ConnectedClient
+session_client s session time_out = new_connection session (session_response s.terms session time_out).time_out
 
 -- An older connection has it.
 pub gives_older : (s : SessionTable) (n : ℕ) (session time_out : ℤ) (older : ℕ) → SessionsAgree s
@@ -215,46 +234,44 @@ pub gives_older : (s : SessionTable) (n : ℕ) (session time_out : ℤ) (older :
       connected = record { response = session_response s.terms session time_out; older = Some older };
       after = record s {
         owners = finmap.insert s.owners session n;
-        connections = finmap.remove (finmap.insert s.connections n (new_connection session)) older;
+        connections = finmap.remove (finmap.insert s.connections n (session_client s session time_out)) older;
       };
     }
 gives_older s n session time_out older a none has =
     ap (λ (o : Option ℕ). record {
       connected = record { response = session_response s.terms session time_out; older = o };
-      after = with_session_connected (close_if_some s o) n session;
+      after = with_session_connected (close_if_some s o) n session (session_client s session time_out).time_out;
     }) has
     ∙ ap (λ (x : SessionTable). record {
       connected = record { response = session_response s.terms session time_out; older = Some older };
-      after = with_session_connected x n session;
+      after = with_session_connected x n session (session_client s session time_out).time_out;
     }) (closing s session older a has)
     ∙ (λ i. record {
       connected = record { response = session_response s.terms session time_out; older = Some older };
       after = record s {
         owners = insert_removed int_cmp_total exact_signed s.owners session n i;
         connections =
-            sym (remove_past_insert nat_cmp_total exact_unsigned s.connections n
-            (record { session = session; ids = [] }) older
+            sym (remove_past_insert nat_cmp_total exact_unsigned s.connections n (session_client s session time_out) older
             (other nat_cmp_total exact_unsigned older n (older_apart s session n older a none has))) i;
       };
     })
 
-pub joins_older : (s : SessionTable) (n : ℕ) (session : ℤ) (older : ℕ) → SessionsAgree s
+pub joins_older : (s : SessionTable) (n : ℕ) (session time_out : ℤ) (older : ℕ) → SessionsAgree s
     → finmap.get s.connections n ≡ None
     → finmap.get s.owners session ≡ Some older
     → SessionsAgree (record s {
       owners = finmap.insert s.owners session n;
-      connections = finmap.remove (finmap.insert s.connections n (record { session = session; ids = [] })) older;
+      connections = finmap.remove (finmap.insert s.connections n (new_connection session time_out)) older;
     })
-joins_older s n session older a none has =
+joins_older s n session time_out older a none has =
     subst (λ (x : SessionOwners × ConnectedClients). SessionsAgree (record s { owners = x.0; connections = x.1 }))
     (λ i. (
       insert_removed int_cmp_total exact_signed s.owners session n i,
-      sym (remove_past_insert nat_cmp_total exact_unsigned s.connections n
-          (record { session = session; ids = [] }) older
+      sym (remove_past_insert nat_cmp_total exact_unsigned s.connections n (new_connection session time_out) older
           (other nat_cmp_total exact_unsigned older n (older_apart s session n older a none has))) i,
     ))
     (joins (record s
-    { owners = finmap.remove s.owners session; connections = finmap.remove s.connections older }) n session
+    { owners = finmap.remove s.owners session; connections = finmap.remove s.connections older }) n session time_out
     (closing_agrees s session older a has)
     (removed_elsewhere nat_cmp_total exact_unsigned s.connections older n
     (other nat_cmp_total exact_unsigned n older (λ same. older_apart s session n older a none has (sym same)))
@@ -265,12 +282,12 @@ joins_older s n session older a none has =
 pub gives_free : (s : SessionTable) (n : ℕ) (session time_out : ℤ) → finmap.get s.owners session ≡ None
     → give_session s n session time_out ≡ record {
       connected = record { response = session_response s.terms session time_out; older = None };
-      after = with_session_connected s n session;
+      after = with_session_connected s n session (session_client s session time_out).time_out;
     }
 gives_free s n session time_out free =
     ap (λ (o : Option ℕ). record {
       connected = record { response = session_response s.terms session time_out; older = o };
-      after = with_session_connected (close_if_some s o) n session;
+      after = with_session_connected (close_if_some s o) n session (session_client s session time_out).time_out;
     }) free
 
 -- ---- the ids of a connection
@@ -334,15 +351,19 @@ shows s n c id a here fit writable = record {
         let old = a.connections t m e in
         let session : c.session ≡ t =
         ap (λ (x : ConnectedClient). x.session) (some-some
-        (sym here ∙ sym (ap (finmap.get s.connections) same) ∙ old.1)) in (
-          c.ids ++ id ∷ [],
-          ap (finmap.get (finmap.insert s.connections n (with_id c id))) same
-              ∙ inserted nat_cmp_total exact_unsigned s.connections n (with_id c id)
-              ∙ (λ i. Some (record { session = session i; ids = c.ids ++ id ∷ [] })),
+        (sym here ∙ sym (ap (finmap.get s.connections) same) ∙ old.1.0)) ∙ old.1.1 in (
+          with_id c id,
+          (
+            ap (finmap.get (finmap.insert s.connections n (with_id c id))) same
+                ∙ inserted nat_cmp_total exact_unsigned s.connections n (with_id c id),
+            session,
+          ),
         )
     of t m e (inr f) =
-        let old = a.connections t m e in
-        (old.0, inserted_elsewhere nat_cmp_total exact_unsigned s.connections n (with_id c id) m f ∙ old.1)
+        let old = a.connections t m e in (
+          old.0,
+          (inserted_elsewhere nat_cmp_total exact_unsigned s.connections n (with_id c id) m f ∙ old.1.0, old.1.1),
+        )
 
     few : (m : ℕ) (d : ConnectedClient) → AtConnection s.connections n (with_id c id) m d → length d.ids ≤ ids_limit
     few m d (inl b) = subst (λ (x : ConnectedClient). length x.ids ≤ ids_limit) b.1 (are_few (with_id c id).ids fit)

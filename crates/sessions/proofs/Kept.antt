@@ -3,9 +3,9 @@ use Rattle.std.proofs.Common.{◌≡◌, ℕ, ◌+◌, ◌^◌, ◌<◌, ◌==�
 use Rattle.std.specs.Prelude.{if◌then◌else◌}
 use Rattle.std.specs.List.{list_any}
 use Rattle.std.specs.Ordering.{int_eq}
-use Rattle.std.specs.Cmp.{nat_cmp_total}
+use Rattle.std.specs.Cmp.{nat_cmp_total, int_cmp_total}
 use Rattle.std.proofs.lemmas.Bool.{eqb-false}
-use Rattle.std.proofs.lemmas.Map.Lookups.{exact_unsigned}
+use Rattle.std.proofs.lemmas.Map.Lookups.{exact_unsigned, exact_signed}
 use Rattle.std.specs.FinMap as finmap
 use mathlib.Core.Bool.{true≢false}
 use Rattle.jute.specs.Owned.{id_format}
@@ -13,13 +13,13 @@ use Rattle.jute.specs.declared.owned.Id.{Id}
 use Rattle.sessions.specs.declared.request.SessionRequest.{SessionRequest}
 use Rattle.sessions.specs.Credentials.{digest_id}
 use Rattle.sessions.specs.State.{ConnectedClient, SessionTable}
-use Rattle.sessions.specs.Sessions.{ConnectResult, AuthResult, ExpireResult, greatest_counter, are_within_limits, is_same_id, with_id, is_valid, session_of_connection, session_in, connection_of, close_as, close_if_some, expire_owner, new_connection, give_session, name_session, connect_session, show_in, digest_text, auth_by}
+use Rattle.sessions.specs.Sessions.{ConnectResult, AuthResult, ExpireResult, greatest_counter, are_within_limits, is_same_id, with_id, is_valid, session_of_connection, session_in, connection_of, time_out_in, time_out_of, told_timeout, close_as, close_if_some, expire_owner, give_session, name_session, connect_session, show_in, digest_text, auth_by}
 use Rattle.sessions.specs.Agreement.{SessionsAgree, AgreementIsKept, ResponsesNameSessions, nonzero_session}
 use Rattle.sessions.proofs.Ids.{digest_is_writable}
 use Rattle.sessions.proofs.Texts.{is_short}
 use Rattle.sessions.proofs.Cases.{at_if}
 use Rattle.values.proofs.Keyed.{inserted}
-use Rattle.sessions.proofs.Agreeing.{starts, closed, closing_agrees, expires_closing, joins, joins_older, gives_free, gives_older, shows, counts}
+use Rattle.sessions.proofs.Agreeing.{starts, session_client, closed, closing_agrees, expires_closing, joins, joins_older, gives_free, gives_older, shows, counts}
 
 -- ---- close and expire
 
@@ -73,10 +73,10 @@ gives : (s : SessionTable) (n : ℕ) (session time_out : ℤ) (o : Option ℕ) �
     → SessionsAgree s → finmap.get s.connections n ≡ None → SessionsAgree (give_session s n session time_out).after
 gives s n session time_out None e a none =
     subst (λ (x : ConnectResult). SessionsAgree x.after) (sym (gives_free s n session time_out e))
-    (joins s n session a none e)
+    (joins s n session (session_client s session time_out).time_out a none e)
 gives s n session time_out (Some older) e a none =
     subst (λ (x : ConnectResult). SessionsAgree x.after) (sym (gives_older s n session time_out older a none e))
-    (joins_older s n session older a none e)
+    (joins_older s n session (session_client s session time_out).time_out older a none e)
 
 connects : (s : SessionTable) (n : ℕ) (lives : Bool) (request : SessionRequest) → SessionsAgree s
     → finmap.get s.connections n ≡ None → SessionsAgree (connect_session s n lives request).after
@@ -109,7 +109,16 @@ given : (s : SessionTable) (n : ℕ) (session time_out : ℤ)
     → session_of_connection (give_session s n session time_out).after n ≡ Some session
 given s n session time_out =
     ap session_in (inserted nat_cmp_total exact_unsigned (close_if_some s (connection_of s session)).connections n
-    (new_connection session))
+    (session_client s session time_out))
+
+tells_timeout : (s : SessionTable) (n : ℕ) (session time_out : ℤ)
+    → told_timeout (give_session s n session time_out).after session
+    ≡ Some (give_session s n session time_out).connected.response.time_out
+tells_timeout s n session time_out =
+    let closed = close_if_some s (connection_of s session) in
+    ap (time_out_of (give_session s n session time_out).after)
+    (inserted int_cmp_total exact_signed closed.owners session n)
+    ∙ ap time_out_in (inserted nat_cmp_total exact_unsigned closed.connections n (session_client s session time_out))
 
 asks : (s : SessionTable) (n : ℕ) (lives : Bool) (request : SessionRequest) → finmap.get s.connections n ≡ None
     → int_eq request.session_id (pos 0) ≡ true → HasNone n (connect_session s n lives request)
@@ -128,4 +137,4 @@ reconnects s n lives request none other =
     (λ _. ap session_in none))
 
 pub answers_tell : ResponsesNameSessions
-answers_tell = record { asks = asks; reconnects = reconnects; admits = given }
+answers_tell = record { asks = asks; reconnects = reconnects; admits = given; times_out = tells_timeout }

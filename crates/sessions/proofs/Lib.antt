@@ -4,6 +4,8 @@ pub mod Numbers
 pub mod Agreeing
 -- Ids can be written.
 pub mod Ids
+-- The passwords that each server of ZooKeeper makes.
+pub mod RandomBytes
 -- The text of the scheme "digest".
 pub mod Texts
 -- Cases of definitions.
@@ -14,5 +16,7 @@ pub mod Kept
 pub mod Others
 -- Ids of new sessions are new.
 pub mod NewIds
+-- Passwords that servers of ZooKeeper gave.
+pub mod WorkedRows
 -- The number of entries of a map.
 pub mod Counting

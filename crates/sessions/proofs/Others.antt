@@ -9,8 +9,9 @@ use Rattle.jute.specs.declared.owned.Id.{Id}
 use Rattle.sessions.specs.declared.request.SessionRequest.{SessionRequest}
 use Rattle.sessions.specs.Credentials.{digest_id}
 use Rattle.sessions.specs.State.{ConnectedClient, SessionTable}
-use Rattle.sessions.specs.Sessions.{ConnectResult, AuthResult, greatest_counter, are_within_limits, is_same_id, with_id, is_valid, connection_of, close_as, close_if_some, new_connection, give_session, connect_session, show_in, digest_text, auth_by}
+use Rattle.sessions.specs.Sessions.{ConnectResult, AuthResult, greatest_counter, are_within_limits, is_same_id, with_id, is_valid, connection_of, close_as, close_if_some, give_session, connect_session, show_in, digest_text, auth_by}
 use Rattle.sessions.specs.Agreement.{OtherConnectionsStay}
+use Rattle.sessions.proofs.Agreeing.{session_client}
 use Rattle.sessions.proofs.Cases.{at_if}
 use Rattle.values.proofs.Keyed.{other, inserted_elsewhere, removed_elsewhere}
 
@@ -51,7 +52,7 @@ Leaves s m x = x.connected.older ≢ Some m → Stays s m x.after
 gives : (s : SessionTable) (n : ℕ) (session time_out : ℤ) (m : ℕ) → m ≢ n
     → Leaves s m (give_session s n session time_out)
 gives s n session time_out m apart stays =
-    put_elsewhere (close_if_some s (connection_of s session)) m n (new_connection session) apart
+    put_elsewhere (close_if_some s (connection_of s session)) m n (session_client s session time_out) apart
     ∙ closes_one s (connection_of s session) m stays
 
 connects : (s : SessionTable) (n : ℕ) (lives : Bool) (request : SessionRequest) (m : ℕ) → m ≢ n

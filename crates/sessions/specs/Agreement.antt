@@ -5,11 +5,10 @@ use Rattle.std.specs.Ordering.{int_eq}
 use Rattle.std.specs.FinMap as finmap
 use Rattle.settings.specs.Settings.{is_server_id, is_first_counter}
 use Rattle.jute.specs.Owned.{id_format}
-use Rattle.jute.specs.declared.owned.Id.{Id}
 use Rattle.sessions.specs.Credentials.{session_id_of}
 use Rattle.sessions.specs.declared.request.SessionRequest.{SessionRequest}
 use Rattle.sessions.specs.State.{SessionSettings, ConnectedClient, SessionTable}
-use Rattle.sessions.specs.Sessions.{ids_limit, ids_bytes_limit, bytes_of_ids, no_sessions, session_of_connection, is_valid, give_session, name_session, connect_session, add_auth, close_connection, expire_owner}
+use Rattle.sessions.specs.Sessions.{ids_limit, ids_bytes_limit, bytes_of_ids, no_sessions, session_of_connection, told_timeout, is_valid, give_session, name_session, connect_session, add_auth, close_connection, expire_owner}
 
 -- The server has given the id out with one of its counters so far. Those up to its first counter count as given.
 pub record IsGivenOut (server_id : ℤ) (counter : ℕ) (session : ℤ) : Type 0 where
@@ -27,7 +26,7 @@ pub record SessionsAgree (s : SessionTable) : Type 0 where
       → finmap.get s.owners c.session ≡ Some n
   -- The connection of a session has that session.
   pub connections : (session : ℤ) (n : ℕ) → finmap.get s.owners session ≡ Some n
-      → (ids : List Id) × (finmap.get s.connections n ≡ Some (record { session = session; ids = ids }))
+      → (c : ConnectedClient) × ((finmap.get s.connections n ≡ Some c) × (c.session ≡ session))
   -- No connection has more ids than the limit, or more bytes of them.
   pub ids : (n : ℕ) (c : ConnectedClient) → finmap.get s.connections n ≡ Some c → length c.ids ≤ ids_limit
   pub bytes : (n : ℕ) (c : ConnectedClient) → finmap.get s.connections n ≡ Some c
@@ -91,6 +90,10 @@ pub record ResponsesNameSessions : Type 0 where
   -- A session that is given to a connection is its session.
   pub admits : (s : SessionTable) (n : ℕ) (session time_out : ℤ)
       → session_of_connection (give_session s n session time_out).after n ≡ Some session
+  -- It was told the timeout of the response.
+  pub times_out : (s : SessionTable) (n : ℕ) (session time_out : ℤ)
+      → told_timeout (give_session s n session time_out).after session
+      ≡ Some (give_session s n session time_out).connected.response.time_out
 
 -- ---- ids of new sessions, and sessions that have ended
 

@@ -38,6 +38,18 @@ ids_of s n = ids_in (finmap.get s.connections n)
 abbrev pub connection_of : SessionTable → ℤ → Option ℕ
 connection_of s session = finmap.get s.owners session
 
+abbrev pub time_out_in : Option ConnectedClient → Option ℤ
+time_out_in None = None
+time_out_in (Some c) = Some c.time_out
+
+abbrev pub time_out_of : SessionTable → Option ℕ → Option ℤ
+time_out_of s None = None
+time_out_of s (Some n) = time_out_in (finmap.get s.connections n)
+
+-- The timeout that the connection of the session was told, if a connection has it here.
+abbrev pub told_timeout : SessionTable → ℤ → Option ℤ
+told_timeout s session = time_out_of s (connection_of s session)
+
 -- ---- close: the connection and its ids go, and it has no session any more; whether that lives on, the tree knows
 
 abbrev pub close_as : SessionTable → ℕ → Option ConnectedClient → SessionTable
@@ -81,7 +93,7 @@ session_response terms session time_out =
     record {
       time_out = clamped_timeout terms.timeouts time_out;
       session_id = session;
-      password = password_of terms.secret session;
+      password = password_of terms.passwords session;
     }
 
 -- A refusal is all zeros, and the caller closes the connection.
@@ -92,23 +104,24 @@ abbrev pub refused_connect : SessionTable → ConnectResult
 refused_connect s = record { connected = record { response = refusal_response; older = None }; after = s }
 
 -- A connection without ids.
-abbrev pub new_connection : ℤ → ConnectedClient
-new_connection session = record { session = session; ids = [] }
+abbrev pub new_connection : ℤ → ℤ → ConnectedClient
+new_connection session time_out = record { session = session; time_out = time_out; ids = [] }
 
--- The connection has the session from now on.
-abbrev pub with_session_connected : SessionTable → ℕ → ℤ → SessionTable
-with_session_connected s n session = record s {
+-- The connection has the session from now on, and was told this timeout.
+abbrev pub with_session_connected : SessionTable → ℕ → ℤ → ℤ → SessionTable
+with_session_connected s n session time_out = record s {
   owners = finmap.insert s.owners session n;
-  connections = finmap.insert s.connections n (new_connection session);
+  connections = finmap.insert s.connections n (new_connection session time_out);
 }
 
 -- The connection gets the session. An older connection of it is closed first.
 abbrev pub give_session : SessionTable → ℕ → ℤ → ℤ → ConnectResult
 give_session s n session time_out =
     let older = connection_of s session in
+    let response = session_response s.terms session time_out in
     record {
-      connected = record { response = session_response s.terms session time_out; older = older };
-      after = with_session_connected (close_if_some s older) n session;
+      connected = record { response = response; older = older };
+      after = with_session_connected (close_if_some s older) n session response.time_out;
     }
 
 abbrev pub greatest_counter : ℕ
@@ -133,9 +146,13 @@ abbrev pub is_password : List ℕ → Option (List ℕ) → Bool
 is_password own None = false
 is_password own (Some given) = bytes_eq given own
 
+-- The request has the password of the session that it asks for.
+abbrev pub has_password : SessionTable → SessionRequest → Bool
+has_password s request = is_password (password_of s.terms.passwords request.session_id) request.password
+
 -- A session that lives, with its own password.
 abbrev pub is_valid : SessionTable → Bool → SessionRequest → Bool
-is_valid s lives request = lives && is_password (password_of s.terms.secret request.session_id) request.password
+is_valid s lives request = lives && has_password s request
 
 -- `lives` says whether the tree has the session that is asked for.
 abbrev pub connect_session : SessionTable → ℕ → Bool → SessionRequest → ConnectResult
@@ -143,6 +160,12 @@ connect_session s n lives request =
     if int_eq request.session_id (pos 0) then name_session s request.time_out
     else if is_valid s lives request then give_session s n request.session_id request.time_out
     else refused_connect s
+
+-- The response to a client that claims a session, if it has the session's password; the leader says whether the session
+-- lives.
+abbrev pub claimed_session : SessionTable → SessionRequest → Option SessionResponse
+claimed_session s request =
+    if has_password s request then Some (session_response s.terms request.session_id request.time_out) else None
 
 -- ---- auth
 

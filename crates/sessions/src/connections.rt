@@ -12,10 +12,11 @@ use std::collections::BTreeMap;
 use std::marker::Model;
 use values::NoMemory;
 
-/// A connection's session, and the ids that it has added.
+/// A connection's session, the timeout that it was told, and the ids that it has added.
 #[derive(Drop)]
 pub struct Connection {
     session: i64,
+    time_out: i32,
     ids: Vec<Id>,
 }
 
@@ -26,7 +27,7 @@ impl Model for Connection {
 
     ghost coded = { connected_client_code };
 
-    ghost view = { λ c. record { session = c.session; ids = c.ids.items } };
+    ghost view = { λ c. record { session = c.session; time_out = c.time_out; ids = c.ids.items } };
 }
 
 impl Connection {
@@ -34,6 +35,12 @@ impl Connection {
         ensures { result ≡ self.now.session }
     {
         self.session
+    }
+
+    pub fn time_out(&self) -> i32
+        ensures { result ≡ self.now.time_out }
+    {
+        self.time_out
     }
 
     pub fn ids(&self) -> &[Id]
@@ -78,14 +85,22 @@ impl Connections {
         }
     }
 
-    /// Gives the connection the session, without ids. A refused allocation changes nothing.
-    pub fn add(&mut self, alloc: Global, number: u64, session: i64) -> Result<(), NoMemory>
+    /// Gives the connection the session, with the timeout that it is told, and without ids. A refused allocation changes
+    /// nothing.
+    pub fn add(
+        &mut self,
+        alloc: Global,
+        number: u64,
+        session: i64,
+        time_out: i32,
+    ) -> Result<(), NoMemory>
         ensures ok { OnOk result
-            (self.new ≡ finmap.insert self.old number (new_connection session)) }
+            (self.new ≡ finmap.insert self.old number (new_connection session time_out)) }
         ensures err { OnErr result (self.new ≡ self.old) }
     {
         let connection = Connection {
             session,
+            time_out,
             ids: Vec::new(alloc),
         };
         self.map.insert(number, connection)?;

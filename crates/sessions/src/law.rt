@@ -1,6 +1,7 @@
 //! Laws of sessions. Each is the contract of a function that does nothing.
 
 ghost use Rattle.sessions.specs.Agreement.{SessionsAreApart, AgreementIsKept, NewIdsAreNew, EndedSessionsAreRefused, OtherConnectionsStay, ResponsesNameSessions};
+ghost use Rattle.sessions.specs.Rows.{JavaPasswords};
 
 /// Sessions and connections agree from the start on. Where they do, no two connections have one session. The response
 /// to a connect tells whether the connection has a session now.
@@ -20,4 +21,9 @@ pub fn others_stay()
 pub fn ended_sessions_are_refused()
     ensures refused { EndedSessionsAreRefused }
     ensures new { NewIdsAreNew }
+{}
+
+/// The passwords of `Passwords::Java` are those that servers of ZooKeeper gave to these sessions.
+pub fn java_passwords_are_zookeepers()
+    ensures { JavaPasswords }
 {}

@@ -8,15 +8,16 @@ ghost use Rattle.std.specs.Map.Iter.{ShowsInOrder, deref};
 ghost use Rattle.std.specs.FinMap as finmap;
 ghost use Rattle.jute.specs.Owned.{id_format};
 ghost use Rattle.sessions.specs.State.{session_settings_of};
-ghost use Rattle.sessions.specs.Sessions.{no_sessions, session_of_connection, connection_of, ids_of, close_connection, expire_owner, clamped_timeout, session_response, is_valid, give_session, name_session, connect_session, refusal_response, add_id, digest_text, add_auth, ids_limit, ids_bytes_limit, id_len, bytes_of_ids, are_within_limits};
+ghost use Rattle.sessions.specs.Sessions.{no_sessions, session_of_connection, connection_of, ids_of, told_timeout, close_connection, expire_owner, clamped_timeout, session_response, has_password, is_valid, claimed_session, give_session, name_session, connect_session, refusal_response, add_id, digest_text, add_auth, ids_limit, ids_bytes_limit, id_len, bytes_of_ids, are_within_limits};
 ghost use Rattle.sessions.specs.Agreement.{SessionsAgree};
 
 use crate::connections::Connections;
 use crate::credentials::{COUNTERS, digest_id, password, session_id};
+use crate::passwords::Passwords;
 use crate::request::{Connected, PASSWORD_LEN, SessionRequest, SessionResponse};
 use jute::Id;
 use session_map::SessionMap;
-use settings::{FirstCounter, Secret, ServerId, TimeoutBounds};
+use settings::{FirstCounter, ServerId, TimeoutBounds};
 use std::alloc::Global;
 use std::collections::btree_map::Keys;
 use std::marker::Model;
@@ -37,7 +38,7 @@ pub const AUTH_LIMIT: usize = 1_048_576;
 pub struct Sessions {
     server_id: ServerId,
     timeouts: TimeoutBounds,
-    secret: Secret,
+    passwords: Passwords,
     first_counter: FirstCounter,
     // The counter of the last session id that was given out; at first that after which they begin.
     counter: u64,
@@ -53,10 +54,10 @@ impl Model for Sessions {
 
     ghost coded = { session_table_code };
 
-    ghost view = { λ s. session_table_of (session_settings_of s.server_id s.timeouts s.secret s.first_counter)
+    ghost view = { λ s. session_table_of (session_settings_of s.server_id s.timeouts s.passwords s.first_counter)
         s.counter s.owners s.connections };
 
-    ghost invariant = { λ s. SessionsAgree (session_table_of (session_settings_of s.server_id s.timeouts s.secret
+    ghost invariant = { λ s. SessionsAgree (session_table_of (session_settings_of s.server_id s.timeouts s.passwords
         s.first_counter) s.counter s.owners s.connections) };
 }
 
@@ -143,10 +144,10 @@ impl Sessions {
         alloc: Global,
         server_id: ServerId,
         timeouts: TimeoutBounds,
-        secret: Secret,
+        passwords: Passwords,
         first_counter: FirstCounter,
     ) -> Sessions
-        ensures { result ≡ no_sessions (session_settings_of server_id timeouts secret first_counter) }
+        ensures { result ≡ no_sessions (session_settings_of server_id timeouts passwords first_counter) }
     {
         // The contract of `number` tells the prover the bounds of the server id, which the invariant needs.
         let _number = server_id.number();
@@ -154,7 +155,7 @@ impl Sessions {
         Sessions {
             server_id,
             timeouts,
-            secret,
+            passwords,
             first_counter,
             counter,
             owners: SessionMap::new(alloc),
@@ -180,6 +181,19 @@ impl Sessions {
         ensures agrees { SessionsAgree self.now }
     {
         self.owners.get(session)
+    }
+
+    /// The timeout in milliseconds that the connection of the session was told, if a connection has it here.
+    pub fn told_timeout(&self, session: i64) -> Option<i32>
+        ensures { result ≡ told_timeout self.now session }
+    {
+        let Some(connection) = self.owners.get(session) else {
+            return None;
+        };
+        match self.connections.get(connection) {
+            None => None,
+            Some(connection) => Some(connection.time_out()),
+        }
     }
 
     /// The sessions that connections have here, each once, in ascending order of their ids.
@@ -219,7 +233,7 @@ impl Sessions {
         SessionResponse {
             time_out: clamp_timeout(self.timeouts, time_out),
             session_id: session,
-            password: password(&self.secret, session),
+            password: password(&self.passwords, session),
         }
     }
 
@@ -240,22 +254,37 @@ impl Sessions {
         }
     }
 
-    // Whether the session lives, and the password is its own.
-    fn is_valid(&self, lives: bool, request: &SessionRequest<'_>) -> bool
-        ensures { result ≡ is_valid self.now lives request.now }
+    // Whether the request has the password of the session that it asks for.
+    fn has_password(&self, request: &SessionRequest<'_>) -> bool
+        ensures { result ≡ has_password self.now request.now }
     {
-        if !lives {
-            return false;
-        }
         match &request.password {
             None => return false,
             Some(given) => {
-                given.as_slice() == password(&self.secret, request.session_id).as_slice()
+                given.as_slice() == password(&self.passwords, request.session_id).as_slice()
             }
         }
     }
 
-    /// Gives a session that the leader has created to a connection that has none, and takes it from an older
+    // Whether the session lives, and the password is its own.
+    fn is_valid(&self, lives: bool, request: &SessionRequest<'_>) -> bool
+        ensures { result ≡ is_valid self.now lives request.now }
+    {
+        lives && self.has_password(request)
+    }
+
+    /// The response to a client that claims a session which may have been made by another server, if the client has
+    /// the session's password. Whether the session lives, the leader has to be asked; then see `admit`.
+    pub fn claimed(&self, request: &SessionRequest<'_>) -> Option<SessionResponse>
+        ensures { result ≡ claimed_session self.now request.now }
+    {
+        if !self.has_password(request) {
+            return None;
+        }
+        Some(self.response_for(request.session_id, request.time_out))
+    }
+
+    /// Gives a session that the leader has created, or knows, to a connection that has none, and takes it from an older
     /// connection. A refused allocation changes nothing.
     pub fn admit(
         &mut self,
@@ -271,7 +300,8 @@ impl Sessions {
     {
         let response = self.response_for(session, time_out);
         let older = self.owners.get(session);
-        self.connections.add(alloc, connection, session)?;
+        self.connections
+            .add(alloc, connection, session, response.time_out)?;
         match self.owners.set(session, connection) {
             Err(e) => {
                 self.connections.close(connection);

@@ -5,9 +5,11 @@
 #[cfg(test)]
 mod connects;
 #[cfg(test)]
+mod moved;
+#[cfg(test)]
 mod shown_ids;
 
-use sessions::Sessions;
+use sessions::{Passwords, Sessions};
 use settings::{FirstCounter, Secret, ServerId, TimeoutBounds};
 use std::alloc::Global;
 use values::{Blob, NoMemory};
@@ -23,5 +25,19 @@ pub fn sessions_after(alloc: Global, server_id: i32, counter: u64) -> Result<Ses
     let server_id = ServerId::new(server_id).unwrap_or(ServerId::default());
     let first = FirstCounter::new(counter).unwrap_or(FirstCounter::default());
     let secret = Secret::new(Blob::new(alloc, b"secret")?).unwrap_or(Secret::empty(alloc));
-    Ok(Sessions::new(alloc, server_id, TimeoutBounds::default(), secret, first))
+    let passwords = Passwords::Keyed(secret);
+    Ok(Sessions::new(alloc, server_id, TimeoutBounds::default(), passwords, first))
+}
+
+/// The sessions of server 3 whose passwords are those of ZooKeeper's own servers.
+pub fn java_sessions(alloc: Global) -> Sessions {
+    let server_id = ServerId::new(3).unwrap_or(ServerId::default());
+    let first = FirstCounter::default();
+    Sessions::new(
+        alloc,
+        server_id,
+        TimeoutBounds::default(),
+        Passwords::Java,
+        first,
+    )
 }

@@ -1,6 +1,10 @@
 -- The clients of an observer: the open connections, the session of each, and what they watch.
-use Rattle.std.specs.Prelude.{ℕ, negsuc, List, [], ◌∷◌, ◌++◌, map, Option, Some, None, is_some, Bool, true, false, if◌then◌else◌}
+use Rattle.std.specs.Prelude.{ℕ, ◌==◌, negsuc, List, [], ◌∷◌, ◌++◌, map, length, Option, Some, None, is_some, Bool, true, false, ◌&&◌, if◌then◌else◌}
 use Rattle.std.specs.FinMap as finmap
+use Rattle.settings.specs.declared.dialect.Dialect.{Dialect}
+use Rattle.settings.specs.Dialects.{reads_of}
+use Rattle.sessions.specs.declared.passwords.Passwords.{Passwords}
+use Rattle.sessions.specs.declared.passwords.Passwords.TheVariants.{Keyed, Java}
 use Rattle.sessions.specs.Sessions.{close_connection, no_sessions}
 use Rattle.watch_manager.specs.declared.event.Event.{Event}
 use Rattle.watch_manager.specs.Watching.{without_watches_of, no_watch}
@@ -59,12 +63,19 @@ close_clients ns c = record { outputs = map (λ n. CloseClient n) ns; after = wi
 abbrev pub close_all_clients : Clients → StepResult Clients
 close_all_clients c = close_clients (finmap.keys c.connections) c
 
+-- The rule of passwords. Where sessions move between servers, it is that of ZooKeeper's own, unless there is a secret:
+-- then sessions move only among the servers that have it.
+abbrev pub passwords_of : Dialect → List ℕ → Passwords
+passwords_of dialect secret =
+    if (reads_of dialect).moved_sessions && length secret == 0 then Java else Keyed secret
+
 -- No connection, and no session yet.
 abbrev pub no_clients : Settings → Clients
 no_clients settings = record {
   connections = finmap.empty;
   sessions = no_sessions
-      (session_settings_of settings.server_id settings.timeouts settings.secret settings.first_counter);
+      (session_settings_of settings.server_id settings.timeouts (passwords_of settings.dialect settings.secret)
+      settings.first_counter);
   watches = no_watch;
   pending = nothing_pending;
 }

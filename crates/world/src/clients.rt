@@ -2,12 +2,12 @@
 
 ghost use Rattle.std.specs.Prelude.{◌≡◌, ◌∷◌, OnOk, IfSome, IfNone, IfOk};
 ghost use Rattle.std.specs.FinMap as finmap;
-ghost use Rattle.world.specs.Clients.{idle_connection, is_open, is_heard, with_connection, without_client, no_clients};
+ghost use Rattle.world.specs.Clients.{idle_connection, is_open, is_heard, with_connection, without_client, passwords_of, no_clients};
 
 use crate::connections::Connections;
 use crate::world::Settings;
 use forwarding::Pending;
-use sessions::Sessions;
+use sessions::{Passwords, Sessions};
 use std::alloc::Global;
 use std::marker::Model;
 use values::NoMemory;
@@ -37,17 +37,27 @@ impl Model for Clients {
     } };
 }
 
+// The rule of passwords.
+fn passwords_of(settings: &Settings) -> Result<Passwords, NoMemory>
+    ensures { let secret = settings.now.secret in
+        IfOk result (λ passwords. passwords ≡ passwords_of settings.now.dialect secret) }
+{
+    if settings.dialect.reads().moved_sessions && settings.secret.as_slice().is_empty() {
+        return Ok(Passwords::Java);
+    }
+    Ok(Passwords::Keyed(settings.secret.clone()?))
+}
+
 impl Clients {
     /// No connection, and no session yet.
     pub fn new(alloc: Global, settings: &Settings) -> Result<Clients, NoMemory>
         ensures { IfOk result (λ clients. clients ≡ no_clients settings.now) }
     {
-        let secret = settings.secret.clone()?;
         let sessions = Sessions::new(
             alloc,
             settings.server_id,
             settings.timeouts,
-            secret,
+            passwords_of(settings)?,
             settings.first_counter,
         );
         Ok(Clients {

@@ -23,6 +23,7 @@ mod notice;
 mod output;
 mod sending;
 mod stage;
+mod timeouts;
 mod world;
 
 pub use clients::Clients;
@@ -31,4 +32,5 @@ pub use notice::{notify_all, notify_each};
 pub use output::Output;
 pub use sending::send_to_leader;
 pub use stage::Stage;
+pub use timeouts::KnownTimeouts;
 pub use world::{Settings, World};

@@ -1,48 +1,45 @@
 use mir.Val.{SFits}
 use Rattle.std.proofs.Common.{rules, ◌≡◌, ℤ, List, [], ◌∷◌, ◌++◌, Some, None, sym, ap, ◌∙◌, append-nil, w32, w64}
 use Rattle.std.proofs.lemmas.Int.{to_z-of_z}
-use Rattle.std.specs.FinMap as finmap
 use Rattle.forwarding.specs.Pending.{live_rows, sorted_touched}
 use Rattle.forwarding.proofs.SessionSets.{items-sorted}
 use Rattle.forwarding.proofs.Touching.{lives, ended}
 use Rattle.forwarding.proofs.touched.Touched.live_rows.Goals as goal
 
 pub loop-session-preserved-in-Continue-1 : goal.loop-session-preserved-in-Continue-1
-loop-session-preserved-in-Continue-1 c =
-    let timeouts = c.args.timeouts.now in
+loop-session-preserved-in-Continue-1 g c =
+    let timeout_of = g.T.SessionTimeouts.timeout c.args.timeouts.now in
     let fits_session : SFits w64 c.in-Some.session.now = search rules in
-    let fits_timeout : SFits w32 c.in-Some-get.timeout = search rules in
-    let at : finmap.get c.args.timeouts.now c.in-Some.session.now ≡ Some c.in-Some-get.timeout =
-    ap (λ x. finmap.get c.args.timeouts.now x) (sym (to_z-of_z w64 c.in-Some.session.now fits_session))
-    ∙ sym c.in-Some-get.ensures in
-    ap (λ (rows : List (ℤ × ℤ)). rows ++ live_rows timeouts c.next.new.self)
+    let fits_timeout : SFits w32 c.in-Some-timeout_of.timeout = search rules in
+    let at : timeout_of c.in-Some.session.now ≡ Some c.in-Some-timeout_of.timeout =
+    ap timeout_of (sym (to_z-of_z w64 c.in-Some.session.now fits_session)) ∙ sym c.in-Some-timeout_of.ensures in
+    ap (λ (rows : List (ℤ × ℤ)). rows ++ live_rows timeout_of c.next.new.self)
     (c.in_ok-push.ensures.items
     ∙ (λ i. c.loop-session.rows.items ++ (
       to_z-of_z w64 c.in-Some.session.now fits_session i,
-      to_z-of_z w32 c.in-Some-get.timeout fits_timeout i,
+      to_z-of_z w32 c.in-Some-timeout_of.timeout fits_timeout i,
     ) ∷ []))
-    ∙ lives timeouts c.loop-session.rows.items c.in-Some.session.now c.in-Some-get.timeout c.next.new.self at
-    ∙ ap (λ ks. c.loop-session.rows.items ++ live_rows timeouts ks) (sym c.in-Some.ensures.steps)
+    ∙ lives timeout_of c.loop-session.rows.items c.in-Some.session.now c.in-Some-timeout_of.timeout c.next.new.self at
+    ∙ ap (λ ks. c.loop-session.rows.items ++ live_rows timeout_of ks) (sym c.in-Some.ensures.steps)
     ∙ c.loop-session.invariant
 
 pub loop-session-preserved : goal.loop-session-preserved
-loop-session-preserved c =
-    let timeouts = c.args.timeouts.now in
+loop-session-preserved g c =
+    let timeout_of = g.T.SessionTimeouts.timeout c.args.timeouts.now in
     let fits_session : SFits w64 c.in-Some.session.now = search rules in
-    let at : finmap.get c.args.timeouts.now c.in-Some.session.now ≡ None =
-    ap (λ x. finmap.get c.args.timeouts.now x) (sym (to_z-of_z w64 c.in-Some.session.now fits_session))
-    ∙ sym c.in_default.ensures in
-    ended timeouts c.loop-session.rows.items c.in-Some.session.now c.next.new.self at
-    ∙ ap (λ ks. c.loop-session.rows.items ++ live_rows timeouts ks) (sym c.in-Some.ensures.steps)
+    let at : timeout_of c.in-Some.session.now ≡ None =
+    ap timeout_of (sym (to_z-of_z w64 c.in-Some.session.now fits_session)) ∙ sym c.in_default.ensures in
+    ended timeout_of c.loop-session.rows.items c.in-Some.session.now c.next.new.self at
+    ∙ ap (λ ks. c.loop-session.rows.items ++ live_rows timeout_of ks) (sym c.in-Some.ensures.steps)
     ∙ c.loop-session.invariant
 
 pub returns : goal.returns
-returns c =
-    let timeouts = c.args.timeouts.now in
+returns g c =
+    let timeout_of = g.T.SessionTimeouts.timeout c.args.timeouts.now in
     sym (append-nil c.loop-session.rows.items)
-    ∙ ap (λ ks. c.loop-session.rows.items ++ live_rows timeouts ks) (sym c.in-None.ensures.steps.0)
+    ∙ ap (λ ks. c.loop-session.rows.items ++ live_rows timeout_of ks) (sym c.in-None.ensures.steps.0)
     ∙ c.loop-session.invariant
-    ∙ ap (live_rows timeouts)
+    ∙ ap (live_rows timeout_of)
     (c.into_iter-session-iterator.ensures.into_iter_gives ∙ c.iter-session-items.ensures.rest
     ∙ sym (items-sorted c.self.inside.sessions.keys c.iter-session-items.ensures.ordered)
     ∙ ap (λ s. sorted_touched s) c.self.view_is)

@@ -1,4 +1,4 @@
-use Rattle.std.proofs.Common.{◌≡◌, ap, sym, ◌∙◌, Some, None, to_z, of_z, w32, w64}
+use Rattle.std.proofs.Common.{rules, ◌≡◌, ap, sym, ◌∙◌, Some, None, to_z, of_z, w32, w64}
 use Rattle.std.specs.FinMap as finmap
 use Rattle.std.specs.Cmp.{nat_cmp_total}
 use Rattle.std.proofs.lemmas.Map.Lookups.{exact_unsigned}
@@ -38,7 +38,7 @@ invariant_of-self-in-Some c =
     let has : finmap.get c.self.inside.owners c.args.session ≡ Some c.in-Some.older =
     (λ i. finmap.get c.self.inside.owners (sym here i)) ∙ sym c.get-older.ensures ∙ c.in-Some.is in
     rw (c.in-Ok.ensures.ok, c.close-in-Some.ensures, c.in_ok-add.ensures.ok, here)
-    (joins_older _ c.args.connection c.args.session c.in-Some.older c.self.invariant free has)
+    (joins_older _ c.args.connection c.args.session _ c.in-Some.older c.self.invariant free has)
 
 pub invariant_of-self-in-Ok : goal.invariant_of-self-in-Ok
 invariant_of-self-in-Ok c =
@@ -49,7 +49,7 @@ invariant_of-self-in-Ok c =
     (λ i. finmap.get c.self.inside.owners (sym here i)) ∙ sym c.get-older.ensures
     ∙ not-some c.get-older.result c.in_default.not-Some in
     rw (c.in-Ok.ensures.ok, c.in_ok-add.ensures.ok, here)
-    (joins _ c.args.connection c.args.session c.self.invariant free none)
+    (joins _ c.args.connection c.args.session _ c.self.invariant free none)
 
 pub returns-in-Some-clause-ok : goal.returns-in-Some-clause-ok
 returns-in-Some-clause-ok c =
@@ -60,11 +60,14 @@ returns-in-Some-clause-ok c =
     ap (λ (s : SessionTable). finmap.get s.connections c.args.connection) c.self.view_is ∙ c.requires in
     let has : finmap.get c.self.inside.owners c.args.session ≡ Some c.in-Some.older =
     (λ i. finmap.get c.self.inside.owners (sym here i)) ∙ sym c.get-older.ensures ∙ c.in-Some.is in
+    let told : to_z w32 (of_z w32 c.response_for-response.result.time_out) ≡ c.response_for-response.result.time_out =
+    to_z-of_z w32 c.response_for-response.result.time_out (search rules) in
     rw (
-      c.response_for-response.ensures,
       c.in-Ok.ensures.ok,
       c.close-in-Some.ensures,
       c.in_ok-add.ensures.ok,
+      told,
+      c.response_for-response.ensures,
       here,
       same_time,
       ← c.self.view_is,

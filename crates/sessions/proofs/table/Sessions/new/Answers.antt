@@ -11,7 +11,7 @@ invariant_of-result c =
     let terms : SessionSettings = record {
       server_id = c.args.server_id;
       timeouts = c.args.timeouts;
-      secret = c.args.secret;
+      passwords = c.args.passwords;
       first_counter = c.args.first_counter;
     } in
     let below = first_below c.number-counter.result c.number-counter.ensures.bounds in
