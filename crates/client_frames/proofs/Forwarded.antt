@@ -1,37 +1,38 @@
 -- What is forwarded is of the type of its write.
-use Rattle.std.proofs.Common.{◌≡◌, ◌≢◌, ℕ, List, [], ◌∷◌, Option, Some, None, Ok, Bool, true, false, cond, ℤ, pos, refl, ap, sym, ◌∙◌, arith}
+use Rattle.std.proofs.Common.{◌≡◌, ◌≢◌, ℕ, List, [], ◌∷◌, Option, Some, None, Bool, true, false, cond, ℤ, pos, refl, ap, ◌∙◌, arith}
 use Rattle.std.specs.List.{find}
 use Rattle.std.specs.Ordering.{int_eq}
-use Rattle.std.proofs.lemmas.Int.{Decides-int_eq}
+use Rattle.std.proofs.lemmas.Bool.Decides.{Decides-int_eq}
 use Rattle.settings.specs.Dialects.{reads_of}
 use Rattle.settings.specs.declared.dialect.Dialect.{Dialect}
-use Rattle.jute.specs.Records.{request_header}
 use Rattle.client_records.specs.declared.request.PathAlone.{PathAlone}
 use Rattle.client_records.specs.declared.kind.RequestKind.{RequestKind}
 use Rattle.client_records.specs.declared.kind.RequestKind.TheVariants as kinds
+use Rattle.client_records.specs.Requests.{path_alone}
 use Rattle.client_records.specs.Kinds.{code_of, request_kinds_in, kind_of, request_kind_in}
 use Rattle.forwarding.specs.declared.request.WriteKind.{WriteKind}
 use Rattle.forwarding.specs.declared.request.WriteKind.TheVariants as writes
 use Rattle.forwarding.specs.Queue.{write_number}
 use Rattle.read_processor.specs.Look.{is_request_path}
-use Rattle.client_frames.specs.declared.call.CallBody.{CallBody}
 use Rattle.client_frames.specs.declared.call.CallBody.TheVariants.{Forward, Sync, Local}
 use Rattle.client_frames.specs.declared.call.LocalCall.TheVariants.{Unreadable}
-use Rattle.client_frames.specs.Call.{sync_of, sync_of_path, call_body}
+use Rattle.client_frames.specs.Call.{value_if_read, sync_of, sync_of_path, call_body}
 use Rattle.client_frames.specs.Laws.{ForwardedByType}
+
+code_step : (b : Bool) (z : ℤ) (j k : RequestKind) (rest : Option RequestKind) → (b ≡ true → z ≡ code_of j)
+    → (rest ≡ Some k → z ≡ code_of k) → cond b (Some j) rest ≡ Some k → z ≡ code_of k
+code_step true z j k rest is more e =
+    let same : j ≡ k = cc in
+    is refl ∙ ap code_of same
+code_step false z j k rest is more e = more e
 
 -- The type that is found has the code.
 code_found : (z : ℤ) (ks : List RequestKind) (k : RequestKind) → find (λ j. int_eq z (code_of j)) ks ≡ Some k
     → z ≡ code_of k
 code_found z [] k e = absurd cc
-code_found z (j ∷ ks) k e = step (int_eq z (code_of j)) (Decides-int_eq z (code_of j)).0 e
-  where
-    step : (b : Bool) → (b ≡ true → z ≡ code_of j)
-        → cond b (Some j) (find (λ i. int_eq z (code_of i)) ks) ≡ Some k → z ≡ code_of k
-    step true is e =
-        let same : j ≡ k = cc in
-        is refl ∙ ap code_of same
-    step false is e = code_found z ks k e
+code_found z (j ∷ ks) k e =
+    code_step (int_eq z (code_of j)) z j k (find (λ i. int_eq z (code_of i)) ks) (Decides-int_eq z (code_of j)).0
+    (code_found z ks k) e
 
 code_of_found : (dialect : Dialect) (z : ℤ) (k : RequestKind) → request_kind_in dialect z ≡ Some k → z ≡ code_of k
 unfolding kind_of
@@ -65,7 +66,7 @@ number_of_forwarded (Some kinds.Delete) z bytes write is e = same_number (is _ r
 number_of_forwarded (Some (kinds.Read kind)) z bytes write is e = absurd cc
 number_of_forwarded (Some kinds.SetData) z bytes write is e = same_number (is _ refl) e
 number_of_forwarded (Some kinds.SetAcl) z bytes write is e = same_number (is _ refl) e
-number_of_forwarded (Some kinds.Sync) z bytes write is e = absurd (no_sync _ write e)
+number_of_forwarded (Some kinds.Sync) z bytes write is e = absurd (no_sync (value_if_read (path_alone.read bytes)) write e)
 number_of_forwarded (Some kinds.Ping) z bytes write is e = absurd cc
 number_of_forwarded (Some kinds.Check) z bytes write is e = absurd cc
 number_of_forwarded (Some kinds.Multi) z bytes write is e = absurd cc

@@ -182,7 +182,8 @@ pub fn read_call<'a>(
     let mut reader = Reader::new(frame);
     let header = RequestHeader::read(alloc, &mut reader)?;
     let xid = header.xid;
-    let body = read_body(alloc, RequestKind::from_code(dialect, header.kind), &mut reader)?;
+    let kind = RequestKind::from_code(dialect, header.kind);
+    let body = read_body(alloc, kind, &mut reader)?;
     Ok(Call { xid, body })
 }
 

@@ -48,10 +48,22 @@ fn later_writes_before(rt: HostRuntime) {
     let alloc = rt.alloc();
     let create2 = asked_in(alloc, Dialect::Zk34, 2, CREATE2.as_slice());
     assert_eq!(rt; create2, "unknown");
-    assert_eq!(rt; asked(alloc, b"\x00\x00\x00\x07\x00\x00\x00\x10"), "unknown");
-    assert_eq!(rt; asked(alloc, b"\x00\x00\x00\x07\x00\x00\x00\x13"), "unknown");
-    assert_eq!(rt; asked(alloc, b"\x00\x00\x00\x07\x00\x00\x00\x14"), "unknown");
-    assert_eq!(rt; asked(alloc, b"\x00\x00\x00\x07\x00\x00\x00\x15"), "unknown");
+    assert_eq!(rt;
+        asked(alloc, b"\x00\x00\x00\x07\x00\x00\x00\x10"),
+        "unknown"
+    );
+    assert_eq!(rt;
+        asked(alloc, b"\x00\x00\x00\x07\x00\x00\x00\x13"),
+        "unknown"
+    );
+    assert_eq!(rt;
+        asked(alloc, b"\x00\x00\x00\x07\x00\x00\x00\x14"),
+        "unknown"
+    );
+    assert_eq!(rt;
+        asked(alloc, b"\x00\x00\x00\x07\x00\x00\x00\x15"),
+        "unknown"
+    );
 }
 
 /// A check isn't forwarded in any dialect, and a multi neither.

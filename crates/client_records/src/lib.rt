@@ -28,6 +28,6 @@ pub use fields::{Name, put_list, put_names, read_list};
 pub use kind::{ReadKind, RequestKind};
 pub use request::{AddWatch, AuthPacket, PathAlone, PathAndWatch, SetWatches};
 pub use response::{
-    Acls, Create2Response, ExistsResponse, GetAclResponse, GetChildren2Response, GetChildrenResponse,
-    GetDataResponse, PathResponse,
+    Acls, Create2Response, ExistsResponse, GetAclResponse, GetChildren2Response,
+    GetChildrenResponse, GetDataResponse, PathResponse,
 };

@@ -55,7 +55,7 @@ fn later_codes(rt: HostRuntime) {
 /// Codes that aren't a client's request: a notification, codes between the known ones, createSession and error.
 #[test]
 fn other_codes(rt: HostRuntime) {
-    for code in [0, 10, 17, 22, 99, 102, 105, 107, -1, -10, i32::MAX, i32::MIN] {
+    for code in [0, 10, 17, 22, 102, 105, 107, -1, -10, i32::MAX, i32::MIN] {
         assert!(rt; RequestKind::from_code(Dialect::Zk34, code).is_none());
         assert!(rt; RequestKind::from_code(Dialect::Zk38, code).is_none());
     }

@@ -36,7 +36,15 @@ const RECONFIGURED: [&str; 3] = [
 fn reconfig(rt: HostRuntime) -> Result<(), Fail> {
     let alloc = rt.alloc();
     let mut tree = tree_with(alloc, &CONFIG)?;
-    assert!(rt; is_answered(alloc, &mut tree, WriteKind::Reconfig, &RECONFIG, &RECONFIGURED)?);
+    assert!(rt;
+        is_answered(
+            alloc,
+            &mut tree,
+            WriteKind::Reconfig,
+            &RECONFIG,
+            &RECONFIGURED
+        )?
+    );
     Ok(())
 }
 
@@ -45,7 +53,15 @@ fn reconfig(rt: HostRuntime) -> Result<(), Fail> {
 fn reconfig_of_a_hidden_node(rt: HostRuntime) -> Result<(), Fail> {
     let alloc = rt.alloc();
     let mut tree = tree_with(alloc, &HIDDEN_CONFIG)?;
-    assert!(rt; is_answered(alloc, &mut tree, WriteKind::Reconfig, &RECONFIG, &RECONFIGURED)?);
+    assert!(rt;
+        is_answered(
+            alloc,
+            &mut tree,
+            WriteKind::Reconfig,
+            &RECONFIG,
+            &RECONFIGURED
+        )?
+    );
     Ok(())
 }
 
@@ -67,12 +83,30 @@ const CONTAINER: [&str; 3] = [
 #[test]
 fn delete_container(rt: HostRuntime) -> Result<(), Fail> {
     let alloc = rt.alloc();
-    let delete = ["0300000000000001 00000004 0000000100000003 0000000000000bb8 00000014 00000002 2f63"];
+    let delete = [
+        "0300000000000001 00000004 0000000100000003 0000000000000bb8 00000014 00000002 2f63",
+    ];
     let mut tree = tree_with(alloc, &CONTAINER)?;
     let wanted = ["00000010 00000004 0000000100000003 00000000"];
-    assert!(rt; is_answered(alloc, &mut tree, WriteKind::DeleteContainer, &delete, &wanted)?);
+    assert!(rt;
+        is_answered(
+            alloc,
+            &mut tree,
+            WriteKind::DeleteContainer,
+            &delete,
+            &wanted
+        )?
+    );
     let wanted = ["00000010 00000004 0000000100000003 ffffff9b"];
-    assert!(rt; is_answered(alloc, &mut tree, WriteKind::DeleteContainer, &delete, &wanted)?);
+    assert!(rt;
+        is_answered(
+            alloc,
+            &mut tree,
+            WriteKind::DeleteContainer,
+            &delete,
+            &wanted
+        )?
+    );
     Ok(())
 }
 
@@ -81,7 +115,9 @@ fn delete_container(rt: HostRuntime) -> Result<(), Fail> {
 fn set_data(rt: HostRuntime) -> Result<(), Fail> {
     let alloc = rt.alloc();
     let mut tree = tree_with(alloc, &CONTAINER)?;
-    let set = ["0300000000000001 00000004 0000000100000002 00000000000007d0 00000005 00000002 2f63 00000001 78 00000001"];
+    let set = [
+        "0300000000000001 00000004 0000000100000002 00000000000007d0 00000005 00000002 2f63 00000001 78 00000001",
+    ];
     let wanted = [
         "00000054 00000004 0000000100000002 00000000 0000000100000001 0000000100000002",
         "00000000000003e8 00000000000007d0 00000001 00000000 00000000",

@@ -51,7 +51,7 @@ pub fn reply(
     parts: &[&str],
 ) -> Result<Blob, Fail> {
     let txn = txn_of(alloc, parts)?;
-    let error = tree.apply(alloc, &txn)?.error;
+    let error = tree.apply(alloc, &txn)?.err;
     let seen = write_look(alloc, tree, kind, &txn.body, error)?;
     let frame = seen.into_frame(txn.header.cxid, txn.header.zxid);
     Ok(frame.ok_or("a frame")?)
