@@ -15,7 +15,7 @@ use Rattle.jute.specs.Records.{request_header, reply_header}
 use Rattle.jute.specs.declared.owned.Id.{Id}
 use Rattle.jute.specs.Stream.{Items, items_within, items_in, place_at}
 use Rattle.client_records.specs.declared.kind.RequestKind.TheVariants as kinds
-use Rattle.client_records.specs.Kinds.{kind_of as request_kind_of}
+use Rattle.client_records.specs.Kinds.{kind_of as request_kind_of, request_kind_in}
 use Rattle.client_records.specs.Requests.{path_alone}
 use Rattle.client_records.specs.Responses.{path_response}
 use Rattle.quorum_packet.specs.declared.item.Item.{Item}
@@ -26,6 +26,7 @@ use Rattle.quorum_packet.specs.declared.phase.Phase.TheVariants.{Packets}
 use Rattle.quorum_packet.specs.Kinds.{kind_of}
 use Rattle.quorum_packet.specs.Packet.{packet_format}
 use Rattle.quorum_packet.specs.Items.{items_shown_at}
+use Rattle.settings.specs.declared.dialect.Dialect.{Dialect}
 use Rattle.settings.specs.declared.dialect.Dialect.TheVariants.{Zk34}
 use Rattle.txn_codec.specs.declared.txn.TxnHeader.{TxnHeader}
 use Rattle.txn_codec.specs.declared.txn.Body.{Body}
@@ -228,14 +229,14 @@ header_read : request_header.read frame ≡ Ok (record { xid = pos 4; kind = pos
 unfolding request_header
 header_read = refl
 
-kind_read : request_kind_of (pos 1) ≡ Some kinds.Create
+kind_read : (dialect : Dialect) → request_kind_in dialect (pos 1) ≡ Some kinds.Create
 unfolding request_kind_of
-kind_read = refl
+kind_read dialect = refl
 
-call_read : call_in frame ≡ Ok (record { xid = pos 4; body = Forward writes.Create })
-call_read =
-    ap call_after_header header_read
-    ∙ ap (λ k. Ok (record { xid = pos 4; body = call_body k frame_body })) kind_read
+call_read : (dialect : Dialect) → call_in dialect frame ≡ Ok (record { xid = pos 4; body = Forward writes.Create })
+call_read dialect =
+    ap (call_after_header dialect) header_read
+    ∙ ap (λ k. Ok (record { xid = pos 4; body = call_body k frame_body })) (kind_read dialect)
 
 request_written : packet_format.written (request_of first_id frame []) ≡ request_of_create
 unfolding packet_format number_bytes
@@ -253,7 +254,7 @@ create_comes settings three =
     let session = primed_session settings in
     frame_comes settings framed_create frame request_of_create (create_waits settings) frame_found
     (served_at w set.empty session frame (joined_first settings) refl refl
-    ∙ ap (serve_as 1 session v frame) call_read
+    ∙ ap (serve_as 1 session v frame) (call_read settings.dialect)
     ∙ forwarded_as settings frame request_of_create (create_waits settings) three request_written)
 
 -- No request is left.
@@ -368,18 +369,18 @@ sync_header : request_header.read a_sync ≡ Ok (record { xid = pos 5; kind = po
 unfolding request_header
 sync_header = refl
 
-sync_kind : request_kind_of (pos 9) ≡ Some kinds.Sync
+sync_kind : (dialect : Dialect) → request_kind_in dialect (pos 9) ≡ Some kinds.Sync
 unfolding request_kind_of
-sync_kind = refl
+sync_kind dialect = refl
 
 path_read : path_alone.read sync_body ≡ Ok (record { path = Some (codes "/a") }, [])
 unfolding path_alone judged_at buffer_at
 path_read = rw (is_utf8-from_IsUtf8 (codes "/a") path_is_text)
 
-sync_read : call_in a_sync ≡ Ok (record { xid = pos 5; body = Sync (codes "/a") })
-sync_read =
-    ap call_after_header sync_header
-    ∙ ap (λ k. Ok (record { xid = pos 5; body = call_body k sync_body })) sync_kind
+sync_read : (dialect : Dialect) → call_in dialect a_sync ≡ Ok (record { xid = pos 5; body = Sync (codes "/a") })
+sync_read dialect =
+    ap (call_after_header dialect) sync_header
+    ∙ ap (λ k. Ok (record { xid = pos 5; body = call_body k sync_body })) (sync_kind dialect)
     ∙ ap (λ r. Ok (record { xid = pos 5; body = sync_of (value_if_read r) })) path_read
 
 sync_written : packet_format.written (request_of first_id a_sync []) ≡ request_of_sync
@@ -398,7 +399,7 @@ sync_comes settings three =
     let session = primed_session settings in
     frame_comes settings sync_frame a_sync request_of_sync (sync_waits settings) sync_found
     (served_at w set.empty session a_sync (joined_first settings) refl refl
-    ∙ ap (serve_as 1 session v a_sync) sync_read
+    ∙ ap (serve_as 1 session v a_sync) (sync_read settings.dialect)
     ∙ forwarded_as settings a_sync request_of_sync (sync_waits settings) three sync_written)
 
 abbrev leaders_sync : QuorumPacket

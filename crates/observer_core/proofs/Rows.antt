@@ -21,7 +21,7 @@ use Rattle.jute.specs.Owned.{id_format, acl_format}
 use Rattle.jute.specs.Records.{stat_format, request_header, reply_header}
 use Rattle.client_records.specs.declared.kind.ReadKind.TheVariants.{GetData}
 use Rattle.client_records.specs.declared.kind.RequestKind.TheVariants as kinds
-use Rattle.client_records.specs.Kinds.{kind_of as request_kind_of}
+use Rattle.client_records.specs.Kinds.{kind_of as request_kind_of, request_kind_in}
 use Rattle.client_records.specs.Requests.{path_and_watch}
 use Rattle.client_records.specs.Responses.{get_data_response}
 use Rattle.jute.specs.Stream.{items_within, items_in, Items, Unread, place_at}
@@ -52,7 +52,7 @@ use Rattle.data_tree.specs.Meaning.{effect_of_txn, answer_of, fresh_state, after
 use Rattle.data_tree.specs.declared.outcome.Trigger.{Trigger}
 use Rattle.jute.specs.declared.owned.Id.{Id}
 use Rattle.sessions.specs.State.{ConnectedClient as SessionConnection, SessionTable}
-use Rattle.sessions.specs.Sessions.{session_in, session_of_connection, connection_of, ids_in, ids_of, close_if_some, new_connection}
+use Rattle.sessions.specs.Sessions.{session_in, session_of_connection, connection_of, ids_in, ids_of, close_if_some, clamped_timeout, new_connection}
 use Rattle.watch_manager.specs.declared.event.Event.{Event as NodeEvent}
 use Rattle.watch_manager.specs.Pairs.{watch_cmp}
 use Rattle.watch_manager.specs.Watching.{WatchTables, no_watch}
@@ -94,7 +94,7 @@ use Rattle.observer_core.specs.Leader.{WorldAndLoading, step_with_loading, send_
 use Rattle.four_letter.specs.Words.{word_of}
 use Rattle.four_letter.specs.declared.word.Word.{Word}
 use Rattle.world.specs.Sending.{close_client, send_or_close, send_reply, with_watches, with_pending}
-use Rattle.client_service.specs.Serve.{with_watch_if, handle_local, handle_or_hold, touched_as, serve_as, serve_by, header_len, is_refused_frame, serve_frame, word_without_session, is_unheard, with_waiting_bytes, wait_if_heard, wait_at, frames_of_client, serve_all, tell_or_serve, take_client_bytes}
+use Rattle.client_service.specs.Serve.{with_watch_if, handle_local, handle_or_hold, touched_as, call_of, serve_as, serve_by, header_len, is_refused_frame, serve_frame, word_without_session, is_unheard, with_waiting_bytes, wait_if_heard, wait_at, frames_of_client, serve_all, tell_or_serve, take_client_bytes}
 use Rattle.observer_core.specs.Play.{play_event, play, initial_machine, primed_session, first_client, primed_machine}
 use Rattle.world.proofs.NatMaps.{get-inserted, insert-insert, insert-same, entries-empty}
 
@@ -268,9 +268,9 @@ header_read : request_header.read get_frame ≡ Ok (record { xid = pos 1; kind =
 unfolding request_header
 header_read = refl
 
-kind_read : request_kind_of (pos 4) ≡ Some (kinds.Read GetData)
+kind_read : (dialect : Dialect) → request_kind_in dialect (pos 4) ≡ Some (kinds.Read GetData)
 unfolding request_kind_of
-kind_read = refl
+kind_read dialect = refl
 
 body_read : path_and_watch.read get_body ≡ Ok (record { path = Some (codes "/a"); watch = false }, [])
 unfolding path_and_watch judged_at buffer_at
@@ -299,10 +299,10 @@ wanted = record { kind = GetData; path = Some (codes "/a"); watch = false }
 abbrev asking : Call
 asking = record { xid = pos 1; body = Local (Read wanted) }
 
-call_read : call_in get_frame ≡ Ok asking
-call_read =
-    ap call_after_header header_read
-    ∙ ap (λ k. Ok (record { xid = pos 1; body = call_body k get_body })) kind_read
+call_read : (dialect : Dialect) → call_in dialect get_frame ≡ Ok asking
+call_read dialect =
+    ap (call_after_header dialect) header_read
+    ∙ ap (λ k. Ok (record { xid = pos 1; body = call_body k get_body })) (kind_read dialect)
     ∙ ap (λ r. Ok (record { xid = pos 1; body = Local (read_as (read_with_flag GetData) (value_if_read r)) })) body_read
 
 -- ---- where no request waits
@@ -322,7 +322,7 @@ heard_in_world w touched session = with_pending w (pending_at (set.insert touche
 pub served_at : (w : World) (touched : TouchedSessions) (session : ℤ) (frame : List ℕ)
     → session_of_connection w.clients.sessions 1 ≡ Some session → w.clients.pending ≡ pending_at touched
     → nat_lt (length frame) header_len ≡ false
-    → serve_frame true 1 w frame ≡ serve_as 1 session (heard_in_world w touched session) frame (call_in frame)
+    → serve_frame true 1 w frame ≡ serve_as 1 session (heard_in_world w touched session) frame (call_of w frame)
 served_at w touched session frame joined none long =
     let v = heard_in_world w touched session in
     let served : World → StepResult World =
@@ -391,7 +391,7 @@ answered_by : (w : World) (touched : TouchedSessions) (session : ℤ) (n : Node)
 answered_by w touched session n frame joined no_ids none there shows childless is =
     let v = heard_in_world w touched session in
     served_at w touched session get_frame joined none refl
-    ∙ ap (serve_as 1 session v get_frame) call_read
+    ∙ ap (serve_as 1 session v get_frame) (call_read w.settings.dialect)
     ∙ handled_at v (set.insert touched session) get_frame (pos 1) (Read wanted) refl
     ∙ ap (λ (ids : List Id). shown_by v (look_at_state w.replica.tree ids wanted)) no_ids
     ∙ ap (λ (o : Option Node). shown_by v (look_at_node [] wanted o)) there
@@ -452,12 +452,16 @@ heard settings touched = set.insert touched (primed_session settings)
 abbrev pub nobody_yet : Settings → SessionTable
 nobody_yet settings = record (no_clients settings).sessions { counter = settings.first_counter + 1 }
 
+-- The timeout that the client of connection 1 was told.
+abbrev pub first_timeout : Settings → ℤ
+first_timeout settings = clamped_timeout settings.timeouts settings.timeouts.greatest
+
 first_is : (settings : Settings) → finmap.get (first_client settings).sessions.connections 1
-    ≡ Some (new_connection (primed_session settings))
+    ≡ Some (new_connection (primed_session settings) (first_timeout settings))
 first_is settings =
     get-inserted {X = SessionConnection}
     (close_if_some (nobody_yet settings) (connection_of (nobody_yet settings) (primed_session settings))).connections 1
-    (new_connection (primed_session settings))
+    (new_connection (primed_session settings) (first_timeout settings))
 
 pub joined_first : (settings : Settings)
     → session_of_connection (first_client settings).sessions 1 ≡ Some (primed_session settings)

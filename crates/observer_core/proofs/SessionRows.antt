@@ -17,7 +17,7 @@ use Rattle.jute.specs.Stream.{Items, items_within, items_in, place_at}
 use Rattle.client_records.specs.declared.codes.TheConstants.{OK, PING_XID}
 use Rattle.client_records.specs.declared.connect.ConnectRequest.{ConnectRequest}
 use Rattle.client_records.specs.declared.kind.RequestKind.TheVariants as kinds
-use Rattle.client_records.specs.Kinds.{kind_of as request_kind_of}
+use Rattle.client_records.specs.Kinds.{kind_of as request_kind_of, request_kind_in}
 use Rattle.client_records.specs.Requests.{connect_request}
 use Rattle.client_records.specs.Responses.{connect_response}
 use Rattle.quorum_packet.specs.declared.item.Item.{Item}
@@ -28,6 +28,7 @@ use Rattle.quorum_packet.specs.declared.phase.Phase.TheVariants.{Packets}
 use Rattle.quorum_packet.specs.Kinds.{kind_of}
 use Rattle.quorum_packet.specs.Packet.{packet_format}
 use Rattle.quorum_packet.specs.Items.{items_shown_at}
+use Rattle.settings.specs.declared.dialect.Dialect.{Dialect}
 use Rattle.settings.specs.declared.dialect.Dialect.TheVariants.{Zk34}
 use Rattle.txn_codec.specs.declared.txn.TxnHeader.{TxnHeader}
 use Rattle.txn_codec.specs.declared.txn.Body.TheVariants as bodies
@@ -75,7 +76,7 @@ use Rattle.observer_core.specs.Machine.{Machine}
 use Rattle.observer_core.specs.Leader.{item_step, part_reader, with_leader, take_leader_bytes}
 use Rattle.observer_core.specs.Play.{play_event, play, primed_session, first_client}
 use Rattle.observer_core.specs.Rows.{client_ping, reply_of_ping, leader_ping, answer_with_first, answer_with_none, connect_frame, request_of_session, inform_of_session, response_of_session}
-use Rattle.observer_core.proofs.Rows.{earlier_machine, ReadAgain, NobodyTold, start, one_packet, packet_of, one_frame, pending_at, idle_at, heard_in_world, served_at, handled_at, open_with, at_first, clients_at, heard, nobody_yet, joined_first, world_with, world_at, beginning, led, one_delivered, told, told_by, inform_comes, in_hand, with_connections, frame_served, first_open}
+use Rattle.observer_core.proofs.Rows.{earlier_machine, ReadAgain, NobodyTold, start, one_packet, packet_of, one_frame, pending_at, idle_at, heard_in_world, served_at, handled_at, open_with, at_first, clients_at, heard, nobody_yet, first_timeout, joined_first, world_with, world_at, beginning, led, one_delivered, told, told_by, inform_comes, in_hand, with_connections, frame_served, first_open}
 use Rattle.observer_core.proofs.ForwardedRows.{first_id, IsThird, id_is, waiting_world, waiting_machine, once_heard, queue_is, one_item_comes}
 
 -- ---- a client is heard, and the leader is told
@@ -91,14 +92,14 @@ ping_header : request_header.read ping_frame ≡ Ok (record { xid = negsuc 1; ki
 unfolding request_header
 ping_header = refl
 
-ping_kind : request_kind_of (pos 11) ≡ Some kinds.Ping
+ping_kind : (dialect : Dialect) → request_kind_in dialect (pos 11) ≡ Some kinds.Ping
 unfolding request_kind_of
-ping_kind = refl
+ping_kind dialect = refl
 
-ping_read : call_in ping_frame ≡ Ok (record { xid = negsuc 1; body = Local Ping })
-ping_read =
-    ap call_after_header ping_header
-    ∙ ap (λ k. Ok (record { xid = negsuc 1; body = call_body k [] })) ping_kind
+ping_read : (dialect : Dialect) → call_in dialect ping_frame ≡ Ok (record { xid = negsuc 1; body = Local Ping })
+ping_read dialect =
+    ap (call_after_header dialect) ping_header
+    ∙ ap (λ k. Ok (record { xid = negsuc 1; body = call_body k [] })) (ping_kind dialect)
 
 ping_replied : reply_frame PING_XID (pos 0) (without_body OK) ≡ Some reply_of_ping
 unfolding reply_header number_bytes
@@ -114,7 +115,7 @@ ping_comes settings =
     in_hand settings (pos 0) [] (start settings) set.empty [] client_ping
     ∙ frame_served 1 w v client_ping ping_frame (ToClient 1 reply_of_ping) first_open first_open ping_found
     (served_at w set.empty session ping_frame (joined_first settings) refl refl
-    ∙ ap (serve_as 1 session v ping_frame) ping_read
+    ∙ ap (serve_as 1 session v ping_frame) (ping_read settings.dialect)
     ∙ handled_at v (heard settings set.empty) ping_frame (negsuc 1) Ping refl
     ∙ ap (send_or_close 1 v) ping_replied)
 
@@ -280,14 +281,16 @@ module _ (settings : Settings) where
 
   primed_sessions : settings.first_counter ≡ 0 → (first_client settings).sessions ≡ sessions_after 1
   primed_sessions begins =
-      ap (λ (o : Option ℕ). with_session_connected (close_if_some (nobody_yet settings) o) 1 (primed_session settings))
+      ap (λ (o : Option ℕ). with_session_connected (close_if_some (nobody_yet settings) o) 1 (primed_session settings)
+      (first_timeout settings))
       (finmap.get-empty int_cmp (primed_session settings))
       ∙ ap (λ (first : ℕ). sessions_after (first + 1)) begins
 
   -- Connection 2 has none.
   second_is_none : (counter : ℕ) → finmap.get (sessions_after counter).connections 2 ≡ None
   second_is_none counter =
-      finmap.get-insert nat_cmp_total finmap.empty 1 (new_connection (primed_session settings)) 2
+      finmap.get-insert nat_cmp_total finmap.empty 1
+      (new_connection (primed_session settings) (first_timeout settings)) 2
       ∙ finmap.get-empty nat_cmp 2
 
   no_second : session_of_connection (sessions_after 1) 2 ≡ None

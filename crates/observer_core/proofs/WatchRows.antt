@@ -12,7 +12,8 @@ use Rattle.jute.specs.Frame.{frame_at}
 use Rattle.jute.specs.Records.{request_header, reply_header}
 use Rattle.client_records.specs.declared.kind.ReadKind.TheVariants.{Exists}
 use Rattle.client_records.specs.declared.kind.RequestKind.TheVariants as kinds
-use Rattle.client_records.specs.Kinds.{kind_of as request_kind_of}
+use Rattle.settings.specs.declared.dialect.Dialect.{Dialect}
+use Rattle.client_records.specs.Kinds.{kind_of as request_kind_of, request_kind_in}
 use Rattle.client_records.specs.Requests.{path_and_watch}
 use Rattle.client_records.specs.Responses.{watcher_event}
 use Rattle.client_records.specs.declared.codes.TheConstants.{NOTIFICATION_XID}
@@ -72,9 +73,9 @@ exists_header : request_header.read exists_frame ≡ Ok (record { xid = pos 2; k
 unfolding request_header
 exists_header = refl
 
-exists_kind : request_kind_of (pos 3) ≡ Some (kinds.Read Exists)
+exists_kind : (dialect : Dialect) → request_kind_in dialect (pos 3) ≡ Some (kinds.Read Exists)
 unfolding request_kind_of
-exists_kind = refl
+exists_kind dialect = refl
 
 exists_body_read : path_and_watch.read exists_body ≡ Ok (record { path = Some (codes "/a"); watch = true }, [])
 unfolding path_and_watch judged_at buffer_at
@@ -83,10 +84,10 @@ exists_body_read = rw (is_utf8-from_IsUtf8 (codes "/a") path_is_text)
 abbrev watch_wanted : Request
 watch_wanted = record { kind = Exists; path = Some (codes "/a"); watch = true }
 
-exists_read : call_in exists_frame ≡ Ok (record { xid = pos 2; body = Local (Read watch_wanted) })
-exists_read =
-    ap call_after_header exists_header
-    ∙ ap (λ k. Ok (record { xid = pos 2; body = call_body k exists_body })) exists_kind
+exists_read : (dialect : Dialect) → call_in dialect exists_frame ≡ Ok (record { xid = pos 2; body = Local (Read watch_wanted) })
+exists_read dialect =
+    ap (call_after_header dialect) exists_header
+    ∙ ap (λ k. Ok (record { xid = pos 2; body = call_body k exists_body })) (exists_kind dialect)
     ∙ ap (λ r. Ok (record { xid = pos 2; body = Local (read_as (read_with_flag Exists) (value_if_read r)) }))
     exists_body_read
 
@@ -110,7 +111,7 @@ exists_served : (settings : Settings)
     ≡ record { outputs = ToClient 1 reply_of_missing ∷ []; after = waiting settings }
 exists_served settings =
     served_at w set.empty session exists_frame (joined_first settings) refl refl
-    ∙ ap (serve_as 1 session v exists_frame) exists_read
+    ∙ ap (serve_as 1 session v exists_frame) (exists_read settings.dialect)
     ∙ handled_at v (heard settings set.empty) exists_frame (pos 2) (Read watch_wanted) refl
     ∙ ap (λ (ids : List Id). looked (look_at_state w.replica.tree ids watch_wanted)) (no_ids_first settings)
     ∙ ap (λ (o : Option Node). looked (look_at_node [] watch_wanted o)) nothing_there
