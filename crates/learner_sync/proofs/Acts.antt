@@ -5,7 +5,7 @@ use Rattle.std.specs.List.{AllByRecursion}
 use Rattle.std.specs.Ordering.{int_eq}
 use Rattle.values.specs.declared.fault.Fault.{Fault}
 use Rattle.values.specs.declared.fault.Fault.TheVariants.{OutOfOrder, CommitMismatch, CannotTruncate, EpochTooSmall}
-use Rattle.jute.specs.Format.{int, long, ◌>>=◌}
+use Rattle.jute.specs.Format.{int, long, boolean, pair_of, ◌>>=◌}
 use Rattle.quorum_packet.specs.Feed.{CanBeWritten}
 use Rattle.quorum_packet.specs.declared.item.Item.{Item}
 use Rattle.quorum_packet.specs.declared.item.Item.TheVariants as item
@@ -15,7 +15,7 @@ use Rattle.snapshot_codec.specs.declared.part.ImagePart.TheVariants as part
 use Rattle.txn_codec.specs.declared.txn.Txn.{Txn}
 use Rattle.learner_sync.specs.Answers.{ack_epoch}
 use Rattle.learner_sync.specs.Learner.{Learner}
-use Rattle.learner_sync.specs.Learn.{LearnerStep, no_acts, single_act, at_phase, accept_epoch, leader_info, message_in_hello, txns_up_to, with_truncated_log, truncate_log, await_image, message_in_sync, zxid_floor, with_applied, apply_txn, carried_txn, learn_inform, learn_activation, learn_proposal, commit_of, message_in_replay, message_in_serving, load_part, load_to_drop, acts_to_drop, start_in, message_in_phase, part_in_phase, learn_item}
+use Rattle.learner_sync.specs.Learn.{LearnerStep, no_acts, single_act, at_phase, accept_epoch, leader_info, message_in_hello, txns_up_to, with_truncated_log, truncate_log, await_image, message_in_sync, zxid_floor, with_applied, apply_txn, carried_txn, learn_inform, learn_activation, learn_revalidated, learn_proposal, commit_of, message_in_replay, message_in_serving, load_part, load_to_drop, acts_to_drop, start_in, message_in_phase, part_in_phase, learn_item}
 use Rattle.learner_sync.specs.Messages.{message_of_packet}
 use Rattle.learner_sync.specs.Laws.{AccountsForLog, CanBeDone, is_of_image, ActsAccountForLog}
 use Rattle.learner_sync.specs.declared.act.Act.{Act}
@@ -128,9 +128,18 @@ replay-holds l message.NewLeader = (refl, refl, (refl, (refl, tt)))
 replay-holds l message.UpToDate = (refl, refl, (refl, (refl, (refl, tt))))
 replay-holds l m = (refl, refl, tt)
 
+confirm-holds : (l : Learner) (bytes : List ℕ) → Holds l (learn_revalidated l bytes)
+confirm-holds l bytes = by ((pair_of long boolean).read bytes)
+  where
+    by : (r : Result ((ℤ × Bool) × List ℕ) Fault)
+        → Holds l (r >>= λ answer. Ok (single_act (act.Revalidated answer.0.0 answer.0.1) l))
+    by (Ok answer) = (refl, refl, (refl, tt))
+    by (Err e) = tt
+
 serve-holds : (l : Learner) (m : Message) → Holds l (message_in_serving l m)
 serve-holds l (message.Inform bytes) = inform-holds l bytes
 serve-holds l (message.InformAndActivate bytes) = activate-holds l bytes
+serve-holds l (message.Revalidated bytes) = confirm-holds l bytes
 serve-holds l (message.Ping p) = (refl, refl, (refl, tt))
 serve-holds l message.Sync = (refl, refl, (refl, tt))
 serve-holds l m = (refl, refl, tt)
@@ -185,7 +194,7 @@ part-can-be ph l p = drop-can-be p
 
 learn-can-be : (l : Learner) (i : Item) → CanBeWritten i → CanBe (learn_item l i)
 learn-can-be l (item.Packet p) w =
-    packet-each CanBeDone tt tt tt tt (λ zxid. tt) epoch-writable acknowledgement-writable l p (ping-writable p w)
+    packet-each CanBeDone tt tt tt tt (λ session is_valid. tt) (λ zxid. tt) epoch-writable acknowledgement-writable l p (ping-writable p w)
 learn-can-be l (item.Part p) w = part-can-be l.phase l p
 
 start-can-be : (ph : Phase) (l : Learner) (server_id : ℤ) → AllByRecursion CanBeDone (start_in ph l server_id).acts
@@ -203,7 +212,7 @@ Apart (Err e) = Unit {0}
 
 packet-apart : (l : Learner) (p : QuorumPacket) → Apart (learn_item l (item.Packet p))
 packet-apart l p =
-    packet-each IsApart refl refl refl refl (λ zxid. refl) (λ l epoch. refl) (λ l. refl) l p refl
+    packet-each IsApart refl refl refl refl (λ session is_valid. refl) (λ zxid. refl) (λ l epoch. refl) (λ l. refl) l p refl
 
 pub acts_tell : ActsAccountForLog
 acts_tell = record {

@@ -7,7 +7,7 @@ use Rattle.values.specs.declared.fault.Fault.{Fault}
 use Rattle.values.specs.declared.fault.Fault.TheVariants.{OutOfOrder, CommitMismatch, CannotTruncate, EpochTooSmall}
 use Rattle.settings.specs.Dialects.{reads_of}
 use Rattle.settings.specs.declared.dialect.Reads.{Reads}
-use Rattle.jute.specs.Format.{int, long, ◌>>=◌}
+use Rattle.jute.specs.Format.{int, long, boolean, pair_of, ◌>>=◌}
 use Rattle.quorum_packet.specs.declared.packet.QuorumPacket.{QuorumPacket}
 use Rattle.quorum_packet.specs.declared.kind.PacketKind.{PacketKind}
 use Rattle.quorum_packet.specs.declared.kind.PacketKind.TheVariants as kinds
@@ -16,7 +16,7 @@ use Rattle.quorum_packet.specs.Packet.{carried_bytes}
 use Rattle.txn_codec.specs.declared.txn.Txn.{Txn}
 use Rattle.learner_sync.specs.Answers.{ack_epoch, epoch_ack}
 use Rattle.learner_sync.specs.Learner.{Learner}
-use Rattle.learner_sync.specs.Learn.{LearnerStep, no_acts, single_act, at_phase, accept_epoch, leader_info, message_in_hello, txns_up_to, with_truncated_log, truncate_log, await_image, message_in_sync, zxid_floor, with_applied, apply_txn, carried_txn, learn_inform, learn_activation, learn_proposal, commit_of, message_in_replay, message_in_serving, message_in_phase}
+use Rattle.learner_sync.specs.Learn.{LearnerStep, no_acts, single_act, at_phase, accept_epoch, leader_info, message_in_hello, txns_up_to, with_truncated_log, truncate_log, await_image, message_in_sync, zxid_floor, with_applied, apply_txn, carried_txn, learn_inform, learn_activation, learn_revalidated, learn_proposal, commit_of, message_in_replay, message_in_serving, message_in_phase}
 use Rattle.learner_sync.specs.Messages.{message_if, message_of_kind, message_of_packet}
 use Rattle.learner_sync.specs.declared.act.Act.{Act}
 use Rattle.learner_sync.specs.declared.act.Act.TheVariants as act
@@ -26,7 +26,7 @@ use Rattle.learner_sync.specs.declared.phase.Phase.{Phase}
 use Rattle.learner_sync.specs.declared.phase.Phase.TheVariants as phase
 
 module _ (P : Act → Type 0) (applies : P act.Apply) (epochs : P act.Epochs) (serves : P act.ServeFrom)
-    (settles : P act.SettleSync)
+    (settles : P act.SettleSync) (confirms : (session : ℤ) (is_valid : Bool) → P (act.Revalidated session is_valid))
     (truncates : (zxid : ℤ) → P (act.Truncate zxid))
     (answers : (l : Learner) (epoch : ℤ) → P (act.Send (ack_epoch l epoch)))
     (acknowledges : (l : Learner) → P (act.Send (epoch_ack l))) where
@@ -130,6 +130,14 @@ module _ (P : Act → Type 0) (applies : P act.Apply) (epochs : P act.Epochs) (s
   replay-each l message.UpToDate = (epochs, (acknowledges l, (serves, tt)))
   replay-each l m = tt
 
+  confirm-each : (l : Learner) (bytes : List ℕ) → Each (learn_revalidated l bytes)
+  confirm-each l bytes = by ((pair_of long boolean).read bytes)
+    where
+      by : (r : Result ((ℤ × Bool) × List ℕ) Fault)
+          → Each (r >>= λ answer. Ok (single_act (act.Revalidated answer.0.0 answer.0.1) l))
+      by (Ok answer) = (confirms answer.0.0 answer.0.1, tt)
+      by (Err e) = tt
+
   -- It holds for the answer, where the message asks for one.
   abbrev Answered : Message → Type 0
   Answered (message.Ping p) = P (act.AnswerPing p)
@@ -140,6 +148,7 @@ module _ (P : Act → Type 0) (applies : P act.Apply) (epochs : P act.Epochs) (s
   serve-each l message.Sync ping = (settles, tt)
   serve-each l (message.Inform bytes) ping = inform-each l bytes
   serve-each l (message.InformAndActivate bytes) ping = activate-each l bytes
+  serve-each l (message.Revalidated bytes) ping = confirm-each l bytes
   serve-each l m ping = tt
 
   message-each : (ph : Phase) (l : Learner) (m : Message) → Answered m → Each (message_in_phase ph l m)
@@ -158,6 +167,8 @@ module _ (P : Act → Type 0) (applies : P act.Apply) (epochs : P act.Epochs) (s
   answered : (reads : Reads) (k : Option PacketKind) (p : QuorumPacket) → P (act.AnswerPing p)
       → Answered (message_of_kind reads k p)
   answered reads (Some kinds.Ping) p ping = ping
+  answered reads (Some kinds.Revalidate) p ping =
+      answered-if reads.moved_sessions (message.Revalidated (carried_bytes p.bytes)) tt
   answered reads (Some kinds.CommitAndActivate) p ping =
       answered-if reads.extended_types (message.Commit p.zxid) tt
   answered reads (Some kinds.InformAndActivate) p ping =

@@ -4,7 +4,7 @@ pub mod Records
 pub mod Zxids
 -- The log is followed.
 pub mod Logs
--- The accepted epoch.
+-- The accepted epoch, and the dialect.
 pub mod Epochs
 -- While clients are served.
 pub mod Serving

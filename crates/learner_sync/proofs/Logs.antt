@@ -7,7 +7,7 @@ use Rattle.settings.specs.Settings.{EpochPair}
 use Rattle.settings.specs.declared.dialect.Dialect.{Dialect}
 use Rattle.values.specs.declared.fault.Fault.{Fault}
 use Rattle.values.specs.declared.fault.Fault.TheVariants.{OutOfOrder, CommitMismatch, CannotTruncate, EpochTooSmall}
-use Rattle.jute.specs.Format.{int, long, ◌>>=◌}
+use Rattle.jute.specs.Format.{int, long, boolean, pair_of, ◌>>=◌}
 use Rattle.quorum_packet.specs.declared.item.Item.{Item}
 use Rattle.quorum_packet.specs.declared.item.Item.TheVariants as item
 use Rattle.snapshot_codec.specs.declared.part.ImagePart.{ImagePart}
@@ -15,7 +15,7 @@ use Rattle.snapshot_codec.specs.declared.part.ImagePart.TheVariants as part
 use Rattle.txn_codec.specs.declared.txn.Txn.{Txn}
 use Rattle.learner_sync.specs.Answers.{ack_epoch}
 use Rattle.learner_sync.specs.Learner.{Learner, new_learner}
-use Rattle.learner_sync.specs.Learn.{LearnerStep, no_acts, single_act, at_phase, start_in, accept_epoch, leader_info, message_in_hello, txns_up_to, zxid_after, with_truncated_log, truncate_log, await_image, message_in_sync, zxid_floor, phase_after_zxid, with_applied, apply_txn, carried_txn, learn_inform, learn_activation, learn_proposal, commit_of, message_in_replay, message_in_serving, load_part, message_in_phase, part_in_phase, learn_item, checkpoint_in}
+use Rattle.learner_sync.specs.Learn.{LearnerStep, no_acts, single_act, at_phase, start_in, accept_epoch, leader_info, message_in_hello, txns_up_to, zxid_after, with_truncated_log, truncate_log, await_image, message_in_sync, zxid_floor, phase_after_zxid, with_applied, apply_txn, carried_txn, learn_inform, learn_activation, learn_revalidated, learn_proposal, commit_of, message_in_replay, message_in_serving, load_part, message_in_phase, part_in_phase, learn_item, checkpoint_in}
 use Rattle.learner_sync.specs.Messages.{message_of_packet}
 use Rattle.learner_sync.specs.Laws.{PhaseFitsLog, FollowsItsLog, LogsAreFollowed, TruncatesToFronts}
 use Rattle.learner_sync.specs.declared.act.Act.TheVariants as act
@@ -183,10 +183,19 @@ replay-follows l message.NewLeader f = record {
 replay-follows l message.UpToDate f = record { rising = f.rising; last = f.last; based = f.based; stands = tt }
 replay-follows l m f = f
 
+confirm-follows : (l : Learner) (bytes : List ℕ) → FollowsItsLog l → Follows (learn_revalidated l bytes)
+confirm-follows l bytes f = by ((pair_of long boolean).read bytes)
+  where
+    by : (r : Result ((ℤ × Bool) × List ℕ) Fault)
+        → Follows (r >>= λ answer. Ok (single_act (act.Revalidated answer.0.0 answer.0.1) l))
+    by (Ok answer) = f
+    by (Err e) = tt
+
 serve-follows : (l : Learner) (m : Message) → FollowsItsLog l → Follows (message_in_serving l m)
 serve-follows l (message.Ping p) f = f
 serve-follows l (message.Inform bytes) f = inform-follows l bytes f
 serve-follows l (message.InformAndActivate bytes) f = activate-follows l bytes f
+serve-follows l (message.Revalidated bytes) f = confirm-follows l bytes f
 serve-follows l m f = f
 
 -- ---- images

@@ -36,8 +36,10 @@ worked_rows = record {
   ping = refl;
   answer_to_ping = refl;
   sync = refl;
+  session_confirmed = refl;
   sync_in_replay = refl;
   forwarded = refl;
   forwarded_with_id = refl;
+  session_asked_about = refl;
   session_asked_for = refl;
 }

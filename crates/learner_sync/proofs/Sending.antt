@@ -6,7 +6,7 @@ use Rattle.jute.specs.Owned.{id_format}
 use Rattle.jute.specs.declared.owned.Id.{Id}
 use Rattle.quorum_packet.specs.Packet.{packet_format}
 use Rattle.quorum_packet.specs.declared.packet.QuorumPacket.{QuorumPacket}
-use Rattle.learner_sync.specs.Answers.{protocol_version, observer_info, ack_epoch, epoch_ack, ping_reply, create_session, request_of, session_request}
+use Rattle.learner_sync.specs.Answers.{protocol_version, observer_info, ack_epoch, epoch_ack, ping_reply, create_session, request_of, session_request, session_question}
 use Rattle.learner_sync.specs.Learner.{Learner}
 use Rattle.learner_sync.specs.Records.{learner_info}
 
@@ -65,3 +65,13 @@ pub session-writable : (p : QuorumPacket) (session time_out : ℤ) → p ≡ ses
 unfolding packet_format
 session-writable p session time_out is =
     subst packet_format.Writable (sym is) (tt, (tt, (omega (arith, asked-length session time_out), tt)))
+
+question-length : (session time_out : ℤ) → length (long.written session ++ int.written time_out) ≡ 12
+unfolding number_bytes
+question-length session time_out = refl
+
+pub question-writable : (p : QuorumPacket) (session time_out : ℤ) → p ≡ session_question session time_out
+    → packet_format.Writable p
+unfolding packet_format
+question-writable p session time_out is =
+    subst packet_format.Writable (sym is) (tt, (tt, (omega (arith, question-length session time_out), tt)))

@@ -3,12 +3,12 @@ use Rattle.std.proofs.Common.{◌≡◌, ℕ, ℤ, List, [], ◌∷◌, ◌++◌
 use Rattle.std.specs.Int.{int_max}
 use Rattle.values.specs.declared.fault.Fault.{Fault}
 use Rattle.values.specs.declared.fault.Fault.TheVariants.{OutOfOrder}
-use Rattle.jute.specs.Format.{long, ◌>>=◌}
+use Rattle.jute.specs.Format.{long, boolean, pair_of, ◌>>=◌}
 use Rattle.quorum_packet.specs.declared.item.Item.{Item}
 use Rattle.quorum_packet.specs.declared.item.Item.TheVariants as item
 use Rattle.txn_codec.specs.declared.txn.Txn.{Txn}
 use Rattle.learner_sync.specs.Learner.{Learner}
-use Rattle.learner_sync.specs.Learn.{LearnerStep, single_act, zxid_floor, phase_after_zxid, with_applied, apply_txn, carried_txn, learn_inform, learn_activation, message_in_serving, message_in_phase, part_in_phase, learn_item}
+use Rattle.learner_sync.specs.Learn.{LearnerStep, single_act, zxid_floor, phase_after_zxid, with_applied, apply_txn, carried_txn, learn_inform, learn_activation, learn_revalidated, message_in_serving, message_in_phase, part_in_phase, learn_item}
 use Rattle.learner_sync.specs.Messages.{message_of_packet}
 use Rattle.learner_sync.specs.Laws.{HasOneMoreTxn, ServingRises}
 use Rattle.learner_sync.specs.declared.act.Act.TheVariants as act
@@ -62,9 +62,18 @@ activate-goes l bytes e = by (long.read bytes)
     by (Ok named) = inform-goes l named.1 e
     by (Err f) = tt
 
+confirm-goes : (l : Learner) (bytes : List ℕ) → Goes l (learn_revalidated l bytes)
+confirm-goes l bytes = by ((pair_of long boolean).read bytes)
+  where
+    by : (r : Result ((ℤ × Bool) × List ℕ) Fault)
+        → Goes l (r >>= λ answer. Ok (single_act (act.Revalidated answer.0.0 answer.0.1) l))
+    by (Ok answer) = inl refl
+    by (Err f) = tt
+
 serve-goes : (l : Learner) (m : Message) → l.phase ≡ phase.Serving → Goes l (message_in_serving l m)
 serve-goes l (message.Inform bytes) e = inform-goes l bytes e
 serve-goes l (message.InformAndActivate bytes) e = activate-goes l bytes e
+serve-goes l (message.Revalidated bytes) e = confirm-goes l bytes
 serve-goes l m e = inl refl
 
 learn-goes : (l : Learner) (i : Item) → l.phase ≡ phase.Serving → Goes l (learn_item l i)

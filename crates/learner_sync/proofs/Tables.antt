@@ -1,5 +1,5 @@
 -- The table of sessions in a PING's answer.
-use Rattle.std.proofs.Common.{◌≡◌, ℕ, ℤ, List, [], ◌∷◌, ◌++◌, ◌+◌, ◌*◌, length, length-append, append-nil, append_assoc, refl, sym, ap, ◌∙◌, arith}
+use Rattle.std.proofs.Common.{◌≡◌, ℕ, ℤ, List, [], ◌∷◌, ◌++◌, ◌*◌, length, length-append, append-nil, append_assoc, refl, sym, ap, ◌∙◌, arith}
 use Rattle.jute.specs.Format.{int, long, number_bytes}
 use Rattle.learner_sync.specs.Answers.{session_rows}
 

@@ -68,6 +68,15 @@ session_request session time_out = record {
   authinfo = None;
 }
 
+-- The leader is asked whether a session that a client brought lives. The client is told the timeout.
+abbrev pub session_question : ℤ → ℤ → QuorumPacket
+session_question session time_out = record {
+  kind = code_of kinds.Revalidate;
+  zxid = negsuc 0;
+  bytes = Some (long.written session ++ int.written time_out);
+  authinfo = None;
+}
+
 -- ---- the table of a PING's answer
 
 -- For each row the session's id, and then its timeout.

@@ -63,6 +63,15 @@ pub record EpochsDontFall : Type 0 where
   pub ends : (l : Learner) → (stop_following l).accepted_epoch ≡ l.accepted_epoch
   pub checks : (l : Learner) → (checkpoint_learner l).accepted_epoch ≡ l.accepted_epoch
 
+-- ---- the dialect
+
+-- Leaders speak the same dialect, whatever is learnt.
+pub record DialectStays : Type 0 where
+  pub starts : (l : Learner) (server_id : ℤ) → (start_following l server_id).after.dialect ≡ l.dialect
+  pub learns : (l : Learner) (i : Item) (x : LearnerStep) → learn_item l i ≡ Ok x → x.after.dialect ≡ l.dialect
+  pub ends : (l : Learner) → (stop_following l).dialect ≡ l.dialect
+  pub checks : (l : Learner) → (checkpoint_learner l).dialect ≡ l.dialect
+
 -- ---- serving
 
 -- The log has one more transaction. Its zxid is above the last one, and is the new last one.

@@ -7,7 +7,7 @@ use Rattle.std.specs.Ordering.{int_eq}
 use Rattle.values.specs.declared.fault.Fault.{Fault}
 use Rattle.values.specs.declared.fault.Fault.TheVariants.{OutOfOrder, CommitMismatch, CannotTruncate, EpochTooSmall, UnexpectedPacket}
 use Rattle.values.specs.declared.fault.ReadError.{ReadError}
-use Rattle.jute.specs.Format.{int, long, ◌>>=◌}
+use Rattle.jute.specs.Format.{int, long, boolean, pair_of, ◌>>=◌}
 use Rattle.jute.specs.Reads.{IsFailureOf}
 use Rattle.quorum_packet.specs.declared.item.Item.{Item}
 use Rattle.quorum_packet.specs.declared.item.Item.TheVariants as item
@@ -188,11 +188,18 @@ message_in_replay l m = Ok (no_acts l)
 
 -- ---- serving
 
+-- The leader's answer for a session that a client brought: the id of the session, and whether it lives. Bytes after
+-- these are passed over.
+abbrev pub learn_revalidated : Learner → List ℕ → Result LearnerStep Fault
+learn_revalidated l bytes =
+    (pair_of long boolean).read bytes >>= λ answer. Ok (single_act (act.Revalidated answer.0.0 answer.0.1) l)
+
 abbrev pub message_in_serving : Learner → Message → Result LearnerStep Fault
 message_in_serving l (message.Ping p) = Ok (single_act (act.AnswerPing p) l)
 message_in_serving l message.Sync = Ok (single_act act.SettleSync l)
 message_in_serving l (message.Inform bytes) = learn_inform l bytes
 message_in_serving l (message.InformAndActivate bytes) = learn_activation l bytes
+message_in_serving l (message.Revalidated bytes) = learn_revalidated l bytes
 message_in_serving l m = Ok (no_acts l)
 
 -- ---- images

@@ -10,7 +10,7 @@ use Rattle.quorum_packet.specs.Kinds.{kind_of}
 use Rattle.quorum_packet.specs.Packet.{carried_bytes}
 use Rattle.learner_sync.specs.Zxids.{epoch_of}
 use Rattle.learner_sync.specs.declared.message.Message.{Message}
-use Rattle.learner_sync.specs.declared.message.Message.TheVariants.{LeaderInfo, Diff, Trunc, Snap, Proposal, Commit, Inform, InformAndActivate, NewLeader, UpToDate, Ping, Sync, Other}
+use Rattle.learner_sync.specs.declared.message.Message.TheVariants.{LeaderInfo, Diff, Trunc, Snap, Proposal, Commit, Inform, InformAndActivate, NewLeader, UpToDate, Ping, Sync, Revalidated, Other}
 
 -- The message, where such packets are read.
 abbrev pub message_if : Bool → Message → Message
@@ -31,6 +31,8 @@ message_of_kind reads (Some kinds.NewLeader) p = NewLeader
 message_of_kind reads (Some kinds.UpToDate) p = UpToDate
 message_of_kind reads (Some kinds.Ping) p = Ping p
 message_of_kind reads (Some kinds.Sync) p = Sync
+message_of_kind reads (Some kinds.Revalidate) p =
+    message_if reads.moved_sessions (Revalidated (carried_bytes p.bytes))
 message_of_kind reads (Some kinds.CommitAndActivate) p = message_if reads.extended_types (Commit p.zxid)
 message_of_kind reads (Some kinds.InformAndActivate) p =
     message_if reads.extended_types (InformAndActivate (carried_bytes p.bytes))

@@ -1,5 +1,5 @@
 -- Steps that were worked out by hand.
-use Rattle.std.specs.Prelude.{◌≡◌, ℕ, ◌+◌, ℤ, pos, negsuc, false, List, [], ◌∷◌, Option, Some, None, Ok, Err, codes}
+use Rattle.std.specs.Prelude.{◌≡◌, ℕ, ◌+◌, ℤ, pos, negsuc, true, false, List, [], ◌∷◌, Option, Some, None, Ok, Err, codes}
 use Rattle.values.specs.Hex.{hex_bytes}
 use Rattle.values.specs.declared.fault.Fault.TheVariants.{Short, OutOfOrder, CommitMismatch, CannotTruncate, EpochTooSmall, UnexpectedPacket}
 use Rattle.settings.specs.declared.dialect.Dialect.{Dialect}
@@ -14,7 +14,7 @@ use Rattle.txn_codec.specs.declared.txn.Txn.{Txn}
 use Rattle.txn_codec.specs.declared.txn.Body.TheVariants as bodies
 use Rattle.snapshot_codec.specs.declared.part.ImagePart.TheVariants as part
 use Rattle.quorum_packet.specs.Packet.{packet_format}
-use Rattle.learner_sync.specs.Answers.{ping_reply, request_of, session_request}
+use Rattle.learner_sync.specs.Answers.{ping_reply, request_of, session_request, session_question}
 use Rattle.learner_sync.specs.Learner.{Learner, new_learner}
 use Rattle.learner_sync.specs.Learn.{single_act, no_acts, start_following, learn_item, apply_txn}
 use Rattle.learner_sync.specs.declared.act.Act.TheVariants as act
@@ -67,6 +67,9 @@ learner_on_image = learner_in_phase (phase.ReplayOnImage (pos 0)) (zxid_at 5) (z
 
 abbrev pub learner_with_proposals : Learner
 learner_with_proposals = learner_in_phase phase.Replay (pos 0) (pos 0) [] (txn_at 1 ∷ txn_at 2 ∷ [])
+
+abbrev pub serving_learner : Learner
+serving_learner = learner_in_phase phase.Serving (zxid_at 2) (pos 0) [] []
 
 abbrev pub in_dialect : Dialect → Learner → Learner
 in_dialect dialect l = record l { dialect = dialect }
@@ -151,14 +154,19 @@ pub record WorkedRows : Type 0 where
         after = learner_in_phase phase.Serving (pos 0) (pos 0) [] [];
       })
   pub ping :
-      learn_item (learner_in_phase phase.Serving (zxid_at 2) (pos 0) [] []) (packet_item kinds.Ping (zxid_at 2) None)
+      learn_item serving_learner (packet_item kinds.Ping (zxid_at 2) None)
       ≡ Ok (single_act (act.AnswerPing (sent_packet (pos 5) (zxid_at 2) None))
-      (learner_in_phase phase.Serving (zxid_at 2) (pos 0) [] []))
+      serving_learner)
   -- Null data is sent back as data of length 0.
   pub answer_to_ping : ping_reply (sent_packet (pos 5) (zxid_at 2) None) [] ≡ sent_packet (pos 5) (zxid_at 2) (Some [])
   pub sync :
-      learn_item (learner_in_phase phase.Serving (zxid_at 2) (pos 0) [] []) (packet_item kinds.Sync (pos 0) None)
-      ≡ Ok (single_act act.SettleSync (learner_in_phase phase.Serving (zxid_at 2) (pos 0) [] []))
+      learn_item serving_learner (packet_item kinds.Sync (pos 0) None)
+      ≡ Ok (single_act act.SettleSync serving_learner)
+  -- A session from another server lives.
+  pub session_confirmed :
+      learn_item (in_dialect Zk38 serving_learner)
+      (packet_item kinds.Revalidate (negsuc 0) (Some (hex_bytes (codes "0300000000000002 01"))))
+      ≡ Ok (single_act (act.Revalidated (pos 0x300000000000002) true) (in_dialect Zk38 serving_learner))
   -- Before clients are served nobody waits for a sync.
   pub sync_in_replay :
       learn_item (learner_in_phase phase.Replay (zxid_at 2) (pos 0) [] []) (packet_item kinds.Sync (pos 0) None)
@@ -171,6 +179,9 @@ pub record WorkedRows : Type 0 where
       packet_format.written
       (request_of (pos 0x300000000000001) create_frame (record { scheme = codes "ip"; id = codes "1.2.3.4" } ∷ []))
       ≡ hex_bytes (codes "00000001 ffffffffffffffff 00000024 0300000000000001 00000004 00000001 00000002 2f61 00000002 6869 ffffffff 00000000 00000001 00000002 6970 00000007 312e322e332e34")
+  pub session_asked_about :
+      packet_format.written (session_question (pos 0x100001c0fff0000) (pos 20000))
+      ≡ hex_bytes (codes "00000006 ffffffffffffffff 0000000c 0100001c0fff0000 00004e20 ffffffff")
   pub session_asked_for :
       packet_format.written (session_request (pos 0x300000000000002) (pos 10000))
       ≡ hex_bytes (codes "00000001 ffffffffffffffff 00000014 0300000000000002 00000000 fffffff6 00002710 ffffffff")

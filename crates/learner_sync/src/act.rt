@@ -12,6 +12,8 @@ pub enum Act {
     AnswerPing(QuorumPacket),
     /// The leader has done the oldest sync that it was asked for.
     SettleSync,
+    /// The leader has answered whether a session that a client brought lives.
+    Revalidated { session: i64, is_valid: bool },
     /// Apply the last transaction of the log to the tree.
     Apply,
     /// Load the part, apart from the tree.

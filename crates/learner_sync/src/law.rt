@@ -2,7 +2,7 @@
 
 ghost use Rattle.jute.specs.Laws.{IsSound};
 ghost use Rattle.learner_sync.specs.Images.{PartsAreTheImage};
-ghost use Rattle.learner_sync.specs.Laws.{LogsAreFollowed, TruncatesToFronts, EpochsDontFall, ServingRises, ActsAccountForLog};
+ghost use Rattle.learner_sync.specs.Laws.{LogsAreFollowed, TruncatesToFronts, EpochsDontFall, DialectStays, ServingRises, ActsAccountForLog};
 ghost use Rattle.learner_sync.specs.Records.{learner_info};
 ghost use Rattle.learner_sync.specs.Rows.{WorkedRows};
 
@@ -22,6 +22,11 @@ pub fn logs()
 /// The accepted epoch never decreases.
 pub fn epochs()
     ensures { EpochsDontFall }
+{}
+
+/// Leaders speak the same dialect, whatever is learnt.
+pub fn dialects()
+    ensures { DialectStays }
 {}
 
 /// While clients are served, each transaction has a zxid above the last one, and nothing else changes the learner.

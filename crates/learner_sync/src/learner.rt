@@ -147,6 +147,13 @@ impl Learner {
         self.phase
     }
 
+    /// The dialect in which its leaders speak.
+    pub fn dialect(&self) -> Dialect
+        ensures { result ≡ self.now.dialect }
+    {
+        self.dialect
+    }
+
     /// The accepted epoch, and the current epoch, which is that of the last leader that was followed.
     pub fn epochs(&self) -> (i32, i32)
         ensures accepted { result.0 ≡ self.now.accepted_epoch }

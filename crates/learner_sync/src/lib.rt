@@ -35,4 +35,4 @@ pub use answers::{ping_answer, session_table};
 pub use learner::Learner;
 pub use phase::Phase;
 pub use record::LearnerInfo;
-pub use request::{request_of, session_request};
+pub use request::{request_of, session_question, session_request};

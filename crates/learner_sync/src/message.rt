@@ -36,6 +36,8 @@ pub enum Message<'a> {
     Ping(Packet<'a>),
     /// The leader has done the oldest sync that it was asked for.
     Sync,
+    /// The data answers whether a session that a client brought lives.
+    Revalidated(Bytes<'a>),
     /// Any other kind, known or unknown.
     Other,
 }
@@ -44,7 +46,7 @@ pub enum Message<'a> {
 pub(crate) fn message_of_packet(dialect: Dialect, packet: Packet<'_>) -> Message<'_>
     ensures { result ≡ message_of_packet dialect packet.entry }
 {
-    let has_reconfigs = dialect.reads().extended_types;
+    let reads = dialect.reads();
     match PacketKind::from_code(packet.kind()) {
         Some(PacketKind::LeaderInfo) => Message::LeaderInfo {
             epoch: epoch_of(packet.zxid()),
@@ -56,10 +58,13 @@ pub(crate) fn message_of_packet(dialect: Dialect, packet: Packet<'_>) -> Message
         Some(PacketKind::Proposal) => Message::Proposal(packet.data()),
         Some(PacketKind::Commit) => Message::Commit(packet.zxid()),
         Some(PacketKind::Inform) => Message::Inform(packet.data()),
-        Some(PacketKind::CommitAndActivate) if has_reconfigs => Message::Commit(packet.zxid()),
-        Some(PacketKind::InformAndActivate) if has_reconfigs => {
+        Some(PacketKind::CommitAndActivate) if reads.extended_types => {
+            Message::Commit(packet.zxid())
+        }
+        Some(PacketKind::InformAndActivate) if reads.extended_types => {
             Message::InformAndActivate(packet.data())
         }
+        Some(PacketKind::Revalidate) if reads.moved_sessions => Message::Revalidated(packet.data()),
         Some(PacketKind::NewLeader) => Message::NewLeader,
         Some(PacketKind::UpToDate) => Message::UpToDate,
         Some(PacketKind::Ping) => Message::Ping(packet),

@@ -2,7 +2,7 @@
 
 ghost use Rattle.std.specs.Prelude.{◌≡◌, int_lt, Ok};
 ghost use Rattle.jute.specs.Reads.{ReadsOwnedWhole};
-ghost use Rattle.learner_sync.specs.Learn.{LearnsItem, zxid_floor, with_applied_zxid, carried_txn, learn_inform, learn_activation, learn_proposal, learn_commit, new_leader, up_to_date, message_in_replay, message_in_serving};
+ghost use Rattle.learner_sync.specs.Learn.{LearnsItem, zxid_floor, with_applied_zxid, carried_txn, learn_inform, learn_activation, learn_revalidated, learn_proposal, learn_commit, new_leader, up_to_date, message_in_replay, message_in_serving};
 
 use crate::act::Act;
 use crate::answers::{act_list, empty_act_list};
@@ -104,6 +104,16 @@ impl Learner {
         Ok(acts)
     }
 
+    // Reads the leader's answer for a session that a client brought.
+    fn revalidated(&self, alloc: Global, bytes: &[u8]) -> Result<Listed<Act>, ReadError>
+        ensures { LearnsItem result (learn_revalidated self.now bytes.now) self.now self.now }
+    {
+        let mut reader = Reader::new(bytes);
+        let session = reader.read_long()?;
+        let is_valid = reader.read_bool()?;
+        Ok(act_list(alloc, Act::Revalidated { session, is_valid })?)
+    }
+
     // Takes the leader's epoch as the current one.
     fn new_leader(&mut self, alloc: Global) -> Result<Listed<Act>, ReadError>
         ensures { LearnsItem result (Ok (new_leader self.old)) self.old self.new }
@@ -149,6 +159,7 @@ impl Learner {
             | Message::Trunc(_)
             | Message::Snap(_)
             | Message::Sync
+            | Message::Revalidated(_)
             | Message::Other => Ok(empty_act_list(alloc)),
         }
     }
@@ -169,6 +180,7 @@ impl Learner {
             Message::Sync => Ok(act_list(alloc, Act::SettleSync)?),
             Message::Inform(bytes) => self.inform(alloc, bytes.as_slice()),
             Message::InformAndActivate(bytes) => self.activate(alloc, bytes.as_slice()),
+            Message::Revalidated(bytes) => self.revalidated(alloc, bytes.as_slice()),
             Message::LeaderInfo { .. }
             | Message::Diff
             | Message::Trunc(_)

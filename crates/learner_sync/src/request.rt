@@ -1,11 +1,11 @@
-//! The REQUEST packets by which a learner forwards what its clients ask.
+//! The packets by which a learner forwards what its clients ask, and asks for their sessions.
 //!
 //! The law that goes over this: `Sending`.
 
 ghost use Rattle.std.specs.Prelude.{◌≡◌, ◌<◌, ◌≤◌, ◌^◌, length, All, IfOk};
 ghost use Rattle.jute.specs.Owned.{id_format};
 ghost use Rattle.quorum_packet.specs.Packet.{packet_format};
-ghost use Rattle.learner_sync.specs.Answers.{request_of, session_request};
+ghost use Rattle.learner_sync.specs.Answers.{request_of, session_request, session_question};
 
 use jute::{Id, put_int, put_long};
 use quorum_packet::{PacketKind, QuorumPacket};
@@ -61,6 +61,27 @@ pub fn session_request(alloc: Global, session: i64, time_out: i32) -> Result<Quo
     put_int(&mut bytes, time_out)?;
     Ok(QuorumPacket {
         kind: PacketKind::Request.code(),
+        zxid: REQUEST_ZXID,
+        bytes: Some(Blob::from_vec(bytes)),
+        authinfo: None,
+    })
+}
+
+/// The packet that asks whether a session that a client brought lives. The timeout is the one that the client is told,
+/// in milliseconds. Fails only if an allocation is refused.
+pub fn session_question(
+    alloc: Global,
+    session: i64,
+    time_out: i32,
+) -> Result<QuorumPacket, NoMemory>
+    ensures packet { IfOk result (λ p. p ≡ session_question session time_out) }
+    ensures writable { IfOk result (λ p. packet_format.Writable p) }
+{
+    let mut bytes = Vec::with_capacity(alloc, 12)?;
+    put_long(&mut bytes, session)?;
+    put_int(&mut bytes, time_out)?;
+    Ok(QuorumPacket {
+        kind: PacketKind::Revalidate.code(),
         zxid: REQUEST_ZXID,
         bytes: Some(Blob::from_vec(bytes)),
         authinfo: None,

@@ -19,18 +19,27 @@ a reconfig, and the server alone | 00000013 0000000100000001 00000008 0000000000
 a reconfig without data | 00000013 0000000100000001 ffffffff ffffffff | Short | passed
 a multi that failed | 00000008 0000000100000002 00000092 0000000000000007 00000002 0000000100000002 00000000000007d0 0000000e 00000004 ffffffff 0000002a 00000002 2f7a 00000000 00000001 0000001f 00000005 776f726c64 00000006 616e796f6e65 00 00000002 ffffffff 00000010 00000002 2f61 00000002 6e6f 00000001 ffffffff 00000004 ffffff99 ffffffff 00000004 fffffffe 00000002 0000000051c6d660 ffffffff | applied 2 | TrailingBytes
 a commit of a reconfig | 00000009 0000000100000001 00000008 0000000000000001 ffffffff | passed | passed
+a session that lives | 00000006 ffffffffffffffff 00000009 0100001c0fff0000 01 ffffffff | 72057714565382144 true | passed
+a session that has ended | 00000006 ffffffffffffffff 00000009 0100001c0fff0000 00 ffffffff | 72057714565382144 false | passed
+any other byte, and one more | 00000006 ffffffffffffffff 0000000a 0100001c0fff0000 ff00 ffffffff | 72057714565382144 true | passed
+an answer of eight bytes | 00000006 ffffffffffffffff 00000008 0100001c0fff0000 ffffffff | Short | passed
+an answer of seven bytes | 00000006 ffffffffffffffff 00000007 0100001c0fff00 ffffffff | Short | passed
+an answer without data | 00000006 ffffffffffffffff ffffffff ffffffff | Short | passed
 an unknown packet | 00000014 0000000100000001 ffffffff ffffffff | passed | passed";
 
 // What comes in a DIFF, in this order.
 const PROPOSED: &str = "\
 a proposal of a reconfig | 00000002 0000000100000001 000000cd 0000000000000007 00000001 0000000100000001 00000000000003e8 00000010 00000011 2f7a6f6f6b65657065722f636f6e666967 00000084 7365727665722e313d3132372e302e302e313a33313039383a33313039313a7061727469636970616e743b3132372e302e302e313a33313031310a7365727665722e323d3132372e302e302e313a33313038323a33313039323a6f627365727665723b3132372e302e302e313a33313031320a76657273696f6e3d313030303030303032 ffffffff 00000002 0000000051c6d660 ffffffff | passed | BadTxnType
 its commit | 00000009 0000000100000001 00000008 0000000000000001 ffffffff | applied 1 | passed
-the same commit again | 00000009 0000000100000001 00000008 0000000000000001 ffffffff | CommitMismatch | passed";
+the same commit again | 00000009 0000000100000001 00000008 0000000000000001 ffffffff | CommitMismatch | passed
+an answer for a session | 00000006 ffffffffffffffff 00000009 0100001c0fff0000 01 ffffffff | passed | passed
+an answer of eight bytes | 00000006 ffffffffffffffff 00000008 0100001c0fff0000 ffffffff | passed | passed";
 
 // A leader that has named its epoch has to say next how it brings the learner up to date.
 const EARLY: &str = "\
 a reconfig without data | 00000013 0000000100000001 ffffffff ffffffff | UnexpectedPacket | UnexpectedPacket
-a commit of a reconfig | 00000009 0000000100000001 ffffffff ffffffff | UnexpectedPacket | UnexpectedPacket";
+a commit of a reconfig | 00000009 0000000100000001 ffffffff ffffffff | UnexpectedPacket | UnexpectedPacket
+an answer for a session | 00000006 ffffffffffffffff 00000009 0100001c0fff0000 01 ffffffff | UnexpectedPacket | UnexpectedPacket";
 
 // The packet that these hexadecimal words are.
 fn packet_of(alloc: Global, words: &str) -> Result<Item, Fail> {
@@ -43,7 +52,8 @@ fn packet_of(alloc: Global, words: &str) -> Result<Item, Fail> {
     Ok(feed.next(alloc)?.ok_or("a packet")?)
 }
 
-// What comes of an item: that it was passed over, the counter of the transaction that was applied, or the fault.
+// What comes of an item: that it was passed over, the counter of the transaction that was applied, the answer for a
+// session, or the fault.
 fn told(
     alloc: Global,
     learner: &Learner,
@@ -58,6 +68,9 @@ fn told(
         [Act::Apply] => {
             let counter = learner.last_zxid() & 0xffff_ffff;
             Ok(format!(in alloc; "applied {counter}")?)
+        }
+        [Act::Revalidated { session, is_valid }] => {
+            Ok(format!(in alloc; "{session} {is_valid}")?)
         }
         _ => Err("other acts".into()),
     }
@@ -113,11 +126,12 @@ fn a_diff_commits_a_reconfig(rt: HostRuntime) -> Result<(), Fail> {
             "{line}"
         );
     }
+    assert!(rt; later.dialect() == Dialect::Zk38 && earlier.dialect() == Dialect::Zk34);
     Ok(())
 }
 
 #[test]
-fn a_reconfig_comes_too_early(rt: HostRuntime) -> Result<(), Fail> {
+fn some_packets_come_too_early(rt: HostRuntime) -> Result<(), Fail> {
     let mut later = greeted_in(Dialect::Zk38, rt.alloc())?;
     let mut earlier = greeted_in(Dialect::Zk34, rt.alloc())?;
     for line in EARLY.lines() {

@@ -9,9 +9,7 @@ use Rattle.jute.specs.Stream.{Place, Items, with_more_bytes, joined_items, items
 use Rattle.jute.proofs.Public.{judged_takes, judged_reads, judged_pieced, judged_eats, case_sound, sound_streamed, sound_lawful, comes_in_pieces}
 use Rattle.snapshot_codec.specs.Image.{image_in}
 use Rattle.snapshot_codec.specs.Parts.{part_format}
-use Rattle.snapshot_codec.proofs.Images.{takes_in, again_in, streamed_in}
-use Rattle.snapshot_codec.proofs.Public.{part_sound}
-use Rattle.snapshot_codec.proofs.Written.{written_in}
+use Rattle.snapshot_codec.proofs.Public.{part_sound, takes_in, again_in, streamed_in, written_in}
 use Rattle.quorum_packet.specs.declared.item.Item.{Item}
 use Rattle.quorum_packet.specs.declared.phase.Phase.{Phase}
 use Rattle.quorum_packet.specs.declared.phase.Phase.TheVariants.{Packets, Image}

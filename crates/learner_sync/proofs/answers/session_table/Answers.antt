@@ -1,5 +1,5 @@
 use mir.Val.{SFits}
-use Rattle.std.proofs.Common.{rules, length, ◌+◌, ◌<◌, ◌++◌, ℤ, pos, take, get_or, sym, ap, ◌∙◌, w32, w64, append_assoc, arith}
+use Rattle.std.proofs.Common.{rules, length, ◌<◌, ◌++◌, ℤ, pos, take, get_or, sym, ap, ◌∙◌, w32, w64, append_assoc, arith}
 use Rattle.std.proofs.lemmas.List.{take_more, take_all}
 use Rattle.std.proofs.lemmas.Int.{to_z-of_z}
 use Rattle.jute.specs.Format.{int, long}
