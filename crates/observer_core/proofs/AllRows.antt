@@ -4,6 +4,8 @@ use Rattle.std.specs.Prelude.{ℤ, pos, codes, is_some}
 use Rattle.std.specs.FinMap as finmap
 use Rattle.std.specs.FinSet as set
 use Rattle.std.specs.Ordering.{nat_cmp}
+use Rattle.settings.specs.Dialects.{reads_of}
+use Rattle.settings.specs.declared.dialect.Dialect.{Dialect}
 use Rattle.values.specs.declared.fault.Fault.TheVariants.{BadLength}
 use Rattle.jute.specs.Frame.{frame_at}
 use Rattle.jute.specs.Format.{judged_at}
@@ -111,10 +113,11 @@ rows_hold again nobody rows = record {
       (ClientBytes 1 sync_frame ∷ LeaderBytes sync_packet ∷ []) _ is (sync_answers settings (three, begins));
   new_session = λ settings is three begins terms secretless. in_earlier settings
       (ClientUp 2 ∷ ClientBytes 2 connect_frame ∷ LeaderBytes inform_of_session ∷ []) _ is
-      (session_is_created again nobody settings (three, begins) terms secretless);
+      (session_is_created again nobody settings is (three, begins) terms secretless);
   heard_session = λ settings is three begins terms secretless. in_earlier settings
       (ClientBytes 1 client_ping ∷ LeaderBytes leader_ping ∷ LeaderBytes leader_ping ∷ []) _ is
-      (first_is_told settings (three, begins) terms secretless);
+      (first_is_told settings (ap (λ (dialect : Dialect). (reads_of dialect).moved_sessions) is) (three, begins) terms
+      secretless);
   nothing = λ settings is. refl;
   idle = λ settings. idle_is settings;
   ruok = λ settings. word_comes settings (codes "ruok");

@@ -1,5 +1,5 @@
 -- The worked rows of sessions: a new one, and one whose client was heard.
-use Rattle.std.proofs.Common.{◌≡◌, ◌||◌, ℕ, ◌+◌, List, [], ◌∷◌, ◌++◌, length, map, take, drop, replicate, not, Option, Some, None, Result, Ok, Bool, true, false, cond, refl, sym, ap, ◌∙◌, arith, rules}
+use Rattle.std.proofs.Common.{◌≡◌, ◌||◌, ◌&&◌, ℕ, ◌+◌, List, [], ◌∷◌, ◌++◌, length, map, take, drop, replicate, not, Option, Some, None, Result, Ok, Bool, true, false, cond, refl, sym, ap, ◌∙◌, arith, rules}
 use Rattle.std.specs.Prelude.{ℤ, pos, negsuc, codes, is_some, nat_lt}
 use Rattle.std.specs.FinMap as finmap
 use Rattle.std.specs.FinSet as set
@@ -39,16 +39,20 @@ use Rattle.learner_sync.specs.Answers.{ping_reply, session_rows, session_request
 use Rattle.sessions.specs.declared.request.SessionRequest.{SessionRequest}
 use Rattle.sessions.specs.declared.request.SessionResponse.{SessionResponse}
 use Rattle.sessions.specs.State.{ConnectedClient, SessionOwners, SessionTable}
-use Rattle.sessions.specs.Credentials.{session_id_of, password_of}
-use Rattle.sessions.specs.Sessions.{session_in, session_of_connection, connection_of, close_as, close_if_some, give_session, ConnectResult, clamped_timeout, session_response, refusal_response, new_connection, with_session_connected}
+use Rattle.settings.specs.Dialects.{reads_of}
+use Rattle.sessions.specs.Credentials.{session_id_of, keyed_password, password_of}
+use Rattle.sessions.specs.declared.passwords.Passwords.{Passwords}
+use Rattle.sessions.specs.declared.passwords.Passwords.TheVariants.{Keyed}
+use Rattle.sessions.specs.Sessions.{session_in, session_of_connection, connection_of, close_as, close_if_some, give_session, ConnectResult, clamped_timeout, claimed_session, session_response, refusal_response, new_connection, with_session_connected}
 use Rattle.watch_manager.specs.Watches.{FireResult}
 use Rattle.watch_manager.specs.Watching.{no_watch}
 use Rattle.forwarding.specs.declared.request.PendingConnect.{PendingConnect}
 use Rattle.forwarding.specs.declared.request.PendingRequest.{PendingRequest}
 use Rattle.forwarding.specs.declared.request.PendingRequest.TheVariants.{Connect}
-use Rattle.forwarding.specs.Queue.{RequestQueue, pending_limit, waiting_connect, held_frames}
+use Rattle.forwarding.specs.declared.request.ConnectKind.TheVariants.{New}
+use Rattle.forwarding.specs.Queue.{RequestQueue, pending_limit, waiting_connect, asks_as, held_frames}
 use Rattle.forwarding.specs.State.{TouchedSessions, PendingTable}
-use Rattle.forwarding.specs.Pending.{nothing_pending, queue_in, queue_of, is_idle, hold_frame, push_connect, take_connect_as, drop_connection, sorted_touched, with_timeout, live_rows, touched_limit, touched_rows, TakenTouched, take_touched}
+use Rattle.forwarding.specs.Pending.{nothing_pending, queue_in, queue_of, is_idle, hold_frame, push_connect, take_connect_as, awaiting_as, drop_connection, sorted_touched, with_timeout, live_rows, touched_limit, touched_rows, TakenTouched, take_touched}
 use Rattle.forwarding.proofs.SessionSets.{items-sorted}
 use Rattle.four_letter.specs.Words.{word_of}
 use Rattle.four_letter.specs.declared.word.Word.{Word}
@@ -59,15 +63,16 @@ use Rattle.client_frames.specs.declared.call.CallBody.TheVariants.{Local}
 use Rattle.client_frames.specs.declared.call.LocalCall.TheVariants.{Ping}
 use Rattle.client_frames.specs.declared.connecting.Connecting.{Connecting}
 use Rattle.client_frames.specs.Call.{call_in, call_after_header, call_body}
-use Rattle.client_frames.specs.Connect.{connecting_after_request, connecting_in, answer_to_connect, response_of}
+use Rattle.client_frames.specs.Connect.{connecting_after_request, connecting_in, session_request_of, answer_to_connect, response_of}
 use Rattle.world.specs.declared.world.Settings.{Settings}
 use Rattle.world.specs.declared.output.Output.{Output}
 use Rattle.world.specs.declared.output.Output.TheVariants.{ToLeader, ToClient}
 use Rattle.world.specs.World.{OpenConnection, OpenConnections, Clients, World}
 use Rattle.world.specs.Steps.{StepResult, prepend_outputs, no_output, and_then}
-use Rattle.world.specs.Clients.{idle_connection, heard_in, with_connection}
+use Rattle.world.specs.Clients.{idle_connection, heard_in, with_connection, passwords_of}
+use Rattle.world.specs.Timeouts.{known_timeout}
 use Rattle.world.specs.Sending.{to_leader, close_client, send_or_close, with_sessions, with_pending}
-use Rattle.client_service.specs.Serve.{answer_connect, send_connect_response, finish_connect, handle_connect, touched_as, serve_as, serve_by, is_refused_frame, header_len, connect_or_hold, serve_frame, word_without_session, with_waiting_bytes, frames_of_client, serve_all, tell_or_serve, take_client_bytes}
+use Rattle.client_service.specs.Serve.{answer_connect, send_connect_response, claim_or_refuse, finish_connect, handle_connect, touched_as, serve_as, serve_by, is_refused_frame, header_len, connect_or_hold, serve_frame, word_without_session, with_waiting_bytes, frames_of_client, serve_all, tell_or_serve, take_client_bytes}
 use Rattle.leader_answers.specs.Answering.{admission_of, admit_as, admit_with, give_answer, answer_applied_txn, answer_ping}
 use Rattle.world.proofs.NatMaps.{get-inserted, insert-insert}
 use Rattle.observer_core.specs.declared.event.Event.{Event}
@@ -128,7 +133,7 @@ leaders_ping_found = refl
 
 -- What the leader is told where these sessions are touched.
 abbrev told_of : Settings → PendingTable → TakenTouched
-told_of settings pending = take_touched pending (start settings).sessions
+told_of settings pending = take_touched pending (finmap.get (start settings).sessions)
 
 abbrev answer_with : List (ℤ × ℤ) → Output
 answer_with rows = to_leader (ping_reply leaders_ping (session_rows rows))
@@ -139,29 +144,43 @@ ping_taken : (settings : Settings) (pending : PendingTable) →
 unfolding kind_of
 ping_taken settings pending = refl
 
-ping_is_told : (settings : Settings) (pending : PendingTable)
+-- Sessions don't move between servers.
+abbrev pub SessionsStay : Settings → Type 0
+SessionsStay settings = (reads_of settings.dialect).moved_sessions ≡ false
+
+ping_is_told : (settings : Settings) (pending : PendingTable) → SessionsStay settings
     → play_event (waiting_machine settings pending) (LeaderBytes leader_ping)
     ≡ (record {
       outputs = answer_with (told_of settings pending).rows ∷ [];
       after = waiting_machine settings (told_of settings pending).after;
     })
-ping_is_told settings pending =
-    let w = waiting_world settings pending in
+ping_is_told settings pending stay =
     one_item_comes w leader_ping leaders_ping leaders_ping_found ∙ ap (one_delivered w) (ping_taken settings pending)
+    ∙ ap (λ (counts : Bool). one_delivered w (told [] (counting counts))) stay
+  where
+    w : World
+    w = waiting_world settings pending
 
-pings_are_told : (settings : Settings) →
+    -- The answer, by whether the timeouts count that connections were told.
+    counting : Bool → StepResult World
+    counting counts =
+        let sent = take_touched pending
+        (λ session. known_timeout counts w.clients.sessions w.replica.tree.sessions session) in
+        record { outputs = answer_with sent.rows ∷ []; after = with_pending w sent.after }
+
+pings_are_told : (settings : Settings) → SessionsStay settings →
     let once = told_of settings (once_heard settings) in
     (play (earlier_machine settings)
     (ClientBytes 1 client_ping ∷ LeaderBytes leader_ping ∷ LeaderBytes leader_ping ∷ [])).outputs
     ≡ ToClient 1 reply_of_ping ∷ answer_with once.rows ∷ answer_with (told_of settings once.after).rows ∷ []
-pings_are_told settings =
+pings_are_told settings stay =
     let once = told_of settings (once_heard settings) in
     ap (λ (h : StepResult Machine). h.outputs
     ++ (play h.after (LeaderBytes leader_ping ∷ LeaderBytes leader_ping ∷ [])).outputs) (ping_comes settings)
     ∙ ap (λ (h : StepResult Machine). ToClient 1 reply_of_ping
-    ∷ (h.outputs ++ (play h.after (LeaderBytes leader_ping ∷ [])).outputs)) (ping_is_told settings (once_heard settings))
+    ∷ (h.outputs ++ (play h.after (LeaderBytes leader_ping ∷ [])).outputs)) (ping_is_told settings (once_heard settings) stay)
     ∙ ap (λ (h : StepResult Machine). ToClient 1 reply_of_ping ∷ answer_with once.rows ∷ (h.outputs ++ []))
-    (ping_is_told settings once.after)
+    (ping_is_told settings once.after stay)
 
 -- ---- one session is touched
 
@@ -184,9 +203,9 @@ module _ (session longest : ℤ) where
   alone = (tt, tt)
 
   one_row : eq_by_cmp int_cmp session session ≡ true
-      → touched_rows (pending_at (set.insert set.empty session)) timeouts ≡ (session, longest) ∷ []
+      → touched_rows (pending_at (set.insert set.empty session)) (finmap.get timeouts) ≡ (session, longest) ∷ []
   one_row same =
-      ap (live_rows timeouts)
+      ap (live_rows (finmap.get timeouts))
       (ap (λ (s : TouchedSessions). sorted_touched s) one_touched ∙ items-sorted (session ∷ []) alone)
       ∙ ap (λ (o : Option ℤ). with_timeout session o [])
       (finmap.get-insert int_cmp_total fresh_state.sessions session longest session
@@ -194,15 +213,15 @@ module _ (session longest : ℤ) where
 
   -- The session is told once.
   told_once : eq_by_cmp int_cmp session session ≡ true
-      → take_touched (pending_at (set.insert set.empty session)) timeouts
+      → take_touched (pending_at (set.insert set.empty session)) (finmap.get timeouts)
       ≡ record { rows = (session, longest) ∷ []; after = pending_at (set.from_list []) }
   told_once same = ap (λ (rows : List (ℤ × ℤ)). record {
     rows = take touched_limit rows;
     after = pending_at (set.from_list (map (λ (row : ℤ × ℤ). row.0) (drop touched_limit rows)));
   }) (one_row same)
 
-  none_told : (take_touched (pending_at (set.from_list [])) timeouts).rows ≡ []
-  none_told = ap (λ (ids : List ℤ). take touched_limit (live_rows timeouts ids)) (items-sorted [] none_sorted)
+  none_told : (take_touched (pending_at (set.from_list [])) (finmap.get timeouts)).rows ≡ []
+  none_told = ap (λ (ids : List ℤ). take touched_limit (live_rows (finmap.get timeouts) ids)) (items-sorted [] none_sorted)
 
 with_first_written : packet_format.written (ping_reply leaders_ping (session_rows ((first_id, pos 40000) ∷ [])))
     ≡ answer_with_first
@@ -213,16 +232,16 @@ with_none_written : packet_format.written (ping_reply leaders_ping (session_rows
 unfolding packet_format number_bytes
 with_none_written = refl
 
-pub first_is_told : (settings : Settings) → IsThird settings
+pub first_is_told : (settings : Settings) → SessionsStay settings → IsThird settings
     → settings.timeouts ≡ timeout_pair (pos 4000) (pos 40000) → settings.secret ≡ []
     → (play (earlier_machine settings)
     (ClientBytes 1 client_ping ∷ LeaderBytes leader_ping ∷ LeaderBytes leader_ping ∷ [])).outputs
     ≡ ToClient 1 reply_of_ping ∷ ToLeader answer_with_first ∷ ToLeader answer_with_none ∷ []
-first_is_told settings three terms secretless =
-    pings_are_told settings
+first_is_told settings stay three terms secretless =
+    pings_are_told settings stay
     ∙ ap (λ (id : ℤ). answers (told_from id settings.timeouts.greatest)) (id_is settings three)
     ∙ ap (λ (bounds : TimeoutPair). answers (told_from first_id bounds.greatest)) terms
-    ∙ ap (λ (once : TakenTouched). answers (once, take_touched once.after (timeouts first_id (pos 40000))))
+    ∙ ap (λ (once : TakenTouched). answers (once, take_touched once.after (finmap.get (timeouts first_id (pos 40000)))))
     (told_once first_id (pos 40000) refl)
     ∙ ap (λ (rows : List (ℤ × ℤ)).
     ToClient 1 reply_of_ping ∷ answer_with ((first_id, pos 40000) ∷ []) ∷ answer_with rows ∷ [])
@@ -232,7 +251,7 @@ first_is_told settings three terms secretless =
     -- What the leader is told at the first PING, and at the second.
     told_from : ℤ → ℤ → TakenTouched × TakenTouched
     told_from id longest =
-        let once = take_touched (pending_at (set.insert set.empty id)) (timeouts id longest) in
+        let once = take_touched (pending_at (set.insert set.empty id)) (finmap.get (timeouts id longest)) in
         (once, take_touched once.after (timeouts id longest))
 
     answers : TakenTouched × TakenTouched → List Output
@@ -330,7 +349,10 @@ module _ (settings : Settings) where
   connecting = record { request = request; has_byte = false }
 
   abbrev waiting : PendingConnect
-  waiting = record { session = second_session; time_out = pos 10000; has_read_only = false }
+  waiting = record { kind = New; session = second_session; time_out = pos 10000; has_read_only = false }
+
+  abbrev passwords : Passwords
+  passwords = passwords_of settings.dialect settings.secret
 
   abbrev connect_waits : PendingTable
   connect_waits = push_connect nothing_pending 2 waiting
@@ -340,7 +362,8 @@ module _ (settings : Settings) where
       → handle_connect true 2 w (Ok connecting)
       ≡ record { outputs = ToLeader request_of_session ∷ []; after = world_of (sessions_after 2) connect_waits }
   asked_as three terms =
-      ap (λ (id : ℤ). finishing id (clamped_timeout settings.timeouts (pos 10000))) (second_is settings three)
+      ap by_claim (and-false (reads_of settings.dialect).moved_sessions)
+      ∙ ap (λ (id : ℤ). finishing id (clamped_timeout settings.timeouts (pos 10000))) (second_is settings three)
       ∙ ap (λ (bounds : TimeoutPair). finishing second_session (clamped_timeout bounds (pos 10000))) terms
       ∙ ap (λ (o : Option ℕ). asks (is_some o)) (finmap.get-empty int_cmp second_session)
       ∙ ap (λ (bytes : List ℕ). record {
@@ -348,9 +371,19 @@ module _ (settings : Settings) where
         after = world_of (sessions_after 2) connect_waits;
       }) request_written
     where
+      and-false : (b : Bool) → (b && false) ≡ false
+      and-false true = refl
+      and-false false = refl
+
+      -- The session 0 is no claim.
+      by_claim : Bool → StepResult World
+      by_claim claims = cond claims
+          (claim_or_refuse 2 false w (claimed_session w.clients.sessions (session_request_of request)))
+          (finishing (session_id_of settings.server_id 2) (clamped_timeout settings.timeouts (pos 10000)))
+
       response : ℤ → ℤ → SessionResponse
       response id time_out =
-          record { time_out = time_out; session_id = id; password = password_of settings.secret id }
+          record { time_out = time_out; session_id = id; password = password_of passwords id }
 
       finishing : ℤ → ℤ → StepResult World
       finishing id time_out = finish_connect 2 w connecting (record {
@@ -431,8 +464,8 @@ session_found = refl
 abbrev password : List ℕ
 password = hex_bytes (codes "5c75ddec095bce05f05804d58decb4ec")
 
-password_is : password_of [] second_session ≡ password
-unfolding password_of sha1 hash_after digest_bytes compress rounds schedule first_words
+password_is : password_of (Keyed []) second_session ≡ password
+unfolding keyed_password sha1 hash_after digest_bytes compress rounds schedule first_words
 password_is = refl
 
 response_written : answer_to_connect (record { time_out = pos 10000; session_id = second_session; password = password })
@@ -442,7 +475,13 @@ unfolding connect_response number_bytes
 response_written = refl
 
 module _ (settings : Settings) (three : IsThird settings)
-    (terms : settings.timeouts ≡ timeout_pair (pos 4000) (pos 40000)) (secretless : settings.secret ≡ []) where
+    (terms : settings.timeouts ≡ timeout_pair (pos 4000) (pos 40000)) (secretless : settings.secret ≡ [])
+    (earlier : settings.dialect ≡ Zk34) where
+  -- The passwords of ZooKeeper 3.4 are made with the secret.
+  keyed : passwords settings ≡ Keyed []
+  keyed = ap (λ (dialect : Dialect). passwords_of dialect settings.secret) earlier
+      ∙ ap (λ (secret : List ℕ). Keyed secret) secretless
+
   abbrev queue : RequestQueue
   queue = queue_of (connect_waits settings) 2
 
@@ -465,16 +504,19 @@ module _ (settings : Settings) (three : IsThird settings)
       ∙ finmap.get-empty int_cmp second_session
 
   abbrev admitted : World
-  admitted = with_sessions left (with_session_connected (sessions_after settings 2) 2 second_session)
+  admitted =
+      with_sessions left
+      (with_session_connected (sessions_after settings 2) 2 second_session
+      (clamped_timeout settings.timeouts (pos 10000)))
 
   abbrev responded : List ℕ → StepResult World
   responded frame = record { outputs = ToClient 2 frame ∷ []; after = admitted }
 
-  abbrev response : TimeoutPair → List ℕ → List ℕ
-  response bounds secret = answer_to_connect (record {
+  abbrev response : TimeoutPair → Passwords → List ℕ
+  response bounds made = answer_to_connect (record {
     time_out = clamped_timeout bounds (pos 10000);
     session_id = second_session;
-    password = password_of secret second_session;
+    password = password_of made second_session;
   }) false
 
   session_given : admit_as 2 left [] (Some (waiting settings)) ≡ responded response_of_session
@@ -482,8 +524,8 @@ module _ (settings : Settings) (three : IsThird settings)
       ap (λ (o : Option ConnectedClient). admit_with 2 left (waiting settings) []
       (give_session (close_as (sessions_after settings 2) 2 o) 2 second_session (pos 10000))) (second_is_none settings 2)
       ∙ ap (λ (o : Option ℕ). admit_with 2 left (waiting settings) [] (given o)) no_owner
-      ∙ ap (λ (bounds : TimeoutPair). responded (response bounds settings.secret)) terms
-      ∙ ap (λ (secret : List ℕ). responded (response (timeout_pair (pos 4000) (pos 40000)) secret)) secretless
+      ∙ ap (λ (bounds : TimeoutPair). responded (response bounds (passwords settings))) terms
+      ∙ ap (λ (made : Passwords). responded (response (timeout_pair (pos 4000) (pos 40000)) made)) keyed
       ∙ ap (λ (p : List ℕ). responded (answer_to_connect
       (record { time_out = pos 10000; session_id = second_session; password = p }) false)) password_is
       ∙ ap responded response_written
@@ -494,13 +536,17 @@ module _ (settings : Settings) (three : IsThird settings)
           response = session_response left.clients.sessions.terms second_session (pos 10000);
           older = older;
         };
-        after = with_session_connected (close_if_some (sessions_after settings 2) older) 2 second_session;
+        after = with_session_connected (close_if_some (sessions_after settings 2) older) 2 second_session
+            (clamped_timeout settings.timeouts (pos 10000));
       }
 
   connect_answered : answer_applied_txn applied 0 error ≡ responded response_of_session
   connect_answered =
-      ap (λ (o : Option ℕ). give_answer applied session_txn error (admission_of o))
+      ap (λ (o : Option ℕ). give_answer applied session_txn error
+      (admission_of (awaiting_as (connect_waits settings) New o)))
       (finmap.get-insert int_cmp_total finmap.empty second_session 2 second_session)
+      ∙ ap (λ (q : RequestQueue). give_answer applied session_txn error
+      (admission_of (cond (asks_as New (waiting_connect q)) (Some 2) None))) (queue_is 2 (Connect (waiting settings)))
       ∙ ap (λ (q : RequestQueue). taking (waiting_connect q)) (queue_is 2 (Connect (waiting settings)))
       ∙ ap (λ (q : RequestQueue). admit_as 2 left (held_frames q) (Some (waiting settings)))
       (queue_is 2 (Connect (waiting settings)))
@@ -538,10 +584,10 @@ module _ (settings : Settings) (three : IsThird settings)
       (connect_comes settings three terms)
       ∙ ap (λ (h : StepResult Machine). ToLeader request_of_session ∷ (h.outputs ++ [])) (session_comes again nobody)
 
-pub session_is_created : (again : ReadAgain) (nobody : NobodyTold) (settings : Settings) → IsThird settings
-    → settings.timeouts ≡ timeout_pair (pos 4000) (pos 40000) → settings.secret ≡ []
+pub session_is_created : (again : ReadAgain) (nobody : NobodyTold) (settings : Settings) → settings.dialect ≡ Zk34
+    → IsThird settings → settings.timeouts ≡ timeout_pair (pos 4000) (pos 40000) → settings.secret ≡ []
     → (play (earlier_machine settings)
     (ClientUp 2 ∷ ClientBytes 2 connect_frame ∷ LeaderBytes inform_of_session ∷ [])).outputs
     ≡ ToLeader request_of_session ∷ ToClient 2 response_of_session ∷ []
-session_is_created again nobody settings three terms secretless =
-    session_played settings three terms secretless again nobody
+session_is_created again nobody settings earlier three terms secretless =
+    session_played settings three terms secretless earlier again nobody
