@@ -56,7 +56,7 @@ def defaults(bench):
         client.close()
         last = observer.process.tail(1)
         print(f"     after {time.monotonic() - began:.1f} s: {last}")
-        wanted = f"observer: F6 TrailingBytes from 127.0.0.1:{leader.quorum}: beside servers from 3.6 on, start it with"
+        wanted = f"observer: F6 TrailingBytes from 127.0.0.1:{leader.quorum}: beside servers from 3.6 on, start it without"
         assert last.startswith(wanted), last
     finally:
         observer.stop()

@@ -14,8 +14,8 @@ pub fn fault_hint(fault: Fault) -> &'static str
             "look whether this is the quorum port of a server, and keep each write and multi below 4 MiB",
         Fault::BadText => "keep characters past U+FFFF out of paths and ids",
         Fault::BadPath => "start again, and if it comes back keep a record of it",
-        Fault::BadTxnType => "beside servers from 3.5 on, start it with --dialect 3.8",
-        Fault::TrailingBytes => "beside servers from 3.6 on, start it with --dialect 3.8",
+        Fault::BadTxnType => "beside servers from 3.5 on, start it without --dialect 3.4",
+        Fault::TrailingBytes => "beside servers from 3.6 on, start it without --dialect 3.4",
         Fault::OutOfOrder => "start again, and if it comes back keep a record of it",
         Fault::CommitMismatch => "start again, and if it comes back keep a record of it",
         Fault::CannotTruncate =>

@@ -7,7 +7,7 @@ use Rattle.serve_options.specs.declared.row.Without.TheVariants.{Nothing, Value,
 
 -- The value of an option that isn't given, as it would be spelled.
 abbrev pub option_default : Name → Option (List ℕ)
-option_default Dialect = Some (codes "3.4")
+option_default Dialect = Some (codes "3.8")
 option_default Workers = Some (codes "4")
 option_default Batch = Some (codes "256")
 option_default MaxUnderWay = Some (codes "64")

@@ -197,8 +197,8 @@ const DIALECT: Row = Row {
     word: "--dialect",
     value: "RELEASE",
     kind: Kind::Release,
-    without: Without::Value("3.4"),
-    help: "what the leader speaks: the dialect of ZooKeeper 3.4, or that of 3.5 to 3.9, which is called 3.8",
+    without: Without::Value("3.8"),
+    help: "what the leader and the clients speak: the dialect of ZooKeeper 3.4, or that of 3.5 to 3.9, called 3.8",
 };
 
 const COUNTER: Row = Row {
