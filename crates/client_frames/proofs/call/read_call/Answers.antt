@@ -9,4 +9,4 @@ returns c =
     let xid : to_z w32 (of_z w32 header.xid) ≡ header.xid = search rules in
     let kind : to_z w32 (of_z w32 header.kind) ≡ header.kind = search rules in
     let read = ap (λ (bytes : List ℕ). request_header.read bytes) (sym c.new-reader.ensures) ∙ c.in_ok-header.ensures in
-    ap (call_after_header c.args.dialect) read ∙ rw (c.in_ok-body.ensures, c.from_code.ensures, kind, xid) refl
+    ap (call_after_header c.args.dialect) read ∙ rw (c.in_ok-body.ensures, c.from_code-kind.ensures, kind, xid) refl
