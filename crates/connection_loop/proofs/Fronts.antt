@@ -2,6 +2,7 @@
 use Rattle.std.proofs.Common.{◌≡◌, ℕ, suc, ◌+◌, ◌-◌, ◌<◌, ◌≤◌, List, true, false, if◌then◌else◌, Result, Ok, Err, ap, sym, ◌∙◌, refl, length, arith}
 use Rattle.values.specs.declared.fault.Fault.{Fault}
 use Rattle.values.specs.declared.fault.Fault.TheVariants.{Short}
+use Rattle.settings.specs.declared.dialect.Dialect.{Dialect}
 use Rattle.jute.specs.Frame.{frame_format}
 use Rattle.jute.specs.Stream.{Unread, items_within, items_after_read, place_after_fault}
 use Rattle.jute.proofs.Public.{refused_other}
@@ -78,90 +79,90 @@ read_refused most bytes f e = sym (ap (bytes_read bytes) e)
 
 -- ---- the frames that go together
 
-pub going_none : (gate : Gate) (bytes : List ℕ) → frames_going 0 gate bytes ≡ 0
+pub going_none : (dialect : Dialect) (gate : Gate) (bytes : List ℕ) → frames_going dialect 0 gate bytes ≡ 0
 unfolding items_within
-going_none gate bytes = refl
+going_none dialect gate bytes = refl
 
-pub going_all : (most k : ℕ) (gate : Gate) (bytes : List ℕ) → most ≤ k
-    → frames_going (most - k) gate bytes ≡ 0
-going_all most k gate bytes h =
+pub going_all : (dialect : Dialect) (most k : ℕ) (gate : Gate) (bytes : List ℕ) → most ≤ k
+    → frames_going dialect (most - k) gate bytes ≡ 0
+going_all dialect most k gate bytes h =
     let none : most - k ≡ 0 = omega (arith, h) in
-    ap (λ n. frames_going n gate bytes) none ∙ going_none gate bytes
+    ap (λ n. frames_going dialect n gate bytes) none ∙ going_none dialect gate bytes
 
-abbrev pub going_read : ℕ → Gate → List ℕ → Result (List ℕ × List ℕ) Fault → ℕ
-going_read n gate bytes r =
+abbrev pub going_read : Dialect → ℕ → Gate → List ℕ → Result (List ℕ × List ℕ) Fault → ℕ
+going_read dialect n gate bytes r =
     let items = items_after_read r (λ v. items_within frames_of_client n tt)
     (place_after_fault tt bytes) in
-    count_going items.found items.left.unread gate
+    count_going dialect items.found items.left.unread gate
 
-pub going_first : (n : ℕ) (gate : Gate) (bytes : List ℕ) → frames_going (suc n) gate bytes
-    ≡ going_read n gate bytes ((frame_format client_frame_limit).read bytes)
+pub going_first : (dialect : Dialect) (n : ℕ) (gate : Gate) (bytes : List ℕ) → frames_going dialect (suc n) gate bytes
+    ≡ going_read dialect n gate bytes ((frame_format client_frame_limit).read bytes)
 unfolding items_within
-going_first n gate bytes = refl
+going_first dialect n gate bytes = refl
 
 -- The frames that go where this one is the first.
-pub going_whole : (most k : ℕ) (gate : Gate) (bytes rest f : List ℕ) → k < most
+pub going_whole : (dialect : Dialect) (most k : ℕ) (gate : Gate) (bytes rest f : List ℕ) → k < most
     → (frame_format client_frame_limit).read bytes ≡ Ok (f, rest)
-    → frames_going (most - k) gate bytes
-    ≡ going_after (kind_of_frame f) gate
-    (frames_going (most - (k + 1)) (gate_after (kind_of_frame f) gate) rest)
-going_whole most k gate bytes rest f h e =
-    ap (λ n. frames_going n gate bytes) (one_more most k h)
-    ∙ going_first (most - (k + 1)) gate bytes
-    ∙ ap (going_read (most - (k + 1)) gate bytes) e
+    → frames_going dialect (most - k) gate bytes
+    ≡ going_after (kind_of_frame dialect f) gate
+    (frames_going dialect (most - (k + 1)) (gate_after (kind_of_frame dialect f) gate) rest)
+going_whole dialect most k gate bytes rest f h e =
+    ap (λ n. frames_going dialect n gate bytes) (one_more most k h)
+    ∙ going_first dialect (most - (k + 1)) gate bytes
+    ∙ ap (going_read dialect (most - (k + 1)) gate bytes) e
 
-pub going_short : (most k : ℕ) (gate : Gate) (bytes : List ℕ) → k < most
-    → (frame_format client_frame_limit).read bytes ≡ Err Short → frames_going (most - k) gate bytes ≡ 0
-going_short most k gate bytes h e =
-    ap (λ n. frames_going n gate bytes) (one_more most k h)
-    ∙ going_first (most - (k + 1)) gate bytes
-    ∙ ap (going_read (most - (k + 1)) gate bytes) e
+pub going_short : (dialect : Dialect) (most k : ℕ) (gate : Gate) (bytes : List ℕ) → k < most
+    → (frame_format client_frame_limit).read bytes ≡ Err Short → frames_going dialect (most - k) gate bytes ≡ 0
+going_short dialect most k gate bytes h e =
+    ap (λ n. frames_going dialect n gate bytes) (one_more most k h)
+    ∙ going_first dialect (most - (k + 1)) gate bytes
+    ∙ ap (going_read dialect (most - (k + 1)) gate bytes) e
 
-pub going_refused : (most k : ℕ) (gate : Gate) (bytes : List ℕ) (e : Fault) → (e ≡ Short → ⊥) → k < most
-    → (frame_format client_frame_limit).read bytes ≡ Err e
-    → frames_going (most - k) gate bytes ≡ (if goes_with Heavy gate then 1 else 0)
-going_refused most k gate bytes e other h he =
-    ap (λ n. frames_going n gate bytes) (one_more most k h)
-    ∙ going_first (most - (k + 1)) gate bytes
-    ∙ ap (going_read (most - (k + 1)) gate bytes) he
+pub going_refused : (dialect : Dialect) (most k : ℕ) (gate : Gate) (bytes : List ℕ) (e : Fault)
+    → (e ≡ Short → ⊥) → k < most → (frame_format client_frame_limit).read bytes ≡ Err e
+    → frames_going dialect (most - k) gate bytes ≡ (if goes_with Heavy gate then 1 else 0)
+going_refused dialect most k gate bytes e other h he =
+    ap (λ n. frames_going dialect n gate bytes) (one_more most k h)
+    ∙ going_first dialect (most - (k + 1)) gate bytes
+    ∙ ap (going_read dialect (most - (k + 1)) gate bytes) he
     ∙ ap (ending_going gate) (refused_other e bytes other)
 
 -- One more frame goes, and others come after it.
-pub goes_on : (most k : ℕ) (gate : Gate) (bytes rest f : List ℕ) (kind : FrameKind) (after : Gate) → k < most
-    → (frame_format client_frame_limit).read bytes ≡ Ok (f, rest) → kind ≡ kind_of_frame f
+pub goes_on : (dialect : Dialect) (most k : ℕ) (gate : Gate) (bytes rest f : List ℕ) (kind : FrameKind)
+    (after : Gate) → k < most → (frame_format client_frame_limit).read bytes ≡ Ok (f, rest) → kind ≡ kind_of_frame dialect f
     → goes_with kind gate ≡ true → goes_last kind ≡ false → after ≡ gate_after kind gate
-    → k + 1 + frames_going (most - (k + 1)) after rest ≡ k + frames_going (most - k) gate bytes
-goes_on most k gate bytes rest f kind after h e is with last so =
-    let whole = going_whole most k gate bytes rest f h e in
-    let goes : goes_with (kind_of_frame f) gate ≡ true = ap (λ j. goes_with j gate) (sym is) ∙ with in
-    let middle : goes_last (kind_of_frame f) ≡ false = ap goes_last (sym is) ∙ last in
-    let afterwards : after ≡ gate_after (kind_of_frame f) gate = so ∙ ap (λ j. gate_after j gate) is in
-    let others = frames_going (most - (k + 1)) (gate_after (kind_of_frame f) gate) rest in
-    let same : frames_going (most - k) gate bytes ≡ suc others =
-    whole ∙ ap (λ b. if b then if goes_last (kind_of_frame f) then 1 else suc others else 0) goes
+    → k + 1 + frames_going dialect (most - (k + 1)) after rest ≡ k + frames_going dialect (most - k) gate bytes
+goes_on dialect most k gate bytes rest f kind after h e is with last so =
+    let whole = going_whole dialect most k gate bytes rest f h e in
+    let goes : goes_with (kind_of_frame dialect f) gate ≡ true = ap (λ j. goes_with j gate) (sym is) ∙ with in
+    let middle : goes_last (kind_of_frame dialect f) ≡ false = ap goes_last (sym is) ∙ last in
+    let afterwards : after ≡ gate_after (kind_of_frame dialect f) gate = so ∙ ap (λ j. gate_after j gate) is in
+    let others = frames_going dialect (most - (k + 1)) (gate_after (kind_of_frame dialect f) gate) rest in
+    let same : frames_going dialect (most - k) gate bytes ≡ suc others =
+    whole ∙ ap (λ b. if b then if goes_last (kind_of_frame dialect f) then 1 else suc others else 0) goes
     ∙ ap (λ b. if b then 1 else suc others) middle in
-    let moved : frames_going (most - (k + 1)) after rest ≡ others =
-    ap (λ b. frames_going (most - (k + 1)) b rest) afterwards in
+    let moved : frames_going dialect (most - (k + 1)) after rest ≡ others =
+    ap (λ b. frames_going dialect (most - (k + 1)) b rest) afterwards in
     omega (arith, same, moved)
 
 -- No more goes.
-pub held_back : (most k : ℕ) (gate : Gate) (bytes rest f : List ℕ) (kind : FrameKind) → k < most
-    → (frame_format client_frame_limit).read bytes ≡ Ok (f, rest) → kind ≡ kind_of_frame f
-    → goes_with kind gate ≡ false → frames_going (most - k) gate bytes ≡ 0
-held_back most k gate bytes rest f kind h e is with =
-    let goes : goes_with (kind_of_frame f) gate ≡ false = ap (λ j. goes_with j gate) (sym is) ∙ with in
-    let others = frames_going (most - (k + 1)) (gate_after (kind_of_frame f) gate) rest in
-    going_whole most k gate bytes rest f h e
-    ∙ ap (λ b. if b then if goes_last (kind_of_frame f) then 1 else suc others else 0) goes
+pub held_back : (dialect : Dialect) (most k : ℕ) (gate : Gate) (bytes rest f : List ℕ) (kind : FrameKind) → k < most
+    → (frame_format client_frame_limit).read bytes ≡ Ok (f, rest) → kind ≡ kind_of_frame dialect f
+    → goes_with kind gate ≡ false → frames_going dialect (most - k) gate bytes ≡ 0
+held_back dialect most k gate bytes rest f kind h e is with =
+    let goes : goes_with (kind_of_frame dialect f) gate ≡ false = ap (λ j. goes_with j gate) (sym is) ∙ with in
+    let others = frames_going dialect (most - (k + 1)) (gate_after (kind_of_frame dialect f) gate) rest in
+    going_whole dialect most k gate bytes rest f h e
+    ∙ ap (λ b. if b then if goes_last (kind_of_frame dialect f) then 1 else suc others else 0) goes
 
 -- One more goes, and it is the last.
-pub goes_alone : (most k : ℕ) (gate : Gate) (bytes rest f : List ℕ) (kind : FrameKind) → k < most
-    → (frame_format client_frame_limit).read bytes ≡ Ok (f, rest) → kind ≡ kind_of_frame f
-    → goes_with kind gate ≡ true → goes_last kind ≡ true → frames_going (most - k) gate bytes ≡ 1
-goes_alone most k gate bytes rest f kind h e is with last =
-    let goes : goes_with (kind_of_frame f) gate ≡ true = ap (λ j. goes_with j gate) (sym is) ∙ with in
-    let end : goes_last (kind_of_frame f) ≡ true = ap goes_last (sym is) ∙ last in
-    let others = frames_going (most - (k + 1)) (gate_after (kind_of_frame f) gate) rest in
-    going_whole most k gate bytes rest f h e
-    ∙ ap (λ b. if b then if goes_last (kind_of_frame f) then 1 else suc others else 0) goes
+pub goes_alone : (dialect : Dialect) (most k : ℕ) (gate : Gate) (bytes rest f : List ℕ) (kind : FrameKind) → k < most
+    → (frame_format client_frame_limit).read bytes ≡ Ok (f, rest) → kind ≡ kind_of_frame dialect f
+    → goes_with kind gate ≡ true → goes_last kind ≡ true → frames_going dialect (most - k) gate bytes ≡ 1
+goes_alone dialect most k gate bytes rest f kind h e is with last =
+    let goes : goes_with (kind_of_frame dialect f) gate ≡ true = ap (λ j. goes_with j gate) (sym is) ∙ with in
+    let end : goes_last (kind_of_frame dialect f) ≡ true = ap goes_last (sym is) ∙ last in
+    let others = frames_going dialect (most - (k + 1)) (gate_after (kind_of_frame dialect f) gate) rest in
+    going_whole dialect most k gate bytes rest f h e
+    ∙ ap (λ b. if b then if goes_last (kind_of_frame dialect f) then 1 else suc others else 0) goes
     ∙ ap (λ b. if b then 1 else suc others) end

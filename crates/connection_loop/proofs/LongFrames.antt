@@ -7,6 +7,7 @@ use Rattle.std.proofs.lemmas.Int.{of_z-to_z}
 use Rattle.std.proofs.lemmas.List.{get_or-take, length-drop}
 use Rattle.values.specs.declared.fault.Fault.{Fault}
 use Rattle.values.specs.declared.fault.Fault.TheVariants.{Short, BadLength}
+use Rattle.settings.specs.declared.dialect.Dialect.{Dialect}
 use Rattle.jute.specs.Format.{int}
 use Rattle.jute.specs.Frame.{frame_format, frame_length}
 use Rattle.jute.specs.Laws.{IsBytes, IsSound}
@@ -159,33 +160,33 @@ not_whole : (m : ℕ) (bytes : List ℕ) → (m ≡ 0 → ⊥) → 0 < length by
 not_whole zero bytes more some none = absurd (more refl)
 not_whole (suc n) bytes more some none = none_whole n bytes some none
 
-going_short_after : (n : ℕ) (bytes : List ℕ) (r : Result (List ℕ × List ℕ) Fault)
+going_short_after : (dialect : Dialect) (n : ℕ) (bytes : List ℕ) (r : Result (List ℕ × List ℕ) Fault)
     → (frame_format client_frame_limit).read bytes ≡ r → 0 < length bytes
-    → whole_frames_length (going_read n Open bytes r) bytes ≡ 0
+    → whole_frames_length (going_read dialect n Open bytes r) bytes ≡ 0
     → (frame_format client_frame_limit).read bytes ≡ Err Short
-going_short_after n bytes (Ok x) is some none =
-    not_whole (going_read n Open bytes (Ok x)) bytes (some_go (kind_of_frame x.0) _) some none
-going_short_after n bytes (Err Short) is some none = is
-going_short_after n bytes (Err e) is some none = not_whole 1 bytes (λ h. absurd (omega (arith, h))) some none
+going_short_after dialect n bytes (Ok x) is some none =
+    not_whole (going_read dialect n Open bytes (Ok x)) bytes (some_go (kind_of_frame dialect x.0) _) some none
+going_short_after dialect n bytes (Err Short) is some none = is
+going_short_after dialect n bytes (Err e) is some none = not_whole 1 bytes (λ h. absurd (omega (arith, h))) some none
 
-none_goes : (n : ℕ) (bytes : List ℕ) → 0 < length bytes
-    → whole_frames_length (frames_going (suc n) Open bytes) bytes ≡ 0
+none_goes : (dialect : Dialect) (n : ℕ) (bytes : List ℕ) → 0 < length bytes
+    → whole_frames_length (frames_going dialect (suc n) Open bytes) bytes ≡ 0
     → (frame_format client_frame_limit).read bytes ≡ Err Short
-none_goes n bytes some none =
-    going_short_after n bytes _ refl some
-    (ap (λ m. whole_frames_length m bytes) (sym (going_first n Open bytes)) ∙ none)
+none_goes dialect n bytes some none =
+    going_short_after dialect n bytes _ refl some
+    (ap (λ m. whole_frames_length m bytes) (sym (going_first dialect n Open bytes)) ∙ none)
 
-pub first_is_longer : (most : ℕ) (gate : Gate) (bytes : List ℕ) → IsBytes bytes → 4 ≤ length bytes → 0 < most
-    → gate ≡ Open → whole_frames_length (frames_going most gate bytes) bytes ≡ 0
+pub first_is_longer : (dialect : Dialect) (most : ℕ) (gate : Gate) (bytes : List ℕ) → IsBytes bytes
+    → 4 ≤ length bytes → 0 < most → gate ≡ Open → whole_frames_length (frames_going dialect most gate bytes) bytes ≡ 0
     → length bytes < first_frame_length bytes
-first_is_longer zero gate bytes fits long some all none = absurd (omega (arith, some))
-first_is_longer (suc n) gate bytes fits long some all none =
+first_is_longer dialect zero gate bytes fits long some all none = absurd (omega (arith, some))
+first_is_longer dialect (suc n) gate bytes fits long some all none =
     short_is_longer bytes fits long
-    (none_goes n bytes (omega (arith, long))
-    (ap (λ b. whole_frames_length (frames_going (suc n) b bytes) bytes) (sym all) ∙ none))
+    (none_goes dialect n bytes (omega (arith, long))
+    (ap (λ b. whole_frames_length (frames_going dialect (suc n) b bytes) bytes) (sym all) ∙ none))
 
-pub may_begin_open : (most : ℕ) (gate : Gate) (bytes : List ℕ) → 0 < most → gate ≡ Open
-    → may_begin most gate bytes ≡ true
-may_begin_open most gate bytes some all =
-    ap (λ b. b && goes_with (kind_of_frame (drop 4 bytes)) gate) (lt-ltb 0 most some)
-    ∙ ap (goes_with (kind_of_frame (drop 4 bytes))) all ∙ goes_open (kind_of_frame (drop 4 bytes))
+pub may_begin_open : (dialect : Dialect) (most : ℕ) (gate : Gate) (bytes : List ℕ) → 0 < most → gate ≡ Open
+    → may_begin dialect most gate bytes ≡ true
+may_begin_open dialect most gate bytes some all =
+    ap (λ b. b && goes_with (kind_of_frame dialect (drop 4 bytes)) gate) (lt-ltb 0 most some)
+    ∙ ap (goes_with (kind_of_frame dialect (drop 4 bytes))) all ∙ goes_open (kind_of_frame dialect (drop 4 bytes))

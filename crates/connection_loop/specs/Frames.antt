@@ -1,5 +1,6 @@
 -- The ends of a client's frames, and which of them are sent on together.
 use Rattle.std.specs.Prelude.{ℕ, suc, List, [], ◌∷◌, length, ◌-◌, Ok, Err, Bool, true, false, if◌then◌else◌}
+use Rattle.settings.specs.declared.dialect.Dialect.{Dialect}
 use Rattle.jute.specs.Stream.{Unread, items_within}
 use Rattle.client_service.specs.Serve.{frames_of_client}
 use Rattle.connection_loop.specs.declared.kind.FrameKind.{FrameKind}
@@ -57,12 +58,13 @@ going_after kind gate others =
     if goes_with kind gate then if goes_last kind then 1 else suc others else 0
 
 -- How many of these frames go together, with what is left after them.
-abbrev pub count_going : List (List ℕ) → Unread → Gate → ℕ
-count_going [] left gate = ending_going gate left
-count_going (f ∷ fs) left gate =
-    going_after (kind_of_frame f) gate (count_going fs left (gate_after (kind_of_frame f) gate))
+abbrev pub count_going : Dialect → List (List ℕ) → Unread → Gate → ℕ
+count_going dialect [] left gate = ending_going gate left
+count_going dialect (f ∷ fs) left gate =
+    let kind = kind_of_frame dialect f in
+    going_after kind gate (count_going dialect fs left (gate_after kind gate))
 
-abbrev pub frames_going : ℕ → Gate → List ℕ → ℕ
-frames_going most gate bytes =
+abbrev pub frames_going : Dialect → ℕ → Gate → List ℕ → ℕ
+frames_going dialect most gate bytes =
     let items = items_within frames_of_client most tt bytes in
-    count_going items.found items.left.unread gate
+    count_going dialect items.found items.left.unread gate

@@ -1,6 +1,7 @@
 -- The bytes of a connection that weren't sent on yet, and the pieces in which they are sent on.
 use Rattle.std.specs.Prelude.{ℕ, ◌+◌, ◌-◌, ◌==◌, ◌&&◌, min, nat_lt, nat_le, if◌then◌else◌, Bool, List, [], length, take, drop, Option, None, Some, true, false}
 use Rattle.std.specs.Int.{w32, from_be_bytes}
+use Rattle.settings.specs.declared.dialect.Dialect.{Dialect}
 use Rattle.connection_loop.specs.declared.incoming.Cutting.{Cutting}
 use Rattle.connection_loop.specs.declared.incoming.Cutting.TheVariants.{Frames, Reads}
 use Rattle.connection_loop.specs.declared.incoming.Piece.{Piece}
@@ -46,33 +47,34 @@ abbrev pub first_frame_length : List ℕ → ℕ
 first_frame_length bytes = if nat_lt (length bytes) 4 then 0 else from_be_bytes w32 (take 4 bytes) + 4
 
 -- Whether a frame may be sent on in parts.
-abbrev pub may_begin : ℕ → Gate → List ℕ → Bool
-may_begin most gate bytes = nat_lt 0 most && goes_with (kind_of_frame (drop 4 bytes)) gate
+abbrev pub may_begin : Dialect → ℕ → Gate → List ℕ → Bool
+may_begin dialect most gate bytes = nat_lt 0 most && goes_with (kind_of_frame dialect (drop 4 bytes)) gate
 
 -- A part of a frame is only sent on if it fills the buffer, and isn't all of it.
-abbrev pub piece_of_long_frame : ℕ → Gate → List ℕ → Option Piece
-piece_of_long_frame most gate bytes =
-    if nat_le buffer_length (length bytes) && nat_lt (length bytes) (first_frame_length bytes) && may_begin most gate bytes
+abbrev pub piece_of_long_frame : Dialect → ℕ → Gate → List ℕ → Option Piece
+piece_of_long_frame dialect most gate bytes =
+    if nat_le buffer_length (length bytes) && nat_lt (length bytes) (first_frame_length bytes)
+    && may_begin dialect most gate bytes
     then Some (piece_of_front (length bytes) (first_frame_length bytes)) else None
 
 -- The next piece where these whole frames go together, which are so many bytes.
-abbrev pub piece_of_frames : ℕ → Gate → List ℕ → ℕ → ℕ → Option Piece
-piece_of_frames most gate bytes frames len =
-    if len == 0 then piece_of_long_frame most gate bytes else Some (piece_of_whole_frames len frames)
+abbrev pub piece_of_frames : Dialect → ℕ → Gate → List ℕ → ℕ → ℕ → Option Piece
+piece_of_frames dialect most gate bytes frames len =
+    if len == 0 then piece_of_long_frame dialect most gate bytes else Some (piece_of_whole_frames len frames)
 
 -- The next piece of a client's bytes: the missing bytes of a frame come first.
-abbrev pub piece_for_client : ℕ → Gate → List ℕ → ℕ → Option Piece
-piece_for_client most gate bytes missing =
-    let frames = frames_going most gate bytes in
-    if missing == 0 then piece_of_frames most gate bytes frames (whole_frames_length frames bytes)
+abbrev pub piece_for_client : Dialect → ℕ → Gate → List ℕ → ℕ → Option Piece
+piece_for_client dialect most gate bytes missing =
+    let frames = frames_going dialect most gate bytes in
+    if missing == 0 then piece_of_frames dialect most gate bytes frames (whole_frames_length frames bytes)
     else Some (piece_of_rest (length bytes) missing)
 
 abbrev pub last_piece : List ℕ → Option Piece
 last_piece bytes = if length bytes == 0 then None else Some (piece_of_reads (length bytes))
 
 abbrev pub piece_by : Cutting → ℕ → Gate → List ℕ → ℕ → Option Piece
-piece_by Frames most gate bytes missing =
-    if length bytes == 0 then None else piece_for_client most gate bytes missing
+piece_by (Frames dialect) most gate bytes missing =
+    if length bytes == 0 then None else piece_for_client dialect most gate bytes missing
 piece_by Reads most gate bytes missing = last_piece bytes
 
 abbrev pub next_piece : Unsent → ℕ → Gate → Option Piece

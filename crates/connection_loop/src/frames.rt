@@ -7,6 +7,7 @@ use crate::kind::{FrameKind, Gate, after_int, kind_of_frame};
 use crate::window::MOST_AT_ONCE;
 use jute::{Reader, read_frame};
 use observer_core::CLIENT_FRAME_LIMIT;
+use settings::Dialect;
 use values::Fault;
 
 /// The length in bytes of the longest prefix that is at most `most` whole frames. If a length out of bounds follows
@@ -70,8 +71,8 @@ fn goes_last(kind: FrameKind) -> bool
 /// How many of the whole frames at the front, at most `most`, are sent on as one piece. A frame that the engine would
 /// hold isn't among them after one for the leader, unless they go ahead, nor where the gate is narrow. A frame of
 /// unbounded cost goes only through an open gate, and is the last one; so is a length out of bounds.
-pub fn frames_going(bytes: &[u8], most: usize, gate: Gate) -> usize
-    ensures going { result ≡ frames_going most gate bytes.now }
+pub fn frames_going(dialect: Dialect, bytes: &[u8], most: usize, gate: Gate) -> usize
+    ensures going { result ≡ frames_going dialect most gate bytes.now }
     ensures bound { result ≤ most }
 {
     let mut ahead = Reader::new(bytes);
@@ -79,7 +80,7 @@ pub fn frames_going(bytes: &[u8], most: usize, gate: Gate) -> usize
     for count in 0..most {
         match read_frame(&mut ahead, CLIENT_FRAME_LIMIT) {
             Ok(frame) => {
-                let kind = kind_of_frame(frame);
+                let kind = kind_of_frame(dialect, frame);
                 if !goes_with(kind, here) {
                     return count;
                 }
@@ -101,7 +102,7 @@ pub fn frames_going(bytes: &[u8], most: usize, gate: Gate) -> usize
 }
 
 /// Whether the last frame that begins in these bytes is of unbounded cost. It is a hint for the hub.
-pub(crate) fn ends_heavy(bytes: &[u8]) -> bool {
+pub(crate) fn ends_heavy(dialect: Dialect, bytes: &[u8]) -> bool {
     let mut ahead = Reader::new(bytes);
     let mut last = bytes;
     for _ in 0..MOST_AT_ONCE {
@@ -114,5 +115,5 @@ pub(crate) fn ends_heavy(bytes: &[u8]) -> bool {
             break;
         }
     }
-    goes_last(kind_of_frame(after_int(last)))
+    goes_last(kind_of_frame(dialect, after_int(last)))
 }

@@ -9,6 +9,7 @@ ghost use Rattle.connection_loop.specs.Incoming.{buffer_length, nothing_unsent, 
 
 use crate::frames::{frames_going, goes_with, whole_frames};
 use crate::kind::{Gate, after_int, kind_of_frame};
+use settings::Dialect;
 use std::alloc::Global;
 use std::io;
 use std::io::Read;
@@ -21,8 +22,8 @@ pub(crate) const READ_LEN: usize = 16_384;
 /// How a connection's bytes are cut into messages.
 #[derive(Clone, Copy, Debug, PartialEq, Eq)]
 pub enum Cutting {
-    /// A client's: whole frames, and one message at a time.
-    Frames,
+    /// A client's, which speaks a dialect: whole frames, and one message at a time.
+    Frames(Dialect),
     /// The leader's: whatever was read.
     Reads,
 }
@@ -77,18 +78,24 @@ fn frame_len(bytes: &[u8]) -> usize
 }
 
 // Whether a frame that fills the buffer may be sent on. All of its bytes come as pieces of their own.
-fn may_begin(waiting: &[u8], most: usize, gate: Gate) -> bool
-    ensures { result ≡ may_begin most gate waiting.now }
+fn may_begin(dialect: Dialect, waiting: &[u8], most: usize, gate: Gate) -> bool
+    ensures { result ≡ may_begin dialect most gate waiting.now }
 {
-    most > 0 && goes_with(kind_of_frame(after_int(waiting)), gate)
+    most > 0 && goes_with(kind_of_frame(dialect, after_int(waiting)), gate)
 }
 
 // The next piece of a client's bytes. The first `missing` bytes belong to a frame that was sent on in part.
-fn next_frames(waiting: &[u8], missing: usize, most: usize, gate: Gate) -> Option<Piece>
+fn next_frames(
+    dialect: Dialect,
+    waiting: &[u8],
+    missing: usize,
+    most: usize,
+    gate: Gate,
+) -> Option<Piece>
     requires { 0 < length waiting.now }
-    ensures piece { result ≡ piece_for_client most gate waiting.now missing }
-    ensures frames { missing ≡ 0 → IfSome result
-        (λ p. IsTrue p.ends_frame → p.len ≡ whole_frames_length (frames_going most gate waiting.now) waiting.now) }
+    ensures piece { result ≡ piece_for_client dialect most gate waiting.now missing }
+    ensures frames { missing ≡ 0 → IfSome result (λ p. IsTrue p.ends_frame
+        → p.len ≡ whole_frames_length (frames_going dialect most gate waiting.now) waiting.now) }
     ensures most { IfSome result (λ p. p.frames ≤ most) }
     ensures rest { missing ≢ 0 → IfSome result (λ p. p.len + p.missing ≡ missing) }
     ensures within { IfSome result (λ p. (0 < p.len) × (p.len ≤ length waiting.now)) }
@@ -104,7 +111,7 @@ fn next_frames(waiting: &[u8], missing: usize, most: usize, gate: Gate) -> Optio
             missing: missing - len,
         });
     }
-    let frames = frames_going(waiting, most, gate);
+    let frames = frames_going(dialect, waiting, most, gate);
     let len = whole_frames(waiting, frames);
     if len > 0 {
         return Some(Piece {
@@ -115,7 +122,7 @@ fn next_frames(waiting: &[u8], missing: usize, most: usize, gate: Gate) -> Optio
         });
     }
     let missing = frame_len(waiting).saturating_sub(waiting.len());
-    if waiting.len() < READ_LEN || missing == 0 || !may_begin(waiting, most, gate) {
+    if waiting.len() < READ_LEN || missing == 0 || !may_begin(dialect, waiting, most, gate) {
         return None;
     }
     Some(Piece {
@@ -232,7 +239,7 @@ impl Incoming {
         ensures most { IfSome result (λ p. p.frames ≤ most) }
         ensures within { IfSome result (λ p. (0 < p.len) × (p.len ≤ length self.now.bytes)) }
         ensures full { buffer_length ≤ length self.now.bytes → 0 < most → gate ≡ Gate.Open → IsSome result }
-        ensures ends { self.now.cutting ≡ Cutting.Frames
+        ensures ends { (dialect : Dialect) → self.now.cutting ≡ Cutting.Frames dialect
             → IfSome result (λ p. IsTrue p.ends_frame ↔ (p.missing ≡ 0)) }
     {
         let waiting = self.waiting();
@@ -240,7 +247,7 @@ impl Incoming {
             return None;
         }
         match self.cutting {
-            Cutting::Frames => next_frames(waiting, self.missing, most, gate),
+            Cutting::Frames(dialect) => next_frames(dialect, waiting, self.missing, most, gate),
             Cutting::Reads => self.last(),
         }
     }

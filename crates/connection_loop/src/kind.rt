@@ -4,6 +4,7 @@ ghost use Rattle.std.specs.Prelude.{◌≡◌, drop};
 ghost use Rattle.connection_loop.specs.Kinds.{kind_of_frame, kind_of_request, request_at};
 
 use client_records::{ReadKind, RequestKind};
+use settings::Dialect;
 
 /// A longer ping or sync isn't one that may be held while others wait.
 const SHORT: usize = 256;
@@ -43,7 +44,12 @@ fn kind_of_request(kind: Option<RequestKind>, len: usize) -> FrameKind
         | RequestKind::Delete
         | RequestKind::SetData
         | RequestKind::SetAcl
-        | RequestKind::CloseSession => FrameKind::Forwarded,
+        | RequestKind::CloseSession
+        | RequestKind::Create2
+        | RequestKind::Reconfig
+        | RequestKind::CreateContainer
+        | RequestKind::DeleteContainer
+        | RequestKind::CreateTtl => FrameKind::Forwarded,
         RequestKind::Sync => {
             if len <= SHORT {
                 FrameKind::Forwarded
@@ -79,20 +85,22 @@ pub(crate) fn after_int(bytes: &[u8]) -> &[u8]
     }
 }
 
-// The type that the bytes begin with; `None` for one that isn't known, and where there are too few.
-fn request_at(bytes: &[u8]) -> Option<RequestKind>
-    ensures { result ≡ request_at bytes.now }
+// The type that the bytes begin with; `None` for one that the dialect doesn't know, and where there are too few.
+#[tactic(auto, unfolding(crate::specs::Kinds::request_at))]
+fn request_at(dialect: Dialect, bytes: &[u8]) -> Option<RequestKind>
+    ensures { result ≡ request_at dialect bytes.now }
 {
     match bytes.first_chunk::<4>() {
-        Some(code) => RequestKind::from_code(i32::from_be_bytes(*code)),
+        Some(code) => RequestKind::from_code(dialect, i32::from_be_bytes(*code)),
         None => None,
     }
 }
 
-/// The kind of a frame, without its length: its xid takes the first four bytes, and its type the next four. A frame that
-/// is too short for a type closes its connection.
-pub(crate) fn kind_of_frame(frame: &[u8]) -> FrameKind
-    ensures { result ≡ kind_of_frame frame.now }
+/// The kind of a frame, without its length: its xid takes the first four bytes, and its type the next four. The engine
+/// answers a frame of a type that the dialect doesn't know in its turn, and closes a connection whose frame is too short
+/// for a type.
+pub(crate) fn kind_of_frame(dialect: Dialect, frame: &[u8]) -> FrameKind
+    ensures { result ≡ kind_of_frame dialect frame.now }
 {
-    kind_of_request(request_at(after_int(frame)), frame.len())
+    kind_of_request(request_at(dialect, after_int(frame)), frame.len())
 }

@@ -1,11 +1,14 @@
-//! How long a client's connection may say nothing, or not read, and which four-letter words it may send.
+//! How long a client's connection may say nothing, or not read, and what it may send: which four-letter words, and the
+//! requests of which dialect.
 
 ghost use Rattle.std.specs.Prelude.{◌≡◌, ◌≢◌, Some, true, false};
 ghost use Rattle.four_letter.specs.declared.word.Word.{Word as TheWord};
 ghost use Rattle.four_letter.specs.Words.{word_of};
+ghost use Rattle.settings.specs.Dialects.{default_dialect};
 ghost use Rattle.connection_loop.specs.Limits.{has_word, allows_word};
 
 use four_letter::Word;
+use settings::Dialect;
 
 /// A set of four-letter words.
 #[derive(Clone, Copy, Debug, PartialEq, Eq)]
@@ -92,6 +95,8 @@ pub struct SessionLimits {
     pub closing: u64,
     /// A four-letter word that isn't among these is refused by a line of text.
     pub words: AllowedWords,
+    /// The dialect of its frames: which of them are for the leader depends on it.
+    pub dialect: Dialect,
 }
 
 impl SessionLimits {
@@ -99,12 +104,14 @@ impl SessionLimits {
     pub fn none() -> SessionLimits
         ensures times { (result.unconnected ≡ 0) × (result.unread ≡ 0) × (result.closing ≡ 0) }
         ensures words { (word : TheWord) → has_word result.words word ≡ true }
+        ensures dialect { result.dialect ≡ default_dialect }
     {
         SessionLimits {
             unconnected: 0,
             unread: 0,
             closing: 0,
             words: AllowedWords::all(),
+            dialect: Dialect::default(),
         }
     }
 }
@@ -121,6 +128,7 @@ impl Default for SessionLimits {
                 wchp: false,
                 ..AllowedWords::all()
             },
+            dialect: Dialect::default(),
         }
     }
 }

@@ -237,7 +237,7 @@ impl Session {
             // A connect begins with a zero.
             self.port.set_heavy(bytes.first() != Some(&0));
         } else if piece.frames > 0 {
-            self.port.set_heavy(ends_heavy(bytes));
+            self.port.set_heavy(ends_heavy(self.limits.dialect, bytes));
         }
     }
 
@@ -460,7 +460,8 @@ pub fn session_loop<T: Wait + Clock, R: Read + Rest + Drop, W: Write + Drop>(
     ahead: Arc<ReadsAhead, Global>,
 ) -> PortEnd {
     let places = OwnReadsAhead::new(Some(ahead));
-    let session = Session::new(rt, alloc, Cutting::Frames, limits, places, port);
+    let cutting = Cutting::Frames(limits.dialect);
+    let session = Session::new(rt, alloc, cutting, limits, places, port);
     let LeaderGone {
         port,
         fault: _,

@@ -46,6 +46,7 @@ impl Bounds {
                 unconnected: options.unconnected.saturating_mul(1000),
                 unread: u64::try_from(timeouts.greatest()).unwrap_or(0),
                 words: allowed(options.words),
+                dialect: options.dialect,
                 ..SessionLimits::default()
             },
             desk: Limits {

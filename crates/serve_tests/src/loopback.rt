@@ -6,6 +6,7 @@ use crate::rows::{
 };
 use mio::net::TcpListener as ClientListener;
 use serve::{Command, command_of, serve_on};
+use settings::Dialect;
 use std::alloc::Global;
 use std::io::{self, Read, Write};
 use std::net::{Ipv4Addr, Net, SocketAddr, SocketAddrV4, TcpListener, TcpStream};
@@ -51,23 +52,33 @@ fn connection<R: Net<Stream = TcpStream>>(rt: &R, port: u16) -> io::Result<TcpSt
 
 // Opens a session, which the leader creates when it is asked to, and reads the node. Returns whether the leader and the
 // client got what they expected.
-fn ask<R: Net<Stream = TcpStream>>(rt: &R, leader: &TcpStream, port: u16) -> io::Result<bool> {
+fn ask<R: Net<Stream = TcpStream>>(
+    rt: &R,
+    leader: &TcpStream,
+    port: u16,
+    dialect: Dialect,
+) -> io::Result<bool> {
     let stream = connection(rt, port)?;
     writes(&stream, connect())?;
     let is_asked = reads(leader, session_request())?;
     writes(leader, create_session())?;
-    let is_connected = reads(&stream, connected())?;
+    let is_connected = reads(&stream, connected(dialect))?;
     writes(&stream, get())?;
     Ok(reads(&stream, got_with_session())? && is_asked && is_connected)
 }
 
 // The leader's thread: it takes one observer, leads it, and leaves when a client has read the node.
-fn lead_one<R: Net<Stream = TcpStream>>(rt: &R, listener: TcpListener, port: u16) -> bool {
+fn lead_one<R: Net<Stream = TcpStream>>(
+    rt: &R,
+    listener: TcpListener,
+    port: u16,
+    dialect: Dialect,
+) -> bool {
     let Ok((stream, _)) = listener.accept() else {
         return false;
     };
     let is_led = lead(&stream).unwrap_or(false);
-    is_led && ask(rt, &stream, port).unwrap_or(false)
+    is_led && ask(rt, &stream, port, dialect).unwrap_or(false)
 }
 
 // Serves a leader and a client, as the words ask. Returns the exit status, and whether both got what they expected.
@@ -89,15 +100,16 @@ fn serve_one<
     let any = SocketAddr::V4(SocketAddrV4::new(Ipv4Addr::LOCALHOST, 0));
     let serving = ClientListener::bind(rt, any)?;
     let port = serving.local_addr()?.port();
-    let mine = *rt;
-    let leader = Builder::new()
-        .stack_size(256 * 1024)
-        .spawn(rt, move || lead_one(&mine, leading, port))?;
-    let stream = TcpStream::connect(rt, (Ipv4Addr::LOCALHOST, leader_port))?;
     let words = words_of(alloc, words)?;
     let Ok(Command::Serve(options)) = command_of(alloc, words.as_slice()) else {
         return Err(Fail::from("refused"));
     };
+    let mine = *rt;
+    let dialect = options.dialect;
+    let leader = Builder::new()
+        .stack_size(256 * 1024)
+        .spawn(rt, move || lead_one(&mine, leading, port, dialect))?;
+    let stream = TcpStream::connect(rt, (Ipv4Addr::LOCALHOST, leader_port))?;
     let status = serve_on(rt, alloc, &options, stream, serving);
     Ok((status, leader.join(rt)))
 }
@@ -115,7 +127,7 @@ fn words_of(alloc: Global, line: &str) -> Result<Vec<String>, Fail> {
 fn a_client_reads_what_the_leader_made(rt: HostRuntime) -> Result<(), Fail> {
     for words in [
         "--leader 1 --client 0 --counter 0",
-        "--leader 1 --client 0 --counter 0 --workers 1 --batch 1 --max-clients 1",
+        "--leader 1 --client 0 --counter 0 --dialect 3.4 --workers 1 --batch 1 --max-clients 1",
     ] {
         let (status, is_right) = serve_one(&rt, rt.alloc(), words)?;
         assert!(rt; is_right, "{words}");

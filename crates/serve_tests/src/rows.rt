@@ -1,5 +1,7 @@
 //! Bytes that were worked out by hand. They come from functions, so that no proof knows them.
 
+use settings::Dialect;
+
 /// The first packet of an observer with this server id.
 pub fn observer_info() -> &'static [u8] {
     b"\0\0\0\x10\0\0\0\0\0\0\0\0\0\0\0\x0c\0\0\0\0\0\0\0\x01\0\x01\0\0\xff\xff\xff\xff"
@@ -56,10 +58,19 @@ pub fn create_session() -> &'static [u8] {
     \0\0\0\x01\0\0\0\x02\0\0\0\0\0\0\x03\xe8\xff\xff\xff\xf6\0\0\x27\x10\xff\xff\xff\xff"
 }
 
-/// The answer to the connect, with the session's password.
-pub fn connected() -> &'static [u8] {
-    b"\0\0\0\x25\0\0\0\0\0\0\x27\x10\x01\0\0\0\0\0\0\x01\0\0\0\x10\
-    \xb2\x55\x6e\x64\x8a\xf6\x0c\x50\x3e\x95\xb6\x7c\x11\x24\x61\x8e\0"
+/// The answer to the connect, with the session's password: in the later dialect the one that any ZooKeeper server gives
+/// it.
+pub fn connected(dialect: Dialect) -> &'static [u8] {
+    match dialect {
+        Dialect::Zk34 => {
+            b"\0\0\0\x25\0\0\0\0\0\0\x27\x10\x01\0\0\0\0\0\0\x01\0\0\0\x10\
+            \xb2\x55\x6e\x64\x8a\xf6\x0c\x50\x3e\x95\xb6\x7c\x11\x24\x61\x8e\0"
+        }
+        Dialect::Zk38 => {
+            b"\0\0\0\x25\0\0\0\0\0\0\x27\x10\x01\0\0\0\0\0\0\x01\0\0\0\x10\
+            \x05\x4c\xc7\x4a\x37\x32\x7d\xb2\x15\xe7\x02\xe2\x0c\x73\xf0\x05\0"
+        }
+    }
 }
 
 /// A client's getData of /a, with xid 1 and without a watch.

@@ -8,14 +8,14 @@ use Rattle.connection_loop.proofs.incoming.next_frames.Goals as goal
 pub returns-then-waiting-lt-READ_LEN-clause-full : goal.returns-then-waiting-lt-READ_LEN-clause-full
 returns-then-waiting-lt-READ_LEN-clause-full c full some all =
     let bytes = c.args.waiting.now in
-    let whole : whole_frames_length (frames_going c.args.most c.args.gate bytes) bytes ≡ 0 =
+    let whole : whole_frames_length (frames_going c.args.dialect c.args.most c.args.gate bytes) bytes ≡ 0 =
     ap (λ m. whole_frames_length m bytes) (sym c.frames_going-frames.ensures.going) ∙ sym c.whole_frames-len.ensures
     ∙ omega (arith, c.if-len-gt0.false) in
     let longer : length bytes < first_frame_length bytes =
-    first_is_longer c.args.most c.args.gate bytes (λ i. (c.type_inv.waiting i).fits) (omega (arith, full)) some all
-    whole in
-    let begins : may_begin c.args.most c.args.gate bytes ≡ true =
-    may_begin_open c.args.most c.args.gate bytes some all in
+    first_is_longer c.args.dialect c.args.most c.args.gate bytes (λ i. (c.type_inv.waiting i).fits)
+    (omega (arith, full)) some all whole in
+    let begins : may_begin c.args.dialect c.args.most c.args.gate bytes ≡ true =
+    may_begin_open c.args.dialect c.args.most c.args.gate bytes some all in
     elim c.then-waiting-lt-READ_LEN.branch [
       | then-waiting-lt-READ_LEN-via-then-waiting-lt-READ_LEN w ↦
           absurd (omega (arith, full, w.if-waiting-lt-READ_LEN.true))
