@@ -9,8 +9,8 @@ ghost use Rattle.snapshot_codec.specs.declared.part.PartPhase.TheVariants.{Sessi
 
 use crate::part::{ImageAcl, ImageNode, ImageSession, PartPhase};
 use jute::{ReadRecord, Reader, StatPersisted, read_vector};
-use std::alloc::Global;
 use paths_and_acls::Path;
+use std::alloc::Global;
 use values::{Blob, Fault, ReadError};
 
 /// The text that ends an image.

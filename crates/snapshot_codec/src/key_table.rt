@@ -11,9 +11,9 @@ use crate::fits::fits_list;
 use crate::write_error::WriteError;
 use data_tree::Node;
 use jute::{Acl, COUNT_LIMIT, put_int, put_items, put_long};
+use paths_and_acls::AclList;
 use std::alloc::Global;
 use std::collections::BTreeMap;
-use paths_and_acls::AclList;
 use values::NoMemory;
 
 /// The key of the open list, which isn't written in an image.
