@@ -26,8 +26,10 @@ pub returns-in_ok-seen-in-Reply : goal.returns-in_ok-seen-in-Reply
 returns-in_ok-seen-in-Reply c =
     let here = c.in-Some.ensures
     ∙ ap (λ (s : StepResult World). slice_get s.after.replica.learner.log c.args.place) c.stage.view_is in
+    let stays = sym c.has_moved.ensures
+    ∙ ap (λ (s : StepResult World). has_moved s.after c.args.error) c.stage.view_is in
     let new = c.answer_write.new.stage in
     subst (λ (h : StepResult World). MeetsStep c.answer_write.result c.args.stage.now.outputs h new.outputs new.after)
     (sym (one_write c.args.stage.now.after c.args.place c.args.error c.in-Some.txn.now here c.in-Reply.number
-    c.in-Reply.write (sym c.in-Reply.is ∙ c.requires) c.in_ok-seen-in-Reply.seen (search rules)))
+    c.in-Reply.write (sym c.in-Reply.is ∙ c.requires) (search rules) c.in_ok-seen-in-Reply.seen (search rules)))
     c.answer_write.ensures
