@@ -5,7 +5,7 @@ use Rattle.values.proofs.Gaining.{gains_nothing}
 use Rattle.world.specs.World.{World}
 use Rattle.world.specs.Steps.{StepResult}
 use Rattle.world.specs.Results.{MeetsStep}
-use Rattle.leader_answers.specs.Answering.{answer_applied_txn}
+use Rattle.leader_answers.specs.Answering.{has_moved, answer_applied_txn}
 use Rattle.leader_answers.proofs.Turns.{one_write, write_is_at}
 use Rattle.leader_answers.proofs.txn.answer_applied_txn.Goals as goal
 
