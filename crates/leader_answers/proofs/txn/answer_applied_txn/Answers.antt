@@ -1,4 +1,4 @@
-use Rattle.std.proofs.Common.{rules, ◌≡◌, Some, sym, ap, subst, ◌∙◌}
+use Rattle.std.proofs.Common.{rules, ◌≡◌, false, sym, ap, subst, ◌∙◌, w32, to_z, of_z}
 use Rattle.std.specs.List.{slice_get}
 use Rattle.std.proofs.lemmas.Result.{err_from_is_err_and}
 use Rattle.values.proofs.Gaining.{gains_nothing}
@@ -26,10 +26,14 @@ pub returns-in_ok-seen-in-Reply : goal.returns-in_ok-seen-in-Reply
 returns-in_ok-seen-in-Reply c =
     let here = c.in-Some.ensures
     ∙ ap (λ (s : StepResult World). slice_get s.after.replica.learner.log c.args.place) c.stage.view_is in
-    let stays = sym c.has_moved.ensures
+    let err = to_z w32 (of_z w32 c.args.error) in
+    let same : err ≡ c.args.error = search rules in
+    let answered : c.has_moved.result ≡ has_moved c.args.stage.now.after c.args.error =
+    c.has_moved.ensures ∙ ap (has_moved c.stage.inside.world) same
     ∙ ap (λ (s : StepResult World). has_moved s.after c.args.error) c.stage.view_is in
+    let not_moved : c.has_moved.result ≡ false = search rules in
     let new = c.answer_write.new.stage in
     subst (λ (h : StepResult World). MeetsStep c.answer_write.result c.args.stage.now.outputs h new.outputs new.after)
     (sym (one_write c.args.stage.now.after c.args.place c.args.error c.in-Some.txn.now here c.in-Reply.number
-    c.in-Reply.write (sym c.in-Reply.is ∙ c.requires) (search rules) c.in_ok-seen-in-Reply.seen (search rules)))
+    c.in-Reply.write (sym c.in-Reply.is ∙ c.requires) (sym answered ∙ not_moved) c.in_ok-seen-in-Reply.seen (search rules)))
     c.answer_write.ensures
