@@ -639,7 +639,11 @@ module _ (stays : ServingStays) (dialects : DialectStays) (laws : LowerLaws) whe
   live_kept =
       let kept = served_kept stays laws in
       record {
-        meets = λ w h. (kept.meets w h.0, h.1);
+        meets = λ w h. (
+          kept.meets w h.0,
+          λ stay. h.1 (ap (λ (dialect : Dialect). (reads_of dialect).moved_sessions)
+              (sym (dialects.begins w.replica w.settings.server_id)) ∙ stay),
+        );
         effects = λ loading w i t e h. (kept.effects loading w i t e h.0, effect_lives loading w i t e h);
         gone = λ w h. (
           kept.gone w h.0,
