@@ -1,9 +1,9 @@
 -- The worked rows of requests that are forwarded to the leader by a server 3, and answered by its stream.
-use Rattle.std.proofs.Common.{◌≡◌, ℕ, ◌+◌, suc, List, [], ◌∷◌, ◌++◌, length, not, Option, Some, None, Result, Ok, true, false, cond, refl, sym, ap, ◌∙◌, arith, rules}
+use Rattle.std.proofs.Common.{◌≡◌, ◌&&◌, ℕ, ◌+◌, suc, List, [], ◌∷◌, ◌++◌, length, not, Option, Some, None, Result, Ok, Bool, true, false, cond, refl, sym, ap, ◌∙◌, arith, rules}
 use Rattle.std.specs.Prelude.{ℤ, pos, negsuc, codes, is_some}
 use Rattle.std.specs.FinMap as finmap
 use Rattle.std.specs.FinSet as set
-use Rattle.std.specs.Ordering.{nat_cmp, int_cmp}
+use Rattle.std.specs.Ordering.{nat_cmp, int_cmp, int_eq}
 use Rattle.std.proofs.lemmas.Cmp.{int_cmp_total}
 use Rattle.std.proofs.lemmas.Str.{is_utf8-from_IsUtf8}
 use Rattle.values.specs.Hex.{hex_bytes}
@@ -14,6 +14,7 @@ use Rattle.jute.specs.Owned.{id_format, acl_format}
 use Rattle.jute.specs.Records.{request_header, reply_header}
 use Rattle.jute.specs.declared.owned.Id.{Id}
 use Rattle.jute.specs.Stream.{Items, items_within, items_in, place_at}
+use Rattle.client_records.specs.declared.codes.TheConstants.{SESSION_MOVED}
 use Rattle.client_records.specs.declared.kind.RequestKind.TheVariants as kinds
 use Rattle.client_records.specs.Kinds.{kind_of as request_kind_of, request_kind_in}
 use Rattle.client_records.specs.Requests.{path_alone}
@@ -26,6 +27,7 @@ use Rattle.quorum_packet.specs.declared.phase.Phase.TheVariants.{Packets}
 use Rattle.quorum_packet.specs.Kinds.{kind_of}
 use Rattle.quorum_packet.specs.Packet.{packet_format}
 use Rattle.quorum_packet.specs.Items.{items_shown_at}
+use Rattle.settings.specs.Dialects.{reads_of}
 use Rattle.settings.specs.declared.dialect.Dialect.{Dialect}
 use Rattle.settings.specs.declared.dialect.Dialect.TheVariants.{Zk34}
 use Rattle.txn_codec.specs.declared.txn.TxnHeader.{TxnHeader}
@@ -59,9 +61,9 @@ use Rattle.world.specs.declared.output.Output.{Output}
 use Rattle.world.specs.declared.output.Output.TheVariants.{ToLeader, ToClient}
 use Rattle.world.specs.World.{World}
 use Rattle.world.specs.Steps.{StepResult, prepend_outputs, no_output, and_then, fold_steps}
-use Rattle.world.specs.Sending.{to_leader, send_or_close, with_pending}
+use Rattle.world.specs.Sending.{to_leader, close_client, send_or_close, with_pending}
 use Rattle.client_service.specs.Serve.{forward_frame, serve_as, serve_frame, frames_of_client}
-use Rattle.leader_answers.specs.Answering.{answer_up_to, answer_front, answer_if_ready, answer_ready, txn_number, reply_as, reply_of, give_answer, answer_applied_txn, answer_sync}
+use Rattle.leader_answers.specs.Answering.{answer_up_to, answer_front, answer_if_ready, answer_ready, txn_number, reply_as, reply_of, send_write_reply, give_answer, answer_applied_txn, answer_sync}
 use Rattle.write_replies.specs.Replies.{write_look}
 use Rattle.world.proofs.NatMaps.{get-inserted, get-removed}
 use Rattle.observer_core.specs.declared.event.Event.{Event}
@@ -80,6 +82,10 @@ first_id = pos 216172782113783809
 -- Those of server 3, whose session ids begin with the counter 1.
 abbrev pub IsThird : Settings → Type 0
 IsThird settings = (settings.server_id ≡ pos 3) × (settings.first_counter ≡ 0)
+
+-- Sessions don't move between servers.
+abbrev pub SessionsStay : Settings → Type 0
+SessionsStay settings = (reads_of settings.dialect).moved_sessions ≡ false
 
 pub id_is : (settings : Settings) → IsThird settings → primed_session settings ≡ first_id
 unfolding session_id_of
@@ -268,7 +274,8 @@ abbrev replying : List ℕ → World → StepResult World
 replying reply w = record { outputs = ToClient 1 reply ∷ []; after = w }
 
 -- A transaction of the create answers it.
-module _ (settings : Settings) (three : IsThird settings) (operation : Operation) (reply : List ℕ) where
+module _ (settings : Settings) (stay : SessionsStay settings) (three : IsThird settings) (operation : Operation)
+    (reply : List ℕ) where
   abbrev t : Txn
   t = record { header = header; body = bodies.Single operation }
 
@@ -288,6 +295,8 @@ module _ (settings : Settings) (three : IsThird settings) (operation : Operation
   answered err answers none replies =
       ap (λ (o : Option ℕ). give_answer applied t err (reply_of applied.clients t o)) (connected settings three)
       ∙ ap (λ (write : Option AnsweredWrite). give_answer applied t err (reply_as 1 write)) answers
+      ∙ ap (λ (moves : Bool). cond (moves && int_eq err SESSION_MOVED) (close_client 1 applied)
+      (send_write_reply 1 applied t err writes.Create)) stay
       ∙ ap (λ (f : Option (List ℕ)). and_then (send_or_close 1 (with_pending applied left) f) (answer_front 1)) replies
       ∙ ap (prepend_outputs (ToClient 1 reply ∷ [])) (front_over (with_pending applied left) 1023 empty)
     where
@@ -324,31 +333,31 @@ error_replied : reply_frame (pos 4) (pos 4294967297) (without_body (negsuc 109))
 unfolding reply_header number_bytes
 error_replied = refl
 
-pub create_answered : (again : ReadAgain) (nobody : NobodyTold) (settings : Settings) → IsThird settings
+pub create_answered : (again : ReadAgain) (nobody : NobodyTold) (settings : Settings) → SessionsStay settings → IsThird settings
     → (play (earlier_machine settings) (ClientBytes 1 framed_create ∷ LeaderBytes inform_of_forwarded ∷ [])).outputs
     ≡ ToLeader request_of_create ∷ ToClient 1 reply_of_forwarded ∷ []
-create_answered again nobody settings three =
+create_answered again nobody settings stay three =
     let err = (answer_of (effect_of_txn (start settings) create_txn)).err in
     let tree = (effect_of_txn (start settings) create_txn).state in
     both_come settings framed_create inform_of_forwarded request_of_create reply_of_forwarded (create_waits settings) _
     (create_comes settings three)
-    (txn_comes settings three (operations.Create create_body) reply_of_forwarded again nobody inform_of_forwarded
+    (txn_comes settings stay three (operations.Create create_body) reply_of_forwarded again nobody inform_of_forwarded
     create_fits create_found
-    (answered settings three (operations.Create create_body) reply_of_forwarded err
+    (answered settings stay three (operations.Create create_body) reply_of_forwarded err
     (ap (λ (q : RequestQueue). found_write q (pos 4) (txn_number create_txn)) (queue_is 1 waiting_write))
     (ap (λ (q : RequestQueue). after_answer q (pos 4) (txn_number create_txn)) (queue_is 1 waiting_write))
     (ap (λ (e : ℤ). reply_frame (pos 4) (pos 4294967297) (write_look tree writes.Create create_txn.body e))
     (create_error settings) ∙ create_replied)))
 
-pub error_answered : (again : ReadAgain) (nobody : NobodyTold) (settings : Settings) → IsThird settings
+pub error_answered : (again : ReadAgain) (nobody : NobodyTold) (settings : Settings) → SessionsStay settings → IsThird settings
     → (play (earlier_machine settings) (ClientBytes 1 framed_create ∷ LeaderBytes inform_of_error ∷ [])).outputs
     ≡ ToLeader request_of_create ∷ ToClient 1 reply_of_error ∷ []
-error_answered again nobody settings three =
+error_answered again nobody settings stay three =
     both_come settings framed_create inform_of_error request_of_create reply_of_error (create_waits settings) _
     (create_comes settings three)
-    (txn_comes settings three (operations.Error (negsuc 109)) reply_of_error again nobody inform_of_error error_fits
+    (txn_comes settings stay three (operations.Error (negsuc 109)) reply_of_error again nobody inform_of_error error_fits
     error_found
-    (answered settings three (operations.Error (negsuc 109)) reply_of_error (negsuc 109)
+    (answered settings stay three (operations.Error (negsuc 109)) reply_of_error (negsuc 109)
     (ap (λ (q : RequestQueue). found_write q (pos 4) (txn_number error_txn)) (queue_is 1 waiting_write))
     (ap (λ (q : RequestQueue). after_answer q (pos 4) (txn_number error_txn)) (queue_is 1 waiting_write))
     error_replied))

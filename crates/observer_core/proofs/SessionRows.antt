@@ -82,7 +82,7 @@ use Rattle.observer_core.specs.Leader.{item_step, part_reader, with_leader, take
 use Rattle.observer_core.specs.Play.{play_event, play, primed_session, first_client}
 use Rattle.observer_core.specs.Rows.{client_ping, reply_of_ping, leader_ping, answer_with_first, answer_with_none, connect_frame, request_of_session, inform_of_session, response_of_session}
 use Rattle.observer_core.proofs.Rows.{earlier_machine, ReadAgain, NobodyTold, start, one_packet, packet_of, one_frame, pending_at, idle_at, heard_in_world, served_at, handled_at, open_with, at_first, clients_at, heard, nobody_yet, first_timeout, joined_first, world_with, world_at, beginning, led, one_delivered, told, told_by, inform_comes, in_hand, with_connections, frame_served, first_open}
-use Rattle.observer_core.proofs.ForwardedRows.{first_id, IsThird, id_is, waiting_world, waiting_machine, once_heard, queue_is, one_item_comes}
+use Rattle.observer_core.proofs.ForwardedRows.{first_id, IsThird, SessionsStay, id_is, waiting_world, waiting_machine, once_heard, queue_is, one_item_comes}
 
 -- ---- a client is heard, and the leader is told
 
@@ -143,10 +143,6 @@ ping_taken : (settings : Settings) (pending : PendingTable) →
     item_step (led w) (item.Packet leaders_ping) ≡ told [] (answer_ping w leaders_ping)
 unfolding kind_of
 ping_taken settings pending = refl
-
--- Sessions don't move between servers.
-abbrev pub SessionsStay : Settings → Type 0
-SessionsStay settings = (reads_of settings.dialect).moved_sessions ≡ false
 
 ping_is_told : (settings : Settings) (pending : PendingTable) → SessionsStay settings
     → play_event (waiting_machine settings pending) (LeaderBytes leader_ping)
@@ -252,7 +248,7 @@ first_is_told settings stay three terms secretless =
     told_from : ℤ → ℤ → TakenTouched × TakenTouched
     told_from id longest =
         let once = take_touched (pending_at (set.insert set.empty id)) (finmap.get (timeouts id longest)) in
-        (once, take_touched once.after (timeouts id longest))
+        (once, take_touched once.after (finmap.get (timeouts id longest)))
 
     answers : TakenTouched × TakenTouched → List Output
     answers both = ToClient 1 reply_of_ping ∷ answer_with both.0.rows ∷ answer_with both.1.rows ∷ []
@@ -296,7 +292,8 @@ module _ (settings : Settings) where
   -- The sessions once connection 1 has the first one, with so many ids given out.
   abbrev sessions_after : ℕ → SessionTable
   sessions_after counter =
-      record (with_session_connected (nobody_yet settings) 1 (primed_session settings)) { counter = counter }
+      record (with_session_connected (nobody_yet settings) 1 (primed_session settings) (first_timeout settings))
+      { counter = counter }
 
   primed_sessions : settings.first_counter ≡ 0 → (first_client settings).sessions ≡ sessions_after 1
   primed_sessions begins =
@@ -375,12 +372,6 @@ module _ (settings : Settings) where
       and-false true = refl
       and-false false = refl
 
-      -- The session 0 is no claim.
-      by_claim : Bool → StepResult World
-      by_claim claims = cond claims
-          (claim_or_refuse 2 false w (claimed_session w.clients.sessions (session_request_of request)))
-          (finishing (session_id_of settings.server_id 2) (clamped_timeout settings.timeouts (pos 10000)))
-
       response : ℤ → ℤ → SessionResponse
       response id time_out =
           record { time_out = time_out; session_id = id; password = password_of passwords id }
@@ -390,6 +381,12 @@ module _ (settings : Settings) where
         connected = record { response = response id time_out; older = None };
         after = sessions_after 2;
       })
+
+      -- The session 0 is no claim.
+      by_claim : Bool → StepResult World
+      by_claim claims = cond claims
+          (claim_or_refuse 2 false w (claimed_session w.clients.sessions (session_request_of request)))
+          (finishing (session_id_of settings.server_id 2) (clamped_timeout settings.timeouts (pos 10000)))
 
       asks : Bool → StepResult World
       asks taken = cond taken
