@@ -95,7 +95,8 @@ rows_hold again nobody rows = record {
       (create_inform_event ∷ get_data_event ∷ []) _ is
       (ap (λ (h : StepResult Machine). h.outputs) (create_get again nobody settings []));
   set_then_get = λ settings is. in_earlier settings
-      (create_inform_event ∷ get_data_event ∷ set_data_inform_event ∷ get_data_event ∷ []) _ is (ap (λ (h : StepResult Machine). h.outputs)
+      (create_inform_event ∷ get_data_event ∷ set_data_inform_event ∷ get_data_event ∷ []) _ is
+      (ap (λ (h : StepResult Machine). h.outputs)
       (create_get again nobody settings (set_data_inform_event ∷ get_data_event ∷ [])
       ∙ ap (prepend_outputs (ToClient 1 reply_of_create ∷ []))
       (set_get again nobody settings (heard settings set.empty))));
