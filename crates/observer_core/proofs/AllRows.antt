@@ -6,6 +6,7 @@ use Rattle.std.specs.FinSet as set
 use Rattle.std.specs.Ordering.{nat_cmp}
 use Rattle.settings.specs.Dialects.{reads_of}
 use Rattle.settings.specs.declared.dialect.Dialect.{Dialect}
+use Rattle.settings.specs.declared.dialect.Dialect.TheVariants.{Zk34}
 use Rattle.values.specs.declared.fault.Fault.TheVariants.{BadLength}
 use Rattle.jute.specs.Frame.{frame_at}
 use Rattle.jute.specs.Format.{judged_at}
@@ -28,7 +29,7 @@ use Rattle.observer_core.specs.Rows.{reply_of_create, create_inform_event, set_d
 use Rattle.world.proofs.NatMaps.{get-inserted}
 use Rattle.observer_core.proofs.Rows.{earlier_machine, in_earlier, ReadAgain, NobodyTold, start, idle_at, heard, world_at, at_frames, in_hand, left_at, first_open}
 use Rattle.observer_core.proofs.WatchRows.{create_get, set_get, cut_get, create_twice, closed_passes, watch_told, idle_is}
-use Rattle.observer_core.proofs.ForwardedRows.{create_answered, error_answered, sync_answers}
+use Rattle.observer_core.proofs.ForwardedRows.{SessionsStay, create_answered, error_answered, sync_answers}
 use Rattle.observer_core.proofs.SessionRows.{session_is_created, first_is_told}
 
 -- ---- connection 2 begins with a word, and no leader was followed
@@ -84,13 +85,18 @@ letters_close settings =
 
 -- ---- all of them
 
+-- In ZooKeeper 3.4 sessions don't move.
+stays : (settings : Settings) → settings.dialect ≡ Zk34 → SessionsStay settings
+stays settings is = ap (λ (dialect : Dialect). (reads_of dialect).moved_sessions) is
+
 pub rows_hold : ReadAgain → NobodyTold → FiringRows → WorkedRows
 rows_hold again nobody rows = record {
   create_then_get = λ settings is. in_earlier settings
       (create_inform_event ∷ get_data_event ∷ []) _ is
       (ap (λ (h : StepResult Machine). h.outputs) (create_get again nobody settings []));
   set_then_get = λ settings is. in_earlier settings
-      (create_inform_event ∷ get_data_event ∷ set_data_inform_event ∷ get_data_event ∷ []) _ is (ap (λ (h : StepResult Machine). h.outputs)
+      (create_inform_event ∷ get_data_event ∷ set_data_inform_event ∷ get_data_event ∷ []) _ is
+      (ap (λ (h : StepResult Machine). h.outputs)
       (create_get again nobody settings (set_data_inform_event ∷ get_data_event ∷ [])
       ∙ ap (prepend_outputs (ToClient 1 reply_of_create ∷ []))
       (set_get again nobody settings (heard settings set.empty))));
@@ -105,10 +111,10 @@ rows_hold again nobody rows = record {
       (ap (λ (h : StepResult Machine). h.outputs) (watch_told again nobody rows settings));
   forwarded_create = λ settings is three begins. in_earlier settings
       (ClientBytes 1 framed_create ∷ LeaderBytes inform_of_forwarded ∷ []) _ is
-      (create_answered again nobody settings (three, begins));
+      (create_answered again nobody settings (stays settings is) (three, begins));
   failed_create = λ settings is three begins. in_earlier settings
       (ClientBytes 1 framed_create ∷ LeaderBytes inform_of_error ∷ []) _ is
-      (error_answered again nobody settings (three, begins));
+      (error_answered again nobody settings (stays settings is) (three, begins));
   forwarded_sync = λ settings is three begins. in_earlier settings
       (ClientBytes 1 sync_frame ∷ LeaderBytes sync_packet ∷ []) _ is (sync_answers settings (three, begins));
   new_session = λ settings is three begins terms secretless. in_earlier settings
@@ -116,8 +122,7 @@ rows_hold again nobody rows = record {
       (session_is_created again nobody settings is (three, begins) terms secretless);
   heard_session = λ settings is three begins terms secretless. in_earlier settings
       (ClientBytes 1 client_ping ∷ LeaderBytes leader_ping ∷ LeaderBytes leader_ping ∷ []) _ is
-      (first_is_told settings (ap (λ (dialect : Dialect). (reads_of dialect).moved_sessions) is) (three, begins) terms
-      secretless);
+      (first_is_told settings (stays settings is) (three, begins) terms secretless);
   nothing = λ settings is. refl;
   idle = λ settings. idle_is settings;
   ruok = λ settings. word_comes settings (codes "ruok");

@@ -1,19 +1,19 @@
 -- The worked rows of requests that are forwarded to the leader by a server 3, and answered by its stream.
-use Rattle.std.proofs.Common.{◌≡◌, ℕ, ◌+◌, suc, List, [], ◌∷◌, ◌++◌, length, not, Option, Some, None, Result, Ok, true, false, cond, refl, sym, ap, ◌∙◌, arith, rules}
-use Rattle.std.specs.Prelude.{ℤ, pos, negsuc, codes, is_some}
+use Rattle.std.proofs.Common.{◌≡◌, ◌&&◌, ℕ, ◌+◌, suc, List, [], ◌∷◌, ◌++◌, Option, Some, None, Ok, Bool, true, false, cond, refl, ap, ◌∙◌, arith, rules}
+use Rattle.std.specs.Prelude.{ℤ, pos, negsuc, codes}
 use Rattle.std.specs.FinMap as finmap
 use Rattle.std.specs.FinSet as set
-use Rattle.std.specs.Ordering.{nat_cmp, int_cmp}
+use Rattle.std.specs.Ordering.{nat_cmp, int_cmp, int_eq}
 use Rattle.std.proofs.lemmas.Cmp.{int_cmp_total}
 use Rattle.std.proofs.lemmas.Str.{is_utf8-from_IsUtf8}
 use Rattle.values.specs.Hex.{hex_bytes}
 use Rattle.jute.specs.Format.{judged_at, buffer_at, vector_at, read_n, number_bytes}
-use Rattle.jute.specs.Codes.{open_acl}
 use Rattle.jute.specs.Frame.{frame_at}
 use Rattle.jute.specs.Owned.{id_format, acl_format}
 use Rattle.jute.specs.Records.{request_header, reply_header}
 use Rattle.jute.specs.declared.owned.Id.{Id}
 use Rattle.jute.specs.Stream.{Items, items_within, items_in, place_at}
+use Rattle.client_records.specs.declared.codes.TheConstants.{SESSION_MOVED}
 use Rattle.client_records.specs.declared.kind.RequestKind.TheVariants as kinds
 use Rattle.client_records.specs.Kinds.{kind_of as request_kind_of, request_kind_in}
 use Rattle.client_records.specs.Requests.{path_alone}
@@ -26,10 +26,10 @@ use Rattle.quorum_packet.specs.declared.phase.Phase.TheVariants.{Packets}
 use Rattle.quorum_packet.specs.Kinds.{kind_of}
 use Rattle.quorum_packet.specs.Packet.{packet_format}
 use Rattle.quorum_packet.specs.Items.{items_shown_at}
+use Rattle.settings.specs.Dialects.{reads_of}
 use Rattle.settings.specs.declared.dialect.Dialect.{Dialect}
 use Rattle.settings.specs.declared.dialect.Dialect.TheVariants.{Zk34}
 use Rattle.txn_codec.specs.declared.txn.TxnHeader.{TxnHeader}
-use Rattle.txn_codec.specs.declared.txn.Body.{Body}
 use Rattle.txn_codec.specs.declared.txn.Body.TheVariants as bodies
 use Rattle.txn_codec.specs.declared.txn.Operation.{Operation}
 use Rattle.txn_codec.specs.declared.txn.Operation.TheVariants as operations
@@ -51,23 +51,20 @@ use Rattle.forwarding.specs.State.{PendingTable}
 use Rattle.forwarding.specs.Pending.{queue_in, queue_of, put_queue, push_write, push_sync, unsettled_sync, answer_write, take_ready}
 use Rattle.read_processor.specs.Look.{look_of_path, without_body}
 use Rattle.read_processor.specs.Reply.{reply_frame}
-use Rattle.client_frames.specs.declared.call.Call.{Call}
 use Rattle.client_frames.specs.declared.call.CallBody.TheVariants.{Forward, Sync}
 use Rattle.client_frames.specs.Call.{call_in, call_after_header, call_body, sync_of, value_if_read}
 use Rattle.world.specs.declared.world.Settings.{Settings}
-use Rattle.world.specs.declared.output.Output.{Output}
 use Rattle.world.specs.declared.output.Output.TheVariants.{ToLeader, ToClient}
 use Rattle.world.specs.World.{World}
 use Rattle.world.specs.Steps.{StepResult, prepend_outputs, no_output, and_then, fold_steps}
-use Rattle.world.specs.Sending.{to_leader, send_or_close, with_pending}
+use Rattle.world.specs.Sending.{close_client, send_or_close, with_pending}
 use Rattle.client_service.specs.Serve.{forward_frame, serve_as, serve_frame, frames_of_client}
-use Rattle.leader_answers.specs.Answering.{answer_up_to, answer_front, answer_if_ready, answer_ready, txn_number, reply_as, reply_of, give_answer, answer_applied_txn, answer_sync}
+use Rattle.leader_answers.specs.Answering.{answer_up_to, answer_front, answer_if_ready, txn_number, reply_as, reply_of, send_write_reply, give_answer, answer_applied_txn, answer_sync}
 use Rattle.write_replies.specs.Replies.{write_look}
 use Rattle.world.proofs.NatMaps.{get-inserted, get-removed}
-use Rattle.observer_core.specs.declared.event.Event.{Event}
 use Rattle.observer_core.specs.declared.event.Event.TheVariants.{LeaderBytes, ClientBytes}
 use Rattle.observer_core.specs.Machine.{Machine}
-use Rattle.observer_core.specs.Leader.{item_step, deliver_item, is_refused, part_reader, leader_at, with_leader_or_fault, place_after, with_leader, take_leader_bytes}
+use Rattle.observer_core.specs.Leader.{item_step, deliver_item, is_refused, part_reader, leader_at, with_leader_or_fault, place_after, take_leader_bytes}
 use Rattle.observer_core.specs.Play.{play_event, play, primed_session, first_client}
 use Rattle.observer_core.specs.Rows.{framed_create, request_of_create, inform_of_forwarded, reply_of_forwarded, inform_of_error, reply_of_error, sync_frame, request_of_sync, sync_packet, reply_of_sync}
 use Rattle.observer_core.proofs.Rows.{earlier_machine, ReadAgain, NobodyTold, path_is_text, world_is_text, anyone_is_text, text_fits, create_body, root, root_there, name_free, start, packet_of, one_packet, one_frame, pending_at, heard, nobody_yet, clients_at, joined_first, no_ids_first, world_with, world_at, beginning, led, one_delivered, told, told_by, inform_comes, in_hand, frame_served, first_open, served_at}
@@ -80,6 +77,10 @@ first_id = pos 216172782113783809
 -- Those of server 3, whose session ids begin with the counter 1.
 abbrev pub IsThird : Settings → Type 0
 IsThird settings = (settings.server_id ≡ pos 3) × (settings.first_counter ≡ 0)
+
+-- Sessions don't move between servers.
+abbrev pub SessionsStay : Settings → Type 0
+SessionsStay settings = (reads_of settings.dialect).moved_sessions ≡ false
 
 pub id_is : (settings : Settings) → IsThird settings → primed_session settings ≡ first_id
 unfolding session_id_of
@@ -268,7 +269,8 @@ abbrev replying : List ℕ → World → StepResult World
 replying reply w = record { outputs = ToClient 1 reply ∷ []; after = w }
 
 -- A transaction of the create answers it.
-module _ (settings : Settings) (three : IsThird settings) (operation : Operation) (reply : List ℕ) where
+module _ (settings : Settings) (stay : SessionsStay settings) (three : IsThird settings) (operation : Operation)
+    (reply : List ℕ) where
   abbrev t : Txn
   t = record { header = header; body = bodies.Single operation }
 
@@ -288,6 +290,8 @@ module _ (settings : Settings) (three : IsThird settings) (operation : Operation
   answered err answers none replies =
       ap (λ (o : Option ℕ). give_answer applied t err (reply_of applied.clients t o)) (connected settings three)
       ∙ ap (λ (write : Option AnsweredWrite). give_answer applied t err (reply_as 1 write)) answers
+      ∙ ap (λ (moves : Bool). cond (moves && int_eq err SESSION_MOVED) (close_client 1 applied)
+      (send_write_reply 1 applied t err writes.Create)) stay
       ∙ ap (λ (f : Option (List ℕ)). and_then (send_or_close 1 (with_pending applied left) f) (answer_front 1)) replies
       ∙ ap (prepend_outputs (ToClient 1 reply ∷ [])) (front_over (with_pending applied left) 1023 empty)
     where
@@ -324,31 +328,33 @@ error_replied : reply_frame (pos 4) (pos 4294967297) (without_body (negsuc 109))
 unfolding reply_header number_bytes
 error_replied = refl
 
-pub create_answered : (again : ReadAgain) (nobody : NobodyTold) (settings : Settings) → IsThird settings
+pub create_answered : (again : ReadAgain) (nobody : NobodyTold) (settings : Settings) → SessionsStay settings
+    → IsThird settings
     → (play (earlier_machine settings) (ClientBytes 1 framed_create ∷ LeaderBytes inform_of_forwarded ∷ [])).outputs
     ≡ ToLeader request_of_create ∷ ToClient 1 reply_of_forwarded ∷ []
-create_answered again nobody settings three =
+create_answered again nobody settings stay three =
     let err = (answer_of (effect_of_txn (start settings) create_txn)).err in
     let tree = (effect_of_txn (start settings) create_txn).state in
     both_come settings framed_create inform_of_forwarded request_of_create reply_of_forwarded (create_waits settings) _
     (create_comes settings three)
-    (txn_comes settings three (operations.Create create_body) reply_of_forwarded again nobody inform_of_forwarded
+    (txn_comes settings stay three (operations.Create create_body) reply_of_forwarded again nobody inform_of_forwarded
     create_fits create_found
-    (answered settings three (operations.Create create_body) reply_of_forwarded err
+    (answered settings stay three (operations.Create create_body) reply_of_forwarded err
     (ap (λ (q : RequestQueue). found_write q (pos 4) (txn_number create_txn)) (queue_is 1 waiting_write))
     (ap (λ (q : RequestQueue). after_answer q (pos 4) (txn_number create_txn)) (queue_is 1 waiting_write))
     (ap (λ (e : ℤ). reply_frame (pos 4) (pos 4294967297) (write_look tree writes.Create create_txn.body e))
     (create_error settings) ∙ create_replied)))
 
-pub error_answered : (again : ReadAgain) (nobody : NobodyTold) (settings : Settings) → IsThird settings
+pub error_answered : (again : ReadAgain) (nobody : NobodyTold) (settings : Settings) → SessionsStay settings
+    → IsThird settings
     → (play (earlier_machine settings) (ClientBytes 1 framed_create ∷ LeaderBytes inform_of_error ∷ [])).outputs
     ≡ ToLeader request_of_create ∷ ToClient 1 reply_of_error ∷ []
-error_answered again nobody settings three =
+error_answered again nobody settings stay three =
     both_come settings framed_create inform_of_error request_of_create reply_of_error (create_waits settings) _
     (create_comes settings three)
-    (txn_comes settings three (operations.Error (negsuc 109)) reply_of_error again nobody inform_of_error error_fits
-    error_found
-    (answered settings three (operations.Error (negsuc 109)) reply_of_error (negsuc 109)
+    (txn_comes settings stay three (operations.Error (negsuc 109)) reply_of_error again nobody inform_of_error
+    error_fits error_found
+    (answered settings stay three (operations.Error (negsuc 109)) reply_of_error (negsuc 109)
     (ap (λ (q : RequestQueue). found_write q (pos 4) (txn_number error_txn)) (queue_is 1 waiting_write))
     (ap (λ (q : RequestQueue). after_answer q (pos 4) (txn_number error_txn)) (queue_is 1 waiting_write))
     error_replied))
@@ -457,7 +463,8 @@ module _ (settings : Settings) where
 
       none_left : queue_of taken.clients.pending 1 ≡ []
       none_left =
-          ap (λ (q : RequestQueue). queue_of (put_queue (after_sync settled) 1 (without_front_if (ready_request q) q)) 1)
+          ap
+          (λ (q : RequestQueue). queue_of (put_queue (after_sync settled) 1 (without_front_if (ready_request q) q)) 1)
           settled_front
           ∙ ap queue_in (get-removed (after_sync settled).queues 1)
 
@@ -467,4 +474,5 @@ pub sync_answers : (settings : Settings) → IsThird settings
 sync_answers settings three =
     both_come settings sync_frame sync_packet request_of_sync reply_of_sync (sync_waits settings) _
     (sync_comes settings three)
-    (packet_comes settings ∙ ap (λ (h : StepResult World). one_delivered (w settings) (told [] h)) (sync_answered settings))
+    (packet_comes settings
+    ∙ ap (λ (h : StepResult World). one_delivered (w settings) (told [] h)) (sync_answered settings))

@@ -55,7 +55,7 @@ use Rattle.sessions.specs.State.{ConnectedClient as SessionConnection, SessionTa
 use Rattle.sessions.specs.Sessions.{session_in, session_of_connection, connection_of, ids_in, ids_of, close_if_some, clamped_timeout, new_connection}
 use Rattle.watch_manager.specs.declared.event.Event.{Event as NodeEvent}
 use Rattle.watch_manager.specs.Pairs.{watch_cmp}
-use Rattle.watch_manager.specs.Watching.{WatchTables, no_watch}
+use Rattle.watch_manager.specs.Watching.{no_watch}
 use Rattle.watch_manager.specs.Watches.{FireResult, fire}
 use Rattle.watch_manager.specs.Laws.{AllPass, AllLastingPass, OnlyWatchersAreTold, NoEventKeepsWatches}
 use Rattle.read_processor.specs.Watch.{watch_of}
@@ -255,7 +255,8 @@ get_frame = hex_bytes (codes "00000001 00000004 00000002 2f61 00")
 abbrev get_body : List ℕ
 get_body = hex_bytes (codes "00000002 2f61 00")
 
-pub get_found : items_in frames_of_client (place_at tt (get_data_frame_start ++ get_data_frame_end)) ≡ one_frame get_frame
+pub get_found : items_in frames_of_client (place_at tt (get_data_frame_start ++ get_data_frame_end))
+    ≡ one_frame get_frame
 unfolding items_within frame_at judged_at
 get_found = refl
 

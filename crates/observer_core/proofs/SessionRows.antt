@@ -1,29 +1,27 @@
 -- The worked rows of sessions: a new one, and one whose client was heard.
-use Rattle.std.proofs.Common.{◌≡◌, ◌||◌, ◌&&◌, ℕ, ◌+◌, List, [], ◌∷◌, ◌++◌, length, map, take, drop, replicate, not, Option, Some, None, Result, Ok, Bool, true, false, cond, refl, sym, ap, ◌∙◌, arith, rules}
+use Rattle.std.proofs.Common.{◌≡◌, ◌||◌, ◌&&◌, ℕ, ◌+◌, List, [], ◌∷◌, ◌++◌, length, map, take, drop, replicate, not, Option, Some, None, Ok, Bool, true, false, cond, refl, sym, ap, ◌∙◌, rules}
 use Rattle.std.specs.Prelude.{ℤ, pos, negsuc, codes, is_some, nat_lt}
 use Rattle.std.specs.FinMap as finmap
 use Rattle.std.specs.FinSet as set
 use Rattle.std.specs.Cmp.{nat_cmp_total, int_cmp_total}
-use Rattle.std.specs.Ordering.{nat_cmp, int_cmp, int_eq, eq_by_cmp}
+use Rattle.std.specs.Ordering.{nat_cmp, int_cmp, eq_by_cmp}
 use Rattle.std.specs.List.Sorted.{IsStrictlySortedBy}
 use Rattle.std.proofs.lemmas.Map.Lookups.{exact_signed}
 use Rattle.sha1.specs.Sha1.{sha1, hash_after, digest_bytes, compress, rounds, schedule, first_words}
 use Rattle.values.specs.Hex.{hex_bytes}
 use Rattle.settings.specs.Settings.{TimeoutPair, timeout_pair}
-use Rattle.jute.specs.Format.{judged_at, buffer_at, vector_at, read_n, number_bytes, with_count}
-use Rattle.jute.specs.Frame.{frame_at, frame_bytes}
+use Rattle.jute.specs.Format.{judged_at, buffer_at, vector_at, read_n, number_bytes}
+use Rattle.jute.specs.Frame.{frame_at}
 use Rattle.jute.specs.Records.{request_header, reply_header}
-use Rattle.jute.specs.Stream.{Items, items_within, items_in, place_at}
+use Rattle.jute.specs.Stream.{items_within, items_in, place_at}
 use Rattle.client_records.specs.declared.codes.TheConstants.{OK, PING_XID}
 use Rattle.client_records.specs.declared.connect.ConnectRequest.{ConnectRequest}
 use Rattle.client_records.specs.declared.kind.RequestKind.TheVariants as kinds
 use Rattle.client_records.specs.Kinds.{kind_of as request_kind_of, request_kind_in}
 use Rattle.client_records.specs.Requests.{connect_request}
 use Rattle.client_records.specs.Responses.{connect_response}
-use Rattle.quorum_packet.specs.declared.item.Item.{Item}
 use Rattle.quorum_packet.specs.declared.item.Item.TheVariants as item
 use Rattle.quorum_packet.specs.declared.packet.QuorumPacket.{QuorumPacket}
-use Rattle.quorum_packet.specs.declared.phase.Phase.{Phase}
 use Rattle.quorum_packet.specs.declared.phase.Phase.TheVariants.{Packets}
 use Rattle.quorum_packet.specs.Kinds.{kind_of}
 use Rattle.quorum_packet.specs.Packet.{packet_format}
@@ -36,9 +34,8 @@ use Rattle.txn_codec.specs.declared.txn.Txn.{Txn}
 use Rattle.txn_codec.specs.Spelling.{txn_format}
 use Rattle.data_tree.specs.Meaning.{effect_of_txn, answer_of, fresh_state}
 use Rattle.learner_sync.specs.Answers.{ping_reply, session_rows, session_request}
-use Rattle.sessions.specs.declared.request.SessionRequest.{SessionRequest}
 use Rattle.sessions.specs.declared.request.SessionResponse.{SessionResponse}
-use Rattle.sessions.specs.State.{ConnectedClient, SessionOwners, SessionTable}
+use Rattle.sessions.specs.State.{ConnectedClient, SessionTable}
 use Rattle.settings.specs.Dialects.{reads_of}
 use Rattle.sessions.specs.Credentials.{session_id_of, keyed_password, password_of}
 use Rattle.sessions.specs.declared.passwords.Passwords.{Passwords}
@@ -47,42 +44,39 @@ use Rattle.sessions.specs.Sessions.{session_in, session_of_connection, connectio
 use Rattle.watch_manager.specs.Watches.{FireResult}
 use Rattle.watch_manager.specs.Watching.{no_watch}
 use Rattle.forwarding.specs.declared.request.PendingConnect.{PendingConnect}
-use Rattle.forwarding.specs.declared.request.PendingRequest.{PendingRequest}
 use Rattle.forwarding.specs.declared.request.PendingRequest.TheVariants.{Connect}
 use Rattle.forwarding.specs.declared.request.ConnectKind.TheVariants.{New}
 use Rattle.forwarding.specs.Queue.{RequestQueue, pending_limit, waiting_connect, asks_as, held_frames}
 use Rattle.forwarding.specs.State.{TouchedSessions, PendingTable}
-use Rattle.forwarding.specs.Pending.{nothing_pending, queue_in, queue_of, is_idle, hold_frame, push_connect, take_connect_as, awaiting_as, drop_connection, sorted_touched, with_timeout, live_rows, touched_limit, touched_rows, TakenTouched, take_touched}
+use Rattle.forwarding.specs.Pending.{nothing_pending, queue_in, queue_of, hold_frame, push_connect, take_connect_as, awaiting_as, drop_connection, sorted_touched, with_timeout, live_rows, touched_limit, touched_rows, TakenTouched, take_touched}
 use Rattle.forwarding.proofs.SessionSets.{items-sorted}
 use Rattle.four_letter.specs.Words.{word_of}
 use Rattle.four_letter.specs.declared.word.Word.{Word}
 use Rattle.read_processor.specs.Look.{without_body}
 use Rattle.read_processor.specs.Reply.{reply_frame}
-use Rattle.client_frames.specs.declared.call.Call.{Call}
 use Rattle.client_frames.specs.declared.call.CallBody.TheVariants.{Local}
 use Rattle.client_frames.specs.declared.call.LocalCall.TheVariants.{Ping}
 use Rattle.client_frames.specs.declared.connecting.Connecting.{Connecting}
 use Rattle.client_frames.specs.Call.{call_in, call_after_header, call_body}
-use Rattle.client_frames.specs.Connect.{connecting_after_request, connecting_in, session_request_of, answer_to_connect, response_of}
+use Rattle.client_frames.specs.Connect.{connecting_in, session_request_of, answer_to_connect}
 use Rattle.world.specs.declared.world.Settings.{Settings}
 use Rattle.world.specs.declared.output.Output.{Output}
 use Rattle.world.specs.declared.output.Output.TheVariants.{ToLeader, ToClient}
-use Rattle.world.specs.World.{OpenConnection, OpenConnections, Clients, World}
-use Rattle.world.specs.Steps.{StepResult, prepend_outputs, no_output, and_then}
-use Rattle.world.specs.Clients.{idle_connection, heard_in, with_connection, passwords_of}
+use Rattle.world.specs.World.{OpenConnection, OpenConnections, World}
+use Rattle.world.specs.Steps.{StepResult, no_output}
+use Rattle.world.specs.Clients.{heard_in, passwords_of}
 use Rattle.world.specs.Timeouts.{known_timeout}
 use Rattle.world.specs.Sending.{to_leader, close_client, send_or_close, with_sessions, with_pending}
-use Rattle.client_service.specs.Serve.{answer_connect, send_connect_response, claim_or_refuse, finish_connect, handle_connect, touched_as, serve_as, serve_by, is_refused_frame, header_len, connect_or_hold, serve_frame, word_without_session, with_waiting_bytes, frames_of_client, serve_all, tell_or_serve, take_client_bytes}
+use Rattle.client_service.specs.Serve.{send_connect_response, claim_or_refuse, finish_connect, handle_connect, touched_as, serve_as, serve_by, is_refused_frame, serve_frame, word_without_session, with_waiting_bytes, frames_of_client, serve_all, tell_or_serve, take_client_bytes}
 use Rattle.leader_answers.specs.Answering.{admission_of, admit_as, admit_with, give_answer, answer_applied_txn, answer_ping}
 use Rattle.world.proofs.NatMaps.{get-inserted, insert-insert}
-use Rattle.observer_core.specs.declared.event.Event.{Event}
 use Rattle.observer_core.specs.declared.event.Event.TheVariants.{LeaderBytes, ClientUp, ClientBytes}
 use Rattle.observer_core.specs.Machine.{Machine}
-use Rattle.observer_core.specs.Leader.{item_step, part_reader, with_leader, take_leader_bytes}
+use Rattle.observer_core.specs.Leader.{item_step, with_leader}
 use Rattle.observer_core.specs.Play.{play_event, play, primed_session, first_client}
 use Rattle.observer_core.specs.Rows.{client_ping, reply_of_ping, leader_ping, answer_with_first, answer_with_none, connect_frame, request_of_session, inform_of_session, response_of_session}
-use Rattle.observer_core.proofs.Rows.{earlier_machine, ReadAgain, NobodyTold, start, one_packet, packet_of, one_frame, pending_at, idle_at, heard_in_world, served_at, handled_at, open_with, at_first, clients_at, heard, nobody_yet, first_timeout, joined_first, world_with, world_at, beginning, led, one_delivered, told, told_by, inform_comes, in_hand, with_connections, frame_served, first_open}
-use Rattle.observer_core.proofs.ForwardedRows.{first_id, IsThird, id_is, waiting_world, waiting_machine, once_heard, queue_is, one_item_comes}
+use Rattle.observer_core.proofs.Rows.{earlier_machine, ReadAgain, NobodyTold, start, one_packet, packet_of, one_frame, pending_at, idle_at, served_at, handled_at, open_with, at_first, heard, nobody_yet, first_timeout, joined_first, world_with, world_at, beginning, led, one_delivered, told, told_by, inform_comes, in_hand, with_connections, frame_served, first_open}
+use Rattle.observer_core.proofs.ForwardedRows.{first_id, IsThird, SessionsStay, id_is, waiting_world, waiting_machine, once_heard, queue_is, one_item_comes}
 
 -- ---- a client is heard, and the leader is told
 
@@ -144,10 +138,6 @@ ping_taken : (settings : Settings) (pending : PendingTable) →
 unfolding kind_of
 ping_taken settings pending = refl
 
--- Sessions don't move between servers.
-abbrev pub SessionsStay : Settings → Type 0
-SessionsStay settings = (reads_of settings.dialect).moved_sessions ≡ false
-
 ping_is_told : (settings : Settings) (pending : PendingTable) → SessionsStay settings
     → play_event (waiting_machine settings pending) (LeaderBytes leader_ping)
     ≡ (record {
@@ -178,7 +168,8 @@ pings_are_told settings stay =
     ap (λ (h : StepResult Machine). h.outputs
     ++ (play h.after (LeaderBytes leader_ping ∷ LeaderBytes leader_ping ∷ [])).outputs) (ping_comes settings)
     ∙ ap (λ (h : StepResult Machine). ToClient 1 reply_of_ping
-    ∷ (h.outputs ++ (play h.after (LeaderBytes leader_ping ∷ [])).outputs)) (ping_is_told settings (once_heard settings) stay)
+    ∷ (h.outputs ++ (play h.after (LeaderBytes leader_ping ∷ [])).outputs))
+    (ping_is_told settings (once_heard settings) stay)
     ∙ ap (λ (h : StepResult Machine). ToClient 1 reply_of_ping ∷ answer_with once.rows ∷ (h.outputs ++ []))
     (ping_is_told settings once.after stay)
 
@@ -221,7 +212,8 @@ module _ (session longest : ℤ) where
   }) (one_row same)
 
   none_told : (take_touched (pending_at (set.from_list [])) (finmap.get timeouts)).rows ≡ []
-  none_told = ap (λ (ids : List ℤ). take touched_limit (live_rows (finmap.get timeouts) ids)) (items-sorted [] none_sorted)
+  none_told =
+      ap (λ (ids : List ℤ). take touched_limit (live_rows (finmap.get timeouts) ids)) (items-sorted [] none_sorted)
 
 with_first_written : packet_format.written (ping_reply leaders_ping (session_rows ((first_id, pos 40000) ∷ [])))
     ≡ answer_with_first
@@ -252,7 +244,7 @@ first_is_told settings stay three terms secretless =
     told_from : ℤ → ℤ → TakenTouched × TakenTouched
     told_from id longest =
         let once = take_touched (pending_at (set.insert set.empty id)) (finmap.get (timeouts id longest)) in
-        (once, take_touched once.after (timeouts id longest))
+        (once, take_touched once.after (finmap.get (timeouts id longest)))
 
     answers : TakenTouched × TakenTouched → List Output
     answers both = ToClient 1 reply_of_ping ∷ answer_with both.0.rows ∷ answer_with both.1.rows ∷ []
@@ -296,7 +288,8 @@ module _ (settings : Settings) where
   -- The sessions once connection 1 has the first one, with so many ids given out.
   abbrev sessions_after : ℕ → SessionTable
   sessions_after counter =
-      record (with_session_connected (nobody_yet settings) 1 (primed_session settings)) { counter = counter }
+      record (with_session_connected (nobody_yet settings) 1 (primed_session settings) (first_timeout settings))
+      { counter = counter }
 
   primed_sessions : settings.first_counter ≡ 0 → (first_client settings).sessions ≡ sessions_after 1
   primed_sessions begins =
@@ -375,12 +368,6 @@ module _ (settings : Settings) where
       and-false true = refl
       and-false false = refl
 
-      -- The session 0 is no claim.
-      by_claim : Bool → StepResult World
-      by_claim claims = cond claims
-          (claim_or_refuse 2 false w (claimed_session w.clients.sessions (session_request_of request)))
-          (finishing (session_id_of settings.server_id 2) (clamped_timeout settings.timeouts (pos 10000)))
-
       response : ℤ → ℤ → SessionResponse
       response id time_out =
           record { time_out = time_out; session_id = id; password = password_of passwords id }
@@ -390,6 +377,12 @@ module _ (settings : Settings) where
         connected = record { response = response id time_out; older = None };
         after = sessions_after 2;
       })
+
+      -- The session 0 is no claim.
+      by_claim : Bool → StepResult World
+      by_claim claims = cond claims
+          (claim_or_refuse 2 false w (claimed_session w.clients.sessions (session_request_of request)))
+          (finishing (session_id_of settings.server_id 2) (clamped_timeout settings.timeouts (pos 10000)))
 
       asks : Bool → StepResult World
       asks taken = cond taken
@@ -448,7 +441,8 @@ module _ (settings : Settings) where
 -- ---- the leader creates the session
 
 abbrev session_header : TxnHeader
-session_header = record { client_id = second_session; cxid = pos 0; zxid = pos 4294967297; time = pos 1000; rules = Zk34 }
+session_header =
+    record { client_id = second_session; cxid = pos 0; zxid = pos 4294967297; time = pos 1000; rules = Zk34 }
 
 abbrev session_txn : Txn
 session_txn = record { header = session_header; body = bodies.CreateSession (pos 10000) }
@@ -522,7 +516,8 @@ module _ (settings : Settings) (three : IsThird settings)
   session_given : admit_as 2 left [] (Some (waiting settings)) ≡ responded response_of_session
   session_given =
       ap (λ (o : Option ConnectedClient). admit_with 2 left (waiting settings) []
-      (give_session (close_as (sessions_after settings 2) 2 o) 2 second_session (pos 10000))) (second_is_none settings 2)
+      (give_session (close_as (sessions_after settings 2) 2 o) 2 second_session (pos 10000)))
+      (second_is_none settings 2)
       ∙ ap (λ (o : Option ℕ). admit_with 2 left (waiting settings) [] (given o)) no_owner
       ∙ ap (λ (bounds : TimeoutPair). responded (response bounds (passwords settings))) terms
       ∙ ap (λ (made : Passwords). responded (response (timeout_pair (pos 4000) (pos 40000)) made)) keyed

@@ -1,5 +1,5 @@
 -- The worked rows of watches, and all rows that no leader answers.
-use Rattle.std.proofs.Common.{◌≡◌, ℕ, List, [], ◌∷◌, ◌++◌, Option, Some, None, Ok, Bool, true, false, cond, refl, ap, ◌∙◌, rules}
+use Rattle.std.proofs.Common.{◌≡◌, ℕ, List, [], ◌∷◌, ◌++◌, Option, Some, None, Ok, Bool, true, false, cond, refl, ap, ◌∙◌}
 use Rattle.std.specs.Prelude.{ℤ, pos, negsuc, codes}
 use Rattle.std.specs.FinMap as finmap
 use Rattle.std.specs.FinSet as set
@@ -45,7 +45,7 @@ use Rattle.read_processor.specs.Look.{look_at_state, without_body, look_at_node}
 use Rattle.read_processor.specs.Reply.{reply_frame}
 use Rattle.values.specs.Hex.{hex_bytes}
 use Rattle.observer_core.specs.Rows.{inform_of_create, get_data_frame_start, get_data_frame_end, reply_of_create, reply_of_set_data, exists_watch_frame, reply_of_missing, event_of_create, create_inform_event, set_data_inform_event, get_data_event, exists_watch_event}
-use Rattle.world.specs.World.{OpenConnection, OpenConnections, World}
+use Rattle.world.specs.World.{OpenConnection, World}
 use Rattle.observer_core.specs.Machine.{Leader, Machine}
 use Rattle.client_frames.specs.Call.{call_in, call_after_header, call_body, read_as, read_with_flag, value_if_read}
 use Rattle.world.specs.Steps.{StepResult, prepend_outputs, no_output}
@@ -84,7 +84,8 @@ exists_body_read = rw (is_utf8-from_IsUtf8 (codes "/a") path_is_text)
 abbrev watch_wanted : Request
 watch_wanted = record { kind = Exists; path = Some (codes "/a"); watch = true }
 
-exists_read : (dialect : Dialect) → call_in dialect exists_frame ≡ Ok (record { xid = pos 2; body = Local (Read watch_wanted) })
+exists_read : (dialect : Dialect) → call_in dialect exists_frame
+    ≡ Ok (record { xid = pos 2; body = Local (Read watch_wanted) })
 exists_read dialect =
     ap (call_after_header dialect) exists_header
     ∙ ap (λ k. Ok (record { xid = pos 2; body = call_body k exists_body })) (exists_kind dialect)
@@ -265,6 +266,6 @@ pub closed_passes : (settings : Settings)
 closed_passes settings =
     ap (λ (o : Option OpenConnection). (CloseLeader OutOfOrder ∷ CloseClient 1 ∷ [])
     ++ ((with_leader {L = Leader} None
-    (take_client_bytes false 1 (closed settings).world (heard_in o) (get_data_frame_start ++ get_data_frame_end))).outputs
-    ++ []))
+    (take_client_bytes false 1 (closed settings).world (heard_in o)
+    (get_data_frame_start ++ get_data_frame_end))).outputs ++ []))
     (get-removed (at_first []) 1)
