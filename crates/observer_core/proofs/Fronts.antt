@@ -142,4 +142,5 @@ settled_fronts p = by p.syncs
     by : (syncs : List (Option ℕ)) → FewerFronts p (settle_first p syncs).after
     by [] n c e = e
     by (None ∷ rest) n c e = e
-    by (Some k ∷ rest) = put_fronts p k (with_oldest_settled (queue_of p k)) (settled_front (queue_of p k))
+    by (Some k ∷ rest) n c e =
+        put_fronts p k (with_oldest_settled (queue_of p k)) (settled_front (queue_of p k)) n c e

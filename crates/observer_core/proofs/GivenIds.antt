@@ -11,7 +11,7 @@ use Rattle.settings.specs.Settings.{is_server_id}
 use Rattle.jute.specs.declared.owned.Id.{Id}
 use Rattle.sessions.specs.Credentials.{session_id_of, digest_id}
 use Rattle.sessions.specs.State.{SessionTable as Sessions, ConnectedClient, session_table_of}
-use Rattle.sessions.specs.Sessions.{greatest_counter, close_as, close_connection, close_if_some, connection_of, ConnectResult, refused_connect, session_response, give_session, name_session, AuthResult, are_within_limits, is_same_id, with_id, show_in, digest_text, auth_by, add_auth}
+use Rattle.sessions.specs.Sessions.{greatest_counter, close_as, close_connection, close_if_some, connection_of, ConnectResult, refused_connect, session_response, give_session, AuthResult, are_within_limits, is_same_id, with_id, show_in, digest_text, auth_by, add_auth}
 use Rattle.sessions.specs.Agreement.{IsGivenOut, SessionsAgree, IsNewId, NewIdsAreNew}
 use Rattle.settings.specs.Dialects.{reads_of}
 use Rattle.forwarding.specs.declared.request.ConnectKind.TheVariants.{New, Claimed}
@@ -157,29 +157,36 @@ later_again u v w first second = record {
   comes = λ n connect waits. later n connect (second.comes n connect waits);
 }
   where
+    -- What was given before stays given, and what is new later was new before.
+    given_early : (session : ℤ) → IsGivenWithin u v session → IsGivenWithin u w session
+    given_early session given server within =
+        let b = given server (let a = second.grow.counter in omega arith) in
+        (b.0, given_later v.clients w.clients session second.grow.terms second.grow.counter b.1)
+
+    given_since : (session : ℤ) → IsGivenWithin v w session → IsGivenWithin u w session
+    given_since session given server within =
+        let server_then = subst (λ terms. IsTrue (is_server_id terms.server_id)) (sym first.grow.terms) server in
+        let b = given server_then within in
+        let new : IsNewId u.clients.sessions session = record {
+          nonzero = b.0.nonzero;
+          unused = λ earlier g.
+              b.0.unused earlier (given_later u.clients v.clients earlier first.grow.terms first.grow.counter g);
+        } in (new, b.1)
+
+    moved_before : SessionsMove v → SessionsMove u
+    moved_before move =
+        ap (λ (s : Settings). (reads_of s.dialect).moved_sessions) (sym first.grow.settings) ∙ move
+
     -- The connect waited in between.
     early : (n : ℕ) (connect : PendingConnect) → ComesToWait u v n connect → ComesToWait u w n connect
     early n connect (inl waited) = inl waited
-    early n connect (inr (inl (new, given))) =
-        inr (inl (new, λ server within.
-        let b = given server (let a = second.grow.counter in omega arith) in
-        (b.0, given_later v.clients w.clients connect.session second.grow.terms second.grow.counter b.1)))
+    early n connect (inr (inl (new, given))) = inr (inl (new, given_early connect.session given))
     early n connect (inr (inr claims)) = inr (inr claims)
 
     later : (n : ℕ) (connect : PendingConnect) → ComesToWait v w n connect → ComesToWait u w n connect
     later n connect (inl waited) = early n connect (first.comes n connect waited)
-    later n connect (inr (inl (new, given))) =
-        inr (inl (new, λ server within.
-        let b = given (subst (λ terms. IsTrue (is_server_id terms.server_id)) (sym first.grow.terms) server) within in (
-          record {
-            nonzero = b.0.nonzero;
-            unused = λ earlier g.
-                b.0.unused earlier (given_later u.clients v.clients earlier first.grow.terms first.grow.counter g);
-          },
-          b.1,
-        )))
-    later n connect (inr (inr (claims, move))) =
-        inr (inr (claims, ap (λ (s : Settings). (reads_of s.dialect).moved_sessions) (sym first.grow.settings) ∙ move))
+    later n connect (inr (inl (new, given))) = inr (inl (new, given_since connect.session given))
+    later n connect (inr (inr (claims, move))) = inr (inr (claims, moved_before move))
 
 -- ---- connections close
 
@@ -245,6 +252,12 @@ answers_later n = record {
 counted_grow : (w : World) → IdsGrow w (counted w)
 counted_grow w = record { settings = refl; terms = refl; counter = omega arith }
 
+-- The connect that waits for the next id changes neither settings nor sessions.
+asked_grow : (n : ℕ) (w : World) (connect : PendingConnect) → IdsGrow w (with_connect n (counted w) connect)
+asked_grow n w connect =
+    let v = with_connect n (counted w) connect in
+    grow_again w (counted w) v (counted_grow w) (nothing_grows (counted w) v refl refl)
+
 -- ---- whatever is known of the clients
 
 abbrev Grows : Steps
@@ -286,7 +299,8 @@ all_grow = record {
         let v = with_sessions w x.after in
         grow_again w v (close_client_if_some v x.connected.older).after
         (same_grow w v refl (given_ids w.clients.sessions n session time_out)) (left_grow v x.connected.older);
-    asks = λ w time_out has_byte none idle a b. counted_grow w;
+    asks = λ w time_out has_byte none idle a b.
+        asked_grow n w (new_connect (next_id w) time_out has_byte);
     displaces = λ w session k with a. closed_grow k w;
     claims = λ w has_byte response move none idle a. nothing_grows w _ refl refl;
     may = λ w session live. tt;
@@ -304,7 +318,8 @@ each_closed_grow : (ns : List ℕ) (w : World) → IdsGrow w (record w { clients
 each_closed_grow [] w = nothing_grows w w refl refl
 each_closed_grow (n ∷ others) w =
     let v = (close_client n w).after in
-    grow_again w v (record v { clients = without_clients others v.clients }) (closed_grow n w) (each_closed_grow others v)
+    grow_again w v (record v { clients = without_clients others v.clients }) (closed_grow n w)
+    (each_closed_grow others v)
 
 gone_grow : (w : World) → IdsGrow w (disconnect_all w).after
 gone_grow w =
@@ -392,7 +407,7 @@ module _ (new : NewIdsAreNew) where
   asked_later : (n : ℕ) (w : World) (time_out : ℤ) (has_byte : Bool)
       → AreLater w (with_connect n (counted w) (new_connect (next_id w) time_out has_byte))
   asked_later n w time_out has_byte = record {
-    grow = counted_grow w;
+    grow = asked_grow n w asked;
     comes = λ m connect e. by m connect (pushed_front w.clients.pending n (Connect asked) m connect e);
   }
     where
@@ -481,9 +496,13 @@ module _ (new : NewIdsAreNew) where
     gone_later : (w : World) → AreLater w (disconnect_all w).after
     gone_later w =
         let v : World = record w { clients = without_clients (finmap.keys w.clients.connections) w.clients } in
-        later_again w v (with_pending v nothing_pending) (each_closed_later (finmap.keys w.clients.connections) w)
-        (waits_later v nothing_pending (λ n connect e. absurd (true≢false (sym (ap is_some e)
-        ∙ ap (λ o. is_some (waiting_connect (queue_in o))) (finmap.get-empty nat_cmp n)))))
+        later_again w v (disconnect_all w).after (each_closed_later (finmap.keys w.clients.connections) w)
+        (same_later v (disconnect_all w).after refl (same_ids v.clients.sessions) (none_wait v.clients.pending))
+      where
+        none_wait : (p : PendingTable) → FewerFronts p nothing_pending
+        none_wait p n connect e =
+            absurd (true≢false (sym (ap is_some e)
+            ∙ ap (λ o. is_some (waiting_connect (queue_in o))) (finmap.get-empty nat_cmp n)))
 
     -- From this world on.
     abbrev LaterThan : World → World → Type 0
