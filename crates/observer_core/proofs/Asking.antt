@@ -677,7 +677,7 @@ module _ (stay : OtherConnectionsStay) (keep_watches : OthersKeepWatches) (queue
           (λ session. wait_own w.clients h.after there found.left.unread refl session)
           (λ k t. record {
             session = t.session;
-            had = t.had;
+            had = had_before w v t.session refl refl k t.had;
             none = t.none;
             has = wait_got h.after there found.left.unread refl t.session t.has;
           })
