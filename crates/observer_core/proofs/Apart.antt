@@ -7,7 +7,7 @@ use Rattle.std.specs.FinSet as set
 use Rattle.values.specs.declared.fault.Fault.{Fault}
 use Rattle.jute.specs.Stream.{Unread}
 use Rattle.sessions.specs.State.{SessionTable as Sessions}
-use Rattle.sessions.specs.Sessions.{session_of_connection, ids_of, connection_of, ConnectResult, give_session, add_auth}
+use Rattle.sessions.specs.Sessions.{ids_of, connection_of, ConnectResult, give_session, add_auth}
 use Rattle.sessions.specs.Agreement.{OtherConnectionsStay}
 use Rattle.sessions.specs.declared.request.SessionResponse.{SessionResponse}
 use Rattle.watch_manager.specs.Watching.{WatchTables}

@@ -288,7 +288,8 @@ module _ (stay : OtherConnectionsStay) (keep_watches : OthersKeepWatches) (queue
   after_asks w v h changed same waiting (session, inr asked) = (
     session,
     inr (record {
-      apart = then_apart (Only session) (Had w session) n w (no_output v) (λ u. h) (changed (Only session) (Had w session))
+      apart = then_apart (Only session) (Had w session) n w (no_output v) (λ u. h)
+          (changed (Only session) (Had w session))
           (wider n (Only session) (Only session) (Had v session) (Had w session) v h (λ s mine. mine)
           (had_before w v session same waiting) asked.apart);
       waits = asked.waits;
@@ -344,7 +345,7 @@ module _ (stay : OtherConnectionsStay) (keep_watches : OthersKeepWatches) (queue
       p : PendingTable
       p = w.clients.pending
 
-  -- The leader is asked about a session that the client claims, once the others that have it, or wait for it, are closed.
+  -- The leader is asked about a session that the client claims, once the others that have it or wait for it are closed.
   claim_asks : (w : World) (has_byte : Bool) (response : SessionResponse) → AgreeApart w
       → session_of_connection w.clients.sessions n ≡ None → is_idle w.clients.pending n ≡ true
       → Asks n w (claim_session n has_byte w response)
@@ -677,7 +678,7 @@ module _ (stay : OtherConnectionsStay) (keep_watches : OthersKeepWatches) (queue
           (λ session. wait_own w.clients h.after there found.left.unread refl session)
           (λ k t. record {
             session = t.session;
-            had = t.had;
+            had = had_before w v t.session refl refl k t.had;
             none = t.none;
             has = wait_got h.after there found.left.unread refl t.session t.has;
           })

@@ -47,8 +47,8 @@ due_place (dues.Admission n) = 1
 due_place (dues.Ending n) = 2
 due_place (dues.Reply n write) = 3
 
--- An admission is of the connection that waits for the session, an end of the one that has it or claims it, and a reply of
--- the one that has it.
+-- An admission is of the connection that waits for the session, an end of the one that has it or claims it, and a reply
+-- of the one that has it.
 record IsDueTo (c : Clients) (session : ℤ) (due : Due) : Type 0 where
   admits : (n : ℕ) → due ≡ dues.Admission n → connecting_to c.pending session ≡ Some n
   ends : (n : ℕ) → due ≡ dues.Ending n → connection_with c session ≡ Some n

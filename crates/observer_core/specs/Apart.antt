@@ -141,8 +141,8 @@ pub record AnswersReachOneClient : Type 0 where
       (λ k. session_of_connection w.clients.sessions k ≡ Some t.header.client_id) w (answer_txn w t err)
   -- Any other answers nobody.
   pub others : (w : World) (t : Txn) (err : ℤ) → answer_due w.clients t ≡ dues.Nothing → answer_txn w t err ≡ no_output w
-  -- The leader's answer about a session answers the client that claims it, as the creation of one does; it answers nobody
-  -- if no client claims the session.
+  -- The leader's answer about a session answers the client that claims it, as the creation of one does; it answers
+  -- nobody if no client claims the session.
   pub claims : (w : World) (session : ℤ) (lives : Bool) (n : ℕ) → ClientsAgree w.clients
       → awaiting w.clients.pending session Claimed ≡ Some n
       → WaitsForSession n w.clients session

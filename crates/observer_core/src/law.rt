@@ -158,10 +158,11 @@ pub fn clients_are_apart()
     forwarding::other_connections_stay();
 }
 
-/// A transaction of the leader answers at most one client: the one that has its session and waits for it or whose
-/// session it ends, or the one that waits for the session that it creates. Then that client's requests that were held
-/// go to the leader, and an older connection of the session is closed. A SYNC answers at most the one whose sync it
-/// settles. Nothing else is sent, no other connection is closed, and every other connection keeps what it has.
+/// A transaction of the leader answers at most one client: the one that has its session and waits for it, the one that
+/// has or claims the session that it ends, or the one that waits for the session that it creates. Then that client's
+/// requests that were held go to the leader, and an older connection of the session is closed. The leader's answer about
+/// a session answers at most the client that claims it, in the same way, and a SYNC the one whose sync it settles.
+/// Nothing else is sent, no other connection is closed, and every other connection keeps what it has.
 pub fn answers_reach_one_client()
     ensures { AnswersReachOneClient }
 {
