@@ -23,8 +23,7 @@ impl SessionTimeouts for KnownTimeouts<'_> {
         if !self.counts_told {
             return self.tree.get(session);
         }
-        self.sessions
-            .told_timeout(session)
-            .or(self.tree.get(session))
+        let told = self.sessions.told_timeout(session);
+        told.or(self.tree.get(session))
     }
 }
