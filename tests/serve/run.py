@@ -25,6 +25,7 @@ import attacks  # noqa: E402
 import attacks_on_memory  # noqa: E402
 import bounds  # noqa: E402
 import checkpoints  # noqa: E402
+import claims  # noqa: E402
 import commands  # noqa: E402
 import configured  # noqa: E402
 import forwarded  # noqa: E402
@@ -36,11 +37,12 @@ import silence  # noqa: E402
 from leader import CLOSE_SESSION, CREATE, ERROR, EPOCH_1, received  # noqa: E402
 from server import (  # noqa: E402
     ACKEPOCH, CONNECT, CONNECTED_LEN, GET, GOT_LEN, LEADERINFO, OBSERVERINFO, PING, PINGED_LEN, SNAP, UPTODATE, Program,
-    Server, got, hexa, is_closed, reset, wait_until,
+    Server, got, hexa, is_closed, is_silent, reset, wait_until,
 )
 
 MODULES = (
-    commands, configured, sys.modules[__name__], logs, next_leaders, silence, checkpoints, bounds, attacks, attacks_on_memory,
+    commands, configured, sys.modules[__name__], claims, logs, next_leaders, silence, checkpoints, bounds, attacks,
+    attacks_on_memory,
 )
 
 
@@ -367,11 +369,7 @@ def test_writes_are_forwarded_and_answered():
         assert asked[:3] == (session, 1, CREATE) and asked.ids == [], asked
         # Nobody else is held up, and what is held isn't answered yet.
         assert server.is_serving()
-        client.setblocking(False)
-        try:
-            raise AssertionError(client.recv(1))
-        except BlockingIOError:
-            client.settimeout(10)
+        assert is_silent(client)
         zxid = server.leader.does(asked)
         assert forwarded.replied(client) == (1, zxid, 0, forwarded.buffer(b"/b"))
         read = forwarded.replied(client)
@@ -452,11 +450,7 @@ def test_clients_that_go_while_they_connect():
                 client.close()
         assert wait_until(lambda: server.threads() == 3 + 25, 5), server.threads()
         # None is answered yet, and nobody else is held up.
-        clients[0].setblocking(False)
-        try:
-            raise AssertionError(clients[0].recv(1))
-        except BlockingIOError:
-            clients[0].settimeout(10)
+        assert is_silent(clients[0])
         with server.leader.lock:
             server.leader.creates = True
             for request in asked:
