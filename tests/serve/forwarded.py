@@ -55,7 +55,7 @@ class Session(NamedTuple):
 
 
 def password_of(session):
-    """The password that each server of ZooKeeper gives a session: 16 bytes of a java.util.Random with a seed of its id."""
+    """What each server of ZooKeeper gives a session: 16 bytes of a java.util.Random with a seed of its id."""
     seed = (session ^ 0xB3415C00 ^ 0x5DEECE66D) % (1 << 48)
     password = b""
     for _ in range(4):

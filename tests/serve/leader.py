@@ -24,7 +24,7 @@ class Asked(NamedTuple):
 
 
 class Claim(NamedTuple):
-    """A session that a client has from another server, or from before, and the timeout that the client is to be told."""
+    """A session that a client has from another server or from before, and the timeout that the client is to be told."""
 
     session: int
     timeout: int
@@ -92,8 +92,8 @@ class Leader:
     """Leads over a connection on which the observer is up to date. Its transactions are numbered by `last`, from 1 on
     in its epoch.
 
-    While `creates` is false, what asks for a session or for its end is kept with the other requests. While `confirms` is
-    false, claims are kept for the test; else a session lives that it hasn't ended, wherever it was made. Whoever sends
+    While `creates` is false, what asks for a session or for its end is kept with the other requests. While `confirms`
+    is false, claims are kept, too; else any session lives that it hasn't ended, wherever it was made. Whoever sends
     several packets that belong together holds the lock, since sessions are created and confirmed at any time.
     """
 
