@@ -2,10 +2,11 @@
 """tests/serve/run.py [PROGRAM] [--long] [NAME ..]: faults over sockets, tried at `serve` of the built program.
 
 It plays a small leader and many clients: some are reset, some are cut in the middle of a frame, some say nothing, some
-don't read, some send what is no frame, some go while their session or a write of theirs waits for the leader, and many
-of these load it together with clients that pipeline; and leaders that fault, or end in the middle of an image. Then it
-attacks the server (attacks.py, attacks_on_memory.py). By --long some of this is tried more often, or whole. PROGRAM is
-crates/replay_runner/out/replay_runner where none is named. The last line is `N passed, M failed`.
+don't read, some send what is no frame, some go while their session or a write of theirs waits for the leader, some
+bring their sessions from elsewhere (claims.py), and many of these load it together with clients that pipeline; and
+leaders that fault, or end in the middle of an image. Then it attacks the server (attacks.py, attacks_on_memory.py). By
+--long some of this is tried more often, or whole. PROGRAM is crates/replay_runner/out/replay_runner where none is named.
+The last line is `N passed, M failed`.
 """
 import os
 import queue
