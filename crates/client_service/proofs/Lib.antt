@@ -5,3 +5,5 @@ pub mod Headers
 pub mod Running
 pub mod Emptied
 pub mod Answering
+-- The connections that close where a client claims a session.
+pub mod Claiming

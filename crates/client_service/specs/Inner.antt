@@ -5,7 +5,6 @@ use Rattle.std.specs.Option.{unwrap_or}
 use Rattle.values.specs.declared.fault.Fault.{Fault}
 use Rattle.sessions.specs.Sessions.{session_of_connection}
 use Rattle.four_letter.specs.declared.word.Word.{Word}
-use Rattle.client_frames.specs.Call.{call_in}
 use Rattle.client_frames.specs.declared.call.Call.{Call}
 use Rattle.client_frames.specs.declared.call.CallBody.TheVariants as bodies
 use Rattle.client_frames.specs.declared.call.LocalCall.TheVariants as locals
@@ -14,7 +13,7 @@ use Rattle.jute.specs.Stream.{place_at, items_in, with_first, no_items}
 use Rattle.world.specs.World.{World}
 use Rattle.world.specs.Steps.{StepResult, no_output}
 use Rattle.world.specs.Clients.{heard_connection, is_heard, rest_at, with_rest}
-use Rattle.client_service.specs.Serve.{frames_of_client, client_frame_limit, tell_word}
+use Rattle.client_service.specs.Serve.{call_of, frames_of_client, client_frame_limit, tell_word}
 use Rattle.world.specs.Sending.{close_client}
 use Rattle.client_service.specs.Runs.{AskedRead}
 use Rattle.client_service.specs.declared.request.SessionCall.{SessionCall}

@@ -6,7 +6,6 @@ use Rattle.read_processor.specs.declared.request.Request.{Request}
 use Rattle.read_processor.specs.declared.shown.Look.{Look}
 use Rattle.read_processor.specs.Look.{look_at_state}
 use Rattle.read_processor.specs.Watch.{watch_of}
-use Rattle.client_frames.specs.Call.{call_in}
 use Rattle.client_frames.specs.declared.call.CallBody.TheVariants as bodies
 use Rattle.client_frames.specs.declared.call.LocalCall.TheVariants as locals
 use Rattle.forwarding.specs.Pending.{is_idle}
@@ -17,7 +16,7 @@ use Rattle.world.specs.World.{World}
 use Rattle.world.specs.Results.{SoFar}
 use Rattle.world.specs.Steps.{StepResult, no_output, and_then, fold_steps}
 use Rattle.world.specs.Clients.{is_open, is_heard}
-use Rattle.client_service.specs.Serve.{with_watch_if, answer_read, touch_client, serve_frame, serve_all, wait_at}
+use Rattle.client_service.specs.Serve.{call_of, with_watch_if, answer_read, touch_client, serve_frame, serve_all, wait_at}
 use Rattle.world.specs.Sending.{with_watches, send_reply}
 
 -- A read that a connection asked for, with the xid of its reply.

@@ -172,11 +172,16 @@ ask_about_session n has_byte response w = record {
       }));
 }
 
--- The connection that has the session is closed, and then the one whose connect waits for it.
+-- The connection that has the session is closed.
+abbrev pub close_holder : ℤ → World → StepResult World
+close_holder session w = close_client_if_some w (connection_of w.clients.sessions session)
+
+-- The connection whose connect waits for the session is closed.
+abbrev pub close_waiting : ℤ → World → StepResult World
+close_waiting session w = close_client_if_some w (connecting_to w.clients.pending session)
+
 abbrev pub close_others : ℤ → World → StepResult World
-close_others session w =
-    and_then (close_client_if_some w (connection_of w.clients.sessions session))
-    (λ v. close_client_if_some v (connecting_to v.clients.pending session))
+close_others session w = and_then (close_holder session w) (close_waiting session)
 
 -- The client takes the place of others that have the session, or ask for it.
 abbrev pub claim_session : ℕ → Bool → World → SessionResponse → StepResult World

@@ -3,10 +3,10 @@
 ghost use Rattle.std.specs.Prelude.{◌≡◌, None, true, false, IfOk, OnOk};
 ghost use Rattle.std.specs.FinMap as finmap;
 ghost use Rattle.world.specs.Sending.{with_sessions};
-ghost use Rattle.client_service.specs.Serve.{send_connect_response, refuse_connect, answer_connect, ask_for_session, ask_about_session, close_others, claim_session, claim_or_refuse, is_claim, is_new_session, ask_or_answer, finish_connect, may_connect, is_live, connect_result, connect_client, handle_connect, connect_or_hold};
+ghost use Rattle.client_service.specs.Serve.{send_connect_response, refuse_connect, answer_connect, ask_for_session, ask_about_session, close_holder, close_waiting, close_others, claim_session, claim_or_refuse, is_claim, is_new_session, ask_or_answer, finish_connect, may_connect, is_live, connect_result, connect_client, handle_connect, connect_or_hold};
 ghost use Rattle.client_frames.specs.Connect.{connecting_in, session_request_of};
 ghost use Rattle.sessions.specs.Sessions.{claimed_session, refusal_response};
-ghost use Rattle.forwarding.specs.Pending.{is_idle, is_full};
+ghost use Rattle.forwarding.specs.Pending.{is_idle, is_full, connecting_to};
 ghost use Rattle.world.specs.Results.{MakesStep};
 
 use crate::calls::hold;
@@ -173,7 +173,8 @@ fn ask_about_session(
     stage: &mut Stage,
     response: &SessionResponse,
 ) -> Result<(), NoMemory>
-    requires { is_idle stage.old.after.clients.pending number ≡ true }
+    requires idle { is_idle stage.old.after.clients.pending number ≡ true }
+    requires free { connecting_to stage.old.after.clients.pending response.now.session_id ≡ None }
     ensures { MakesStep result stage.old (ask_about_session number has_byte response.now) stage.new }
 {
     let session = response.session_id;
@@ -190,15 +191,31 @@ fn ask_about_session(
     pending.push_connect(alloc, number, connect)
 }
 
+// Closes the connection that has the session.
+fn close_holder(stage: &mut Stage, session: i64) -> Result<(), NoMemory>
+    ensures { MakesStep result stage.old (close_holder session) stage.new }
+{
+    let holder = stage.world.clients.sessions.connection(session);
+    stage.close_client_if_some(holder)
+}
+
+// Closes the connection whose connect waits for the session.
+fn close_waiting(stage: &mut Stage, session: i64) -> Result<(), NoMemory>
+    ensures closes { MakesStep result stage.old (close_waiting session) stage.new }
+    ensures free { OnOk result (connecting_to stage.new.after.clients.pending session ≡ None) }
+{
+    let waiting = stage.world.clients.pending.connecting(session);
+    stage.close_client_if_some(waiting)
+}
+
 // Closes the connection that has the session, and then the one whose connect waits for it.
 #[tactic(auto, using(world::proofs::Steps::then_meets, world::proofs::Steps::first_stops))]
 fn close_others(stage: &mut Stage, session: i64) -> Result<(), NoMemory>
-    ensures { MakesStep result stage.old (close_others session) stage.new }
+    ensures closes { MakesStep result stage.old (close_others session) stage.new }
+    ensures free { OnOk result (connecting_to stage.new.after.clients.pending session ≡ None) }
 {
-    let holder = stage.world.clients.sessions.connection(session);
-    stage.close_client_if_some(holder)?;
-    let waiting = stage.world.clients.pending.connecting(session);
-    stage.close_client_if_some(waiting)
+    close_holder(stage, session)?;
+    close_waiting(stage, session)
 }
 
 // Claims a session for a client that has its password: its other connections are closed, and the leader is asked.

@@ -1,6 +1,7 @@
 //! What a frame asks: it is read once, before anything is done about it.
 
 ghost use Rattle.std.specs.Prelude.{◌≡◌, Ok, Some, IfOk, IfSome};
+ghost use Rattle.client_service.specs.Serve.{call_of};
 ghost use Rattle.client_service.specs.Inner.{session_call, read_of_session};
 
 use client_frames::{Call, call_in};
@@ -16,6 +17,17 @@ pub(crate) struct SessionCall<'a> {
     pub read: Result<Call<'a>, Fault>,
 }
 
+// The call of a frame, in the dialect of the clients.
+fn call_of<'a>(
+    alloc: Global,
+    world: &World,
+    frame: &'a [u8],
+) -> Result<Result<Call<'a>, Fault>, NoMemory>
+    ensures { IfOk result (λ read. read ≡ call_of world.now frame.now) }
+{
+    call_in(alloc, world.settings.dialect, frame)
+}
+
 /// What a frame asks, if its connection has a session: the frame of another isn't a call. Fails only if an allocation
 /// is refused.
 pub(crate) fn session_call<'a>(
@@ -29,7 +41,7 @@ pub(crate) fn session_call<'a>(
     let Some(session) = world.clients.sessions.session(number) else {
         return Ok(None);
     };
-    let read = call_in(alloc, world.settings.dialect, frame)?;
+    let read = call_of(alloc, world, frame)?;
     Ok(Some(SessionCall { session, read }))
 }
 

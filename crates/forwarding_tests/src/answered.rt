@@ -1,9 +1,9 @@
 //! What the leader's stream answers, and what then is ready.
 
 use crate::{
-    Asked, answer, ask, connected, drop_and_touch, settle, take_all, touched, would_answer,
+    Asked, Live, answer, ask, connected, drop_and_touch, settle, take_all, touched, would_answer,
 };
-use forwarding::{ERROR_TXN, Occupancy, PENDING_LIMIT, Pending, WriteKind};
+use forwarding::{ConnectKind, ERROR_TXN, Occupancy, PENDING_LIMIT, Pending, WriteKind};
 use std::alloc::Global;
 use std::test::Fail;
 use values::NoMemory;
@@ -71,8 +71,8 @@ fn a_connect_waits_for_its_session(rt: HostRuntime) -> Result<(), Fail> {
     let alloc = rt.alloc();
     let mut pending = Pending::new(alloc);
     let requests = [
-        (2, Asked::Connect(-9)),
-        (3, Asked::Connect(-9)),
+        (2, Asked::Connect(ConnectKind::New, -9)),
+        (3, Asked::Connect(ConnectKind::Claimed, -9)),
         (2, Asked::Frame(&[5])),
         (2, Asked::Write(4, WriteKind::Create)),
         (2, Asked::Frame(&[6])),
@@ -90,12 +90,78 @@ fn a_connect_waits_for_its_session(rt: HostRuntime) -> Result<(), Fail> {
     Ok(())
 }
 
+// The connection that waits for the session as a new one, and that which claims it; 0 where there is none.
+fn awaiting(pending: &Pending, session: i64) -> [u64; 2] {
+    let new = pending.awaiting(session, ConnectKind::New).unwrap_or(0);
+    let claimed = pending.awaiting(session, ConnectKind::Claimed).unwrap_or(0);
+    [new, claimed]
+}
+
+// Connection 2 waits for a new session, and connection 3 claims one.
+fn two_connects(alloc: Global) -> Result<Pending, NoMemory> {
+    let mut pending = Pending::new(alloc);
+    let requests = [
+        (2, Asked::Connect(ConnectKind::New, -9)),
+        (3, Asked::Connect(ConnectKind::Claimed, 8)),
+        (3, Asked::Frame(&[5])),
+    ];
+    ask(alloc, &mut pending, &requests)?;
+    Ok(pending)
+}
+
+#[test]
+fn a_connect_is_found_by_the_way_in_which_it_asks(rt: HostRuntime) -> Result<(), Fail> {
+    let pending = two_connects(rt.alloc())?;
+    for (session, expected) in [(-9, [2, 0]), (8, [0, 3]), (9, [0, 0])] {
+        assert_eq!(rt; awaiting(&pending, session), expected);
+    }
+    Ok(())
+}
+
+// Who claims the session when its connection has gone, and when another connection has claimed it.
+fn claimed_again(alloc: Global) -> Result<[[u64; 2]; 2], NoMemory> {
+    let mut pending = two_connects(alloc)?;
+    drop_and_touch(&mut pending, &[3], &[])?;
+    let gone = awaiting(&pending, 8);
+    let requests = [(4, Asked::Connect(ConnectKind::Claimed, 8))];
+    ask(alloc, &mut pending, &requests)?;
+    Ok([gone, awaiting(&pending, 8)])
+}
+
+#[test]
+fn a_session_can_be_claimed_again(rt: HostRuntime) -> Result<(), Fail> {
+    assert_eq!(rt; claimed_again(rt.alloc())?, [[0, 0], [0, 4]]);
+    Ok(())
+}
+
+#[test]
+fn each_kind_has_its_number(rt: HostRuntime) -> Result<(), Fail> {
+    for (kind, number) in [
+        (WriteKind::Create, 1),
+        (WriteKind::Delete, 2),
+        (WriteKind::SetData, 5),
+        (WriteKind::SetAcl, 7),
+        (WriteKind::Create2, 15),
+        (WriteKind::Reconfig, 16),
+        (WriteKind::CreateContainer, 19),
+        (WriteKind::DeleteContainer, 20),
+        (WriteKind::CreateTtl, 21),
+        (WriteKind::CloseSession, -11),
+    ] {
+        assert_eq!(rt; kind.number(), number);
+    }
+    Ok(())
+}
+
 #[test]
 fn touched_sessions_are_told_once(rt: HostRuntime) -> Result<(), Fail> {
     let alloc = rt.alloc();
     let mut pending = Pending::new(alloc);
     drop_and_touch(&mut pending, &[], &[9, 5, -3, 5])?;
-    let live = [(5, 40_000), (-3, 4_000), (6, 1)];
+    let live = Live {
+        one: (5, 40_000),
+        other: (-3, 4_000),
+    };
     let told = touched(alloc, &mut pending, &live)?;
     assert_eq!(rt; told.as_str(), "-3 4000; 5 40000; ");
     assert_eq!(rt; touched(alloc, &mut pending, &live)?.as_str(), "");

@@ -2,18 +2,22 @@
 //! twice. The calls are in functions without contracts, so that a test's own proof is short.
 #![tactic(auto)]
 
+ghost use Rattle.std.specs.Prelude.{Some, None, if◌then◌else◌};
+ghost use Rattle.std.specs.Ordering.{int_eq};
+
 #[cfg(test)]
 mod answered;
 
-use data_tree::Tree;
-use forwarding::{Pending, PendingConnect, Ready, Settled, WriteKind};
+use forwarding::{
+    ConnectKind, Pending, PendingConnect, Ready, SessionTimeouts, Settled, WriteKind,
+};
 use std::alloc::Global;
 use values::{Blob, NoMemory, Text};
 
 /// What a client asks. A request of a connection that is full is dropped.
 #[derive(Drop)]
 pub enum Asked<'a> {
-    Connect(i64),
+    Connect(ConnectKind, i64),
     Write(i32, WriteKind),
     Sync(i32, &'a str),
     Frame(&'a [u8]),
@@ -41,7 +45,7 @@ fn ask_one(
         return Ok(());
     }
     match asked {
-        Asked::Connect(session) => connect(alloc, pending, number, *session),
+        Asked::Connect(kind, session) => connect(alloc, pending, number, *kind, *session),
         Asked::Write(xid, kind) => pending.push_write(alloc, number, *xid, *kind),
         Asked::Sync(xid, path) => pending.push_sync(alloc, number, *xid, Text::new(alloc, path)?),
         Asked::Frame(bytes) => pending.hold(alloc, number, Blob::new(alloc, bytes)?),
@@ -53,6 +57,7 @@ fn connect(
     alloc: Global,
     pending: &mut Pending,
     number: u64,
+    kind: ConnectKind,
     session: i64,
 ) -> Result<(), NoMemory> {
     if !pending.is_idle(number) {
@@ -62,6 +67,7 @@ fn connect(
         return Ok(());
     }
     let connect = PendingConnect {
+        kind,
         session,
         time_out: 10_000,
         has_read_only: true,
@@ -175,17 +181,32 @@ pub fn drop_and_touch(
     Ok(())
 }
 
-/// The touched sessions that are among these, with their timeouts.
-pub fn touched(
-    alloc: Global,
-    pending: &mut Pending,
-    live: &[(i64, i32)],
-) -> Result<String, NoMemory> {
-    let mut tree = Tree::empty(alloc);
-    for (session, timeout) in live {
-        tree.put_session(*session, *timeout)?;
+/// Two sessions with their timeouts.
+#[derive(Clone, Copy)]
+pub struct Live {
+    pub one: (i64, i32),
+    pub other: (i64, i32),
+}
+
+impl SessionTimeouts for Live {
+    ghost timeout = { λ live session. if int_eq session live.one.0 then Some live.one.1
+        else if int_eq session live.other.0 then Some live.other.1
+        else None };
+
+    fn timeout_of(&self, session: i64) -> Option<i32> {
+        if session == self.one.0 {
+            return Some(self.one.1);
+        }
+        if session == self.other.0 {
+            return Some(self.other.1);
+        }
+        None
     }
-    let rows = pending.take_touched(alloc, tree.sessions())?;
+}
+
+/// The touched sessions that are among these, with their timeouts.
+pub fn touched(alloc: Global, pending: &mut Pending, live: &Live) -> Result<String, NoMemory> {
+    let rows = pending.take_touched(alloc, live)?;
     format_rows(alloc, rows.as_slice())
 }
 

@@ -1,5 +1,5 @@
 -- The requests of a connection that are answered in their turn.
-use Rattle.std.proofs.Common.{◌≡◌, ℕ, zero, suc, ◌+◌, ◌<◌, ◌≤◌, ◌-◌, ℤ, true, List, [], ◌∷◌, length, slice_get, Option, Some, None, refl, sym, ap, ◌∙◌, arith}
+use Rattle.std.proofs.Common.{◌≡◌, ℕ, zero, suc, ◌+◌, ◌<◌, ◌≤◌, ◌-◌, ℤ, Bool, true, false, if◌then◌else◌, slice_get, Option, Some, None, refl, sym, ap, ◌∙◌, arith}
 use Rattle.std.specs.Prelude.{is_some}
 use Rattle.std.specs.Option.{option_map_or}
 use mathlib.Core.Bool.{true≢false}
@@ -18,10 +18,10 @@ use Rattle.forwarding.specs.Pending.{queue_of, put_queue, take_ready, remove_wri
 use Rattle.forwarding.proofs.Queued.{found_is}
 use Rattle.world.specs.World.{Clients, World}
 use Rattle.world.specs.Steps.{StepResult, no_output, and_then}
-use Rattle.world.specs.Sending.{with_pending, send_or_close}
+use Rattle.world.specs.Sending.{with_pending, close_client, send_or_close}
 use Rattle.leader_answers.specs.declared.due.Due.{Due}
 use Rattle.leader_answers.specs.declared.due.Due.TheVariants.{Nothing, Admission, Ending, Reply}
-use Rattle.leader_answers.specs.Answering.{answer_ready, answer_if_ready, answer_up_to, answer_front, txn_number, admission_of, connection_with, ending_of, reply_as, reply_of, due_by, answer_due, give_answer, due_of, due_in_log, answer_optional_txn, answer_applied_txn}
+use Rattle.leader_answers.specs.Answering.{answer_ready, answer_if_ready, answer_up_to, answer_front, txn_number, admission_of, connection_with, has_moved, send_write_reply, ending_of, reply_as, reply_of, due_by, answer_due, give_answer, due_of, due_in_log, answer_optional_txn, answer_applied_txn}
 use Rattle.write_replies.specs.Replies.{write_look}
 
 -- The world after the request in front was taken.

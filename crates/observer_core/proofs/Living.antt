@@ -46,7 +46,7 @@ use Rattle.learner_sync.specs.declared.phase.Phase.{Phase}
 use Rattle.learner_sync.specs.declared.phase.Phase.TheVariants as phase
 use Rattle.replica.specs.Replica.{Replica}
 use Rattle.replica.proofs.Following.{last-push}
-use Rattle.replica.specs.Taking.{ItemEffect, nothing_loaded, no_effect, last_txn, apply_to_tree, carry_out_all, with_learner, take_item, is_serving_in, is_serving, checkpoint_if}
+use Rattle.replica.specs.Taking.{ItemEffect, with_nothing_loaded, no_effect, last_txn, apply_to_tree, carry_out_all, with_learner, take_item, is_serving_in, is_serving, checkpoint_if}
 use Rattle.replica.specs.Laws.{ServingStays, DialectStays}
 use Rattle.replica.specs.declared.item_outcome.LeaderNews.{LeaderNews}
 use Rattle.replica.specs.declared.item_outcome.LeaderNews.TheVariants as news
@@ -285,8 +285,7 @@ module _ (loading : Loading) (r : Replica) where
   part_serves l (part.Acl a) = loads l (part.Acl a)
   part_serves l (part.Node n) = loads l (part.Node n)
   part_serves l part.End =
-      inl (untold (record (no_effect loading (with_learner r (load_to_drop part.End l))) { loading = nothing_loaded })
-      refl refl)
+      inl (untold (with_nothing_loaded (no_effect loading (with_learner r (load_to_drop part.End l)))) refl refl)
 
   phase_is : (ph : Phase) → is_serving_in ph ≡ true → ph ≡ phase.Serving
   phase_is phase.Serving s = refl

@@ -497,13 +497,13 @@ world_at settings zxid log s touched rest = world_with settings zxid log s (clie
 
 -- A leader's stream without waiting bytes.
 abbrev pub beginning : Leader
-beginning = record { place = place_at Packets []; loading = nothing_loaded }
+beginning = part_reader.opened Zk34
 
 -- The primed machine in this dialect.
 abbrev machine_in : Dialect → Settings → Machine
 machine_in dialect settings =
     initial_machine settings
-    (primed_replica dialect (primed_session settings) settings.timeouts.greatest) (Some part_reader.opened)
+    (primed_replica dialect (primed_session settings) settings.timeouts.greatest) (Some (part_reader.opened dialect))
     (first_client settings)
 
 -- The primed machine in the dialect of ZooKeeper 3.4.
@@ -523,12 +523,12 @@ following settings zxid log s touched rest =
     record { leader = Some beginning; world = world_at settings zxid log s touched rest }
 
 abbrev pub led : World → WorldAndLoading
-led w = record { loading = nothing_loaded; world = w }
+led w = record { loading = nothing_loaded Zk34; world = w }
 
 -- The effect of what was learnt from an item.
 abbrev done : World → Result LearnerStep Fault → Result (StepResult WorldAndLoading) Fault
 done w r =
-    (r >>= λ x. carry_out_all (unled nothing_loaded (with_learner w.replica x)) x.acts) >>= λ t. Ok
+    (r >>= λ x. carry_out_all (unled (nothing_loaded Zk34) (with_learner w.replica x)) x.acts) >>= λ t. Ok
     (step_with_loading t.loading (send_effect w t))
 
 informed_of : (again : ReadAgain) (settings : Settings) (last : ℤ) (log : List Txn) (s : State) (clients : Clients)
@@ -570,7 +570,7 @@ after_set settings touched =
 
 -- Events are sent, and then answers.
 abbrev pub told : List Output → StepResult World → Result (StepResult WorldAndLoading) Fault
-told events answers = Ok (step_with_loading nothing_loaded (prepend_outputs events answers))
+told events answers = Ok (step_with_loading (nothing_loaded Zk34) (prepend_outputs events answers))
 
 -- The events of the last transaction's triggers are sent, and then its client is answered.
 abbrev pub told_by : World → ℤ → FireResult → Result (StepResult WorldAndLoading) Fault

@@ -1,5 +1,6 @@
 -- A machine that takes a leader's stream part by part, and one that takes whole images, stay alike.
 use Rattle.std.proofs.Common.{◌≡◌, ℕ, Bool, true, false, List, [], ◌∷◌, ◌++◌, Option, Some, None, Result, Ok, Err, refl, sym, ap, subst, ◌∙◌}
+use Rattle.settings.specs.declared.dialect.Dialect.{Dialect}
 use Rattle.values.specs.declared.fault.Fault.{Fault}
 use Rattle.jute.specs.Stream.{Unread, Place, with_more_bytes, items_in}
 use Rattle.learner_sync.specs.Learner.{Learner}
@@ -14,8 +15,8 @@ use Rattle.quorum_packet.specs.WholeItems.{is_owed, whole_items}
 use Rattle.quorum_packet.specs.declared.phase.Phase.{Phase}
 use Rattle.quorum_packet.specs.declared.phase.Phase.TheVariants.{Packets, Image}
 use Rattle.replica.specs.Replica.{Replica}
-use Rattle.replica.specs.Taking.{is_serving, checkpoint_if}
-use Rattle.replica.specs.Laws.{awaits_image_in, awaits_image, ImagesComeInParts}
+use Rattle.replica.specs.Taking.{nothing_loaded, follow_leader, is_serving, checkpoint_if}
+use Rattle.replica.specs.Laws.{awaits_image_in, ImagesComeInParts, DialectStays}
 use Rattle.observer_core.specs.declared.event.Event.{Event}
 use Rattle.observer_core.specs.declared.event.Event.TheVariants as event
 use Rattle.world.specs.World.{World}
@@ -26,19 +27,19 @@ use Rattle.world.specs.Clients.{heard_connection}
 use Rattle.client_service.specs.Serve.{take_client_bytes, open_client, end_client, expire_session}
 use Rattle.observer_core.specs.Play.{is_serving_clients, with_checkpoint, play_event_by, play_event, play_by, play, new_machine, primed_machine, new_by, primed_by}
 use Rattle.observer_core.specs.WholeImages.{HasSameEffect, PartsAreWholeImages}
-use Rattle.observer_core.proofs.Simulation.{Alike, LeadersAlike, Same, arrives_same}
+use Rattle.observer_core.proofs.Simulation.{Expected, expected, Alike, LeadersAlike, Same, arrives_same}
 use Rattle.observer_core.proofs.Unmoved.{client_same, open_same, end_same, expire_same}
 
 -- ---- the relation
 
-abbrev OpenAlike : Bool → Option Leader → Option (Place Bool) → Type 0
-OpenAlike waits None None = Unit {0}
-OpenAlike waits (Some l) (Some p) = Alike l.loading waits l.place p
-OpenAlike waits l p = ⊥
+abbrev OpenAlike : Expected → Option Leader → Option (Place Bool) → Type 0
+OpenAlike x None None = Unit {0}
+OpenAlike x (Some l) (Some p) = Alike l.loading x l.place p
+OpenAlike x l p = ⊥
 
 record MachinesAlike (m : Machine) (n : MachineBy (Place Bool)) : Type 0 where
   world : m.world ≡ n.world
-  leader : OpenAlike (awaits_image m.world.replica) m.leader n.leader
+  leader : OpenAlike (expected m.world.replica) m.leader n.leader
 
 record SameStep (a : StepResult Machine) (b : StepResult (MachineBy (Place Bool))) : Type 0 where
   outputs : a.outputs ≡ b.outputs
@@ -60,7 +61,7 @@ stood_same : (a : StepResult (StreamProgress Phase WorldAndLoading)) (b : StepRe
 stood_same a b s = by a.after.place b.after.place s.leader
   where
     by : (p : Result (Place Phase) Fault) (q : Result (Place Bool) Fault)
-        → LeadersAlike a.after.left.loading (awaits_image a.after.left.world.replica) p q
+        → LeadersAlike a.after.left.loading (expected a.after.left.world.replica) p q
         → SameStep (stood a p) (whole_stood b q)
     by (Ok p) (Ok q) alike =
         record { outputs = λ i. s.outputs i ++ []; machine = record { world = s.world; leader = alike } }
@@ -73,22 +74,22 @@ stood_same a b s = by a.after.place b.after.place s.leader
 
 -- ---- the end of a stream
 
-ends_at : (l : Loading) (phase : Phase) (u v : Unread) → SameUnread l phase u v
+ends_at : (d : Dialect) (l : Loading) (phase : Phase) (u v : Unread) → SameUnread d l phase u v
     → stream_end phase u ≡ whole_end (is_owed phase) v
-ends_at l Packets (Ok u) (Ok v) s = ap (λ (x : List ℕ). stream_end Packets (Ok x)) s.1 ∙ by v
+ends_at d l Packets (Ok u) (Ok v) s = ap (λ (x : List ℕ). stream_end Packets (Ok x)) s.1 ∙ by v
   where
     by : (x : List ℕ) → stream_end Packets (Ok x) ≡ whole_end false (Ok x)
     by [] = refl
     by (b ∷ bytes) = refl
-ends_at l (Image phase) (Ok u) (Ok v) s = refl
-ends_at l phase (Err d) (Err e) s = ap (λ x. Err x) s
-ends_at l phase (Ok u) (Err e) s = absurd s
-ends_at l phase (Err d) (Ok v) s = absurd s
+ends_at d l (Image phase) (Ok u) (Ok v) s = refl
+ends_at d l phase (Err fault) (Err e) s = ap (λ x. Err x) s
+ends_at d l phase (Ok u) (Err e) s = absurd s
+ends_at d l phase (Err fault) (Ok v) s = absurd s
 
-ends_same : (l : Loading) (place : Place Phase) (whole : Place Bool) → SamePlace l place whole
+ends_same : (d : Dialect) (l : Loading) (place : Place Phase) (whole : Place Bool) → SamePlace d l place whole
     → stream_end place.phase place.unread ≡ whole_end whole.phase whole.unread
-ends_same l place whole s =
-    ends_at l place.phase place.unread whole.unread s.1
+ends_same d l place whole s =
+    ends_at d l place.phase place.unread whole.unread s.1
     ∙ ap (λ (owed : Bool). whole_end owed whole.unread) (sym s.0)
 
 ended_same : (w : World) (r : Result (Unit {0}) Fault) → SameStep (on_stream_end r w) (on_stream_end r w)
@@ -107,20 +108,22 @@ rebased_phase false r = refl
 
 -- ---- events
 
--- The world changes, but whether an image may come doesn't.
+-- The world changes, but what counts of the replica doesn't.
 beside_same : (w : World) (l : Option Leader) (p : Option (Place Bool)) (h : StepResult World)
-    → awaits_image h.after.replica ≡ awaits_image w.replica → OpenAlike (awaits_image w.replica) l p
+    → expected h.after.replica ≡ expected w.replica → OpenAlike (expected w.replica) l p
     → SameStep (with_leader l h) (with_leader p h)
 beside_same w l p h same a = record {
   outputs = refl;
-  machine = record { world = refl; leader = subst (λ (waits : Bool). OpenAlike waits l p) (sym same) a };
+  machine = record { world = refl; leader = subst (λ (x : Expected). OpenAlike x l p) (sym same) a };
 }
 
 -- Both machines begin a stream at the same place.
-opened_alike : (waits : Bool) → Alike part_reader.opened.loading waits part_reader.opened.place image_reader.opened
-opened_alike waits = record { same = (refl, (refl, refl)); awaited = λ owes. absurd cc }
+opened_alike : (d : Dialect) (x : Expected) → x.dialect ≡ d
+    → Alike (part_reader.opened d).loading x (part_reader.opened d).place (image_reader.opened d)
+opened_alike d x speaks =
+    record { same = (refl, (ap nothing_loaded (sym speaks), refl)); awaited = λ owes. absurd cc }
 
-module _ (law : ImagesComeInParts) (pieces : PiecesAreGrouped) (order : ItemsAreInOrder) where
+module _ (law : ImagesComeInParts) (stays : DialectStays) (pieces : PiecesAreGrouped) (order : ItemsAreInOrder) where
   -- Both machines have the same world.
   abbrev SameOn : World → Option Leader → Option (Place Bool) → Event → Type 0
   SameOn w l p e =
@@ -128,22 +131,34 @@ module _ (law : ImagesComeInParts) (pieces : PiecesAreGrouped) (order : ItemsAre
       (play_event_by image_reader (record { leader = p; world = w }) e)
 
   step_on : (w : World) (l : Option Leader) (p : Option (Place Bool)) (e : Event)
-      → OpenAlike (awaits_image w.replica) l p → SameOn w l p e
+      → OpenAlike (expected w.replica) l p → SameOn w l p e
   step_on w l p (event.ClientUp n) a =
-      beside_same w l p (no_output (open_client n w)) (ap awaits_image (open_same n w)) a
+      beside_same w l p (no_output (open_client n w)) (ap expected (open_same n w)) a
   step_on w l p (event.ClientBytes n bytes) a =
       let connection = heard_connection n w.clients in
       beside_same w l p (take_client_bytes (is_serving_clients w) n w connection bytes)
-      (ap awaits_image (client_same (is_serving_clients w) n w connection bytes)) a
+      (ap expected (client_same (is_serving_clients w) n w connection bytes)) a
   step_on w l p (event.ClientEnd n) a =
-      beside_same w l p (no_output (end_client n w)) (ap awaits_image (end_same n w)) a
+      beside_same w l p (no_output (end_client n w)) (ap expected (end_same n w)) a
   step_on w l p (event.Expire session) a =
-      beside_same w l p (expire_session w session) (ap awaits_image (expire_same w session)) a
+      beside_same w l p (expire_session w session) (ap expected (expire_same w session)) a
   step_on w l p event.Checkpoint a =
       beside_same w l p (no_output (with_checkpoint w))
-      (ap awaits_image_in (rebased_phase (is_serving w.replica) w.replica)) a
+      (λ i. record {
+        dialect = stays.rebases w.replica i;
+        image = ap awaits_image_in (rebased_phase (is_serving w.replica) w.replica) i;
+      })
+      a
   step_on w None None event.LeaderUp a =
-      record { outputs = refl; machine = record { world = refl; leader = opened_alike _ } }
+      let d = w.replica.learner.dialect in
+      let met = follow_leader w.replica w.settings.server_id in
+      record {
+        outputs = refl;
+        machine = record {
+          world = refl;
+          leader = opened_alike d (expected met.replica) (stays.begins w.replica w.settings.server_id);
+        };
+      }
   step_on w None None (event.LeaderBytes bytes) a =
       record { outputs = refl; machine = record { world = refl; leader = tt } }
   step_on w None None event.LeaderEnd a = record { outputs = refl; machine = record { world = refl; leader = tt } }
@@ -152,10 +167,10 @@ module _ (law : ImagesComeInParts) (pieces : PiecesAreGrouped) (order : ItemsAre
   step_on w (Some l) (Some p) (event.LeaderBytes bytes) a =
       stood_same (take_items item_step (record { loading = l.loading; world = w })
       (items_shown_at (with_more_bytes l.place bytes)))
-      (take_items whole_item_step w (items_in whole_items (with_more_bytes p bytes)))
-      (arrives_same law pieces order l.loading l.place p w bytes a)
+      (take_items whole_item_step w (items_in (whole_items w.replica.learner.dialect) (with_more_bytes p bytes)))
+      (arrives_same law stays pieces order l.loading l.place p w bytes a)
   step_on w (Some l) (Some p) event.LeaderEnd a =
-      let same = ends_same l.loading l.place p a.same in
+      let same = ends_same w.replica.learner.dialect l.loading l.place p a.same in
       let stops = stream_end l.place.phase l.place.unread in
       subst (λ (r : Result (Unit {0}) Fault). SameStep (on_stream_end stops w) (on_stream_end r w)) same
       (ended_same w stops)
@@ -188,5 +203,5 @@ module _ (law : ImagesComeInParts) (pieces : PiecesAreGrouped) (order : ItemsAre
     made = λ settings events. seen_same (new_machine settings) (new_by image_reader settings) events
         (record { world = refl; leader = tt });
     primed = λ settings events. seen_same (primed_machine settings) (primed_by image_reader settings) events
-        (record { world = refl; leader = opened_alike _ });
+        (record { world = refl; leader = opened_alike settings.dialect _ refl });
   }

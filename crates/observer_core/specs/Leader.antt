@@ -1,5 +1,6 @@
 -- What a leader's stream does: each packet, and each part of an image or each whole image, in the order of the stream.
 use Rattle.std.specs.Prelude.{ℕ, List, [], ◌∷◌, ◌++◌, map, Option, Some, None, is_some, Result, Ok, Err, Bool, true, false}
+use Rattle.settings.specs.declared.dialect.Dialect.{Dialect}
 use Rattle.values.specs.declared.fault.Fault.{Fault}
 use Rattle.values.specs.declared.fault.Fault.TheVariants.{Short}
 use Rattle.jute.specs.Format.{◌>>=◌}
@@ -114,8 +115,8 @@ pub record WorldAndLeader (L : Type 0) : Type 0 where
   pub leader : Result L Fault
 
 pub record StreamReader (L : Type 0) : Type 0 where
-  -- The state at the start of a stream.
-  pub opened : L
+  -- The state at the start of a stream in this dialect.
+  pub opened : Dialect → L
   -- What a piece of the stream does.
   pub taken : L → World → List ℕ → StepResult (WorldAndLeader L)
   -- Whether the stream may end in this state.
@@ -128,7 +129,7 @@ leader_at loading r = r >>= λ place. Ok (record { place = place; loading = load
 -- the leader.
 abbrev pub part_reader : StreamReader Leader
 part_reader = record {
-  opened = record { place = place_at Packets []; loading = nothing_loaded };
+  opened = λ dialect. record { place = place_at Packets []; loading = nothing_loaded dialect };
   taken = λ l w bytes.
       let h = take_items item_step (record { loading = l.loading; world = w })
       (items_shown_at (with_more_bytes l.place bytes)) in
@@ -149,9 +150,10 @@ whole_end false (Ok (b ∷ bytes)) = Err Short
 -- By whole images.
 abbrev pub image_reader : StreamReader (Place Bool)
 image_reader = record {
-  opened = place_at false [];
+  opened = λ dialect. place_at false [];
   taken = λ place w bytes.
-      let h = take_items whole_item_step w (items_in whole_items (with_more_bytes place bytes)) in
+      let stream = whole_items w.replica.learner.dialect in
+      let h = take_items whole_item_step w (items_in stream (with_more_bytes place bytes)) in
       record { outputs = h.outputs; after = record { world = h.after.left; leader = h.after.place } };
   ended = λ place. whole_end place.phase place.unread;
 }
@@ -168,7 +170,10 @@ meet_leader side None w =
     let t = follow_leader w.replica w.settings.server_id in
     record {
       outputs = map to_leader t.replies;
-      after = record { leader = Some side.opened; world = record w { replica = t.replica } };
+      after = record {
+        leader = Some (side.opened w.replica.learner.dialect);
+        world = record w { replica = t.replica };
+      };
     }
 meet_leader side (Some l) w = no_output (record { leader = Some l; world = w })
 

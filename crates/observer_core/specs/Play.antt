@@ -75,8 +75,8 @@ first_client settings =
 abbrev pub primed_by : {L : Type 0} → StreamReader L → Settings → MachineBy L
 primed_by side settings =
     initial_machine settings
-    (primed_replica settings.dialect (primed_session settings) settings.timeouts.greatest) (Some side.opened)
-    (first_client settings)
+    (primed_replica settings.dialect (primed_session settings) settings.timeouts.greatest)
+    (Some (side.opened settings.dialect)) (first_client settings)
 
 abbrev pub new_machine : Settings → Machine
 new_machine settings = new_by part_reader settings

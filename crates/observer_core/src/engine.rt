@@ -123,7 +123,7 @@ impl Engine {
         let replica = Replica::primed(alloc, settings.dialect, session, time_out)?;
         let leader = Leader {
             feed: PacketFeed::new(alloc),
-            loader: Loader::new(alloc),
+            loader: Loader::in_dialect(settings.dialect, alloc),
         };
         Ok(Engine::started(alloc, config, replica, Some(leader), clients))
     }

@@ -46,6 +46,7 @@ pub fn parts_are_whole_images()
 {
     quorum_packet::grouped_items();
     replica::law::images();
+    replica::law::dialects();
 }
 
 /// A packet or part that is refused changes nothing. Where bytes of the leader contain one, the outputs and the state

@@ -242,10 +242,11 @@ pub(crate) fn meet_leader(alloc: Global, machine: &mut Machine) -> Result<(), No
         return Ok(());
     }
     let server_id = machine.stage.world.settings.server_id;
+    let dialect = machine.stage.world.replica.learner().dialect();
     let replies = machine.stage.world.replica.start(alloc, server_id)?;
     machine.leader = Some(Leader {
         feed: PacketFeed::new(alloc),
-        loader: Loader::new(alloc),
+        loader: Loader::in_dialect(dialect, alloc),
     });
     send_each(alloc, replies.as_slice(), &mut machine.stage.outputs)
 }

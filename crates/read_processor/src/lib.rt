@@ -21,6 +21,7 @@
 //! }
 //!
 //! let synced = Look::of_path(alloc, "/a")?;
+//! let created = Look::of_created(alloc, "/a", node)?;
 //! let told = Look::of_event(alloc, &event)?.into_frame(NOTIFICATION_XID, -1);
 //! let renewal = renew(alloc, &tree, &set_watches)?;
 //! ```

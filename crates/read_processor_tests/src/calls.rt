@@ -61,6 +61,12 @@ fn shown(alloc: Global, transactions: &[&str], request: &Request<'_>) -> Result<
     Ok(look(alloc, &tree, &[], request)?)
 }
 
+/// Whether the reply to request 1 at zxid 0 with this answer is this, in words of hexadecimal digits.
+pub fn is_replied(alloc: Global, look: Look, parts: &[&str]) -> Result<bool, Fail> {
+    let frame = look.into_frame(1, 0).ok_or("a frame")?;
+    Ok(frame.as_slice() == bytes_of(alloc, parts)?.as_slice())
+}
+
 // The frame of the answer to request 1 at this zxid.
 fn frame_of(
     alloc: Global,

@@ -1,6 +1,6 @@
 //! Frames of replies.
 
-use crate::calls::is_answered;
+use crate::calls::{is_answered, is_replied, tree_after};
 use client_records::ReadKind;
 use read_processor::Look;
 use std::alloc::Global;
@@ -83,6 +83,34 @@ fn null_is_shown(rt: HostRuntime) -> Result<(), Fail> {
     let log = [CREATE_A, SET_A];
     let zxid = 0x1_0000_0002;
     assert!(rt; is_answered(rt.alloc(), &log, ReadKind::GetData, "/a", zxid, &wanted)?);
+    Ok(())
+}
+
+/// Session 7 creates /a with the data "hi", which nobody may read.
+const CREATE_HIDDEN_A: &str =
+    "0000000000000007 00000001 0000000100000001 00000000000003e8 00000001 \
+    00000002 2f61 00000002 6869 00000001 00000002 00000005 776f726c64 00000006 616e796f6e65 \
+    00 00000001";
+
+/// The Stat of that node.
+const STAT_OF_A: [&str; 2] = [
+    "0000000100000001 0000000100000001 00000000000003e8 00000000000003e8",
+    "00000000 00000000 00000000 0000000000000000 00000002 00000000 0000000100000001",
+];
+
+/// A new node with its path, and a node's data, whoever asks.
+#[test]
+fn a_node_is_shown(rt: HostRuntime) -> Result<(), Fail> {
+    let alloc = rt.alloc();
+    let tree = tree_after(alloc, &[CREATE_HIDDEN_A])?;
+    let node = tree.node("/a").ok_or("a node")?;
+    let created = Look::of_created(alloc, "/a", node)?;
+    let [front, back] = STAT_OF_A;
+    let wanted = ["0000005a", NO_ERROR, "00000002 2f61", front, back];
+    assert!(rt; is_replied(alloc, created, &wanted)?);
+    let shown = Look::of_node(alloc, ReadKind::GetData, node)?;
+    let wanted = ["0000005a", NO_ERROR, "00000002 6869", front, back];
+    assert!(rt; is_replied(alloc, shown, &wanted)?);
     Ok(())
 }
 

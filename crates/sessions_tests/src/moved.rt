@@ -75,10 +75,14 @@ fn a_session_of_another_server_can_be_claimed(rt: HostRuntime) -> Result<(), Fai
     Ok(())
 }
 
+// The response to a client that claims the session at a server whose passwords are those of ZooKeeper's servers.
+fn claim_of_java(alloc: Global, session: i64, password: Option<&[u8]>) -> Result<String, Fail> {
+    claim(alloc, &java_sessions(alloc), 20_000, session, password)
+}
+
 #[test]
 fn a_claim_wants_the_sessions_own_password(rt: HostRuntime) -> Result<(), Fail> {
     let alloc = rt.alloc();
-    let sessions = java_sessions(alloc);
     let claims: [(i64, Option<&[u8]>); 5] = [
         (MOVED, None),
         (MOVED, Some(&[0; 16])),
@@ -89,23 +93,43 @@ fn a_claim_wants_the_sessions_own_password(rt: HostRuntime) -> Result<(), Fail> 
         ),
         (0x0200_001c_16d8_0000, Some(MOVED_PASSWORD)),
     ];
-    for (session_id, password) in claims {
+    for (session, password) in claims {
         assert_eq!(rt;
-            claim(alloc, &sessions, 20_000, session_id, password)?.as_str(),
+            claim_of_java(alloc, session, password)?.as_str(),
             "refused"
         );
     }
-    // With a secret the passwords of ZooKeeper's servers are refused, and those made with it are taken.
-    let keyed = sessions_of(alloc, 3)?;
-    assert_eq!(rt;
-        claim(alloc, &keyed, 20_000, MOVED, Some(MOVED_PASSWORD))?.as_str(),
-        "refused"
-    );
+    Ok(())
+}
+
+// The response to a client that claims the session at a server with a secret.
+fn claim_of_keyed(alloc: Global, session: i64, password: &[u8]) -> Result<String, Fail> {
+    claim(
+        alloc,
+        &sessions_of(alloc, 3)?,
+        20_000,
+        session,
+        Some(password),
+    )
+}
+
+#[test]
+fn a_secret_makes_passwords_of_its_own(rt: HostRuntime) -> Result<(), Fail> {
+    let alloc = rt.alloc();
     let own = b"\x9a\xc2\xa1\x54\x8d\x95\xbd\x05\x2e\x02\x84\x3f\xc8\x76\x06\xf6";
-    assert_eq!(rt;
-        claim(alloc, &keyed, 20_000, 0x0300_0000_0000_0001, Some(own))?.as_str(),
-        "20000 0300000000000001 9ac2a1548d95bd052e02843fc87606f6",
-    );
+    for (session, password, expected) in [
+        (MOVED, MOVED_PASSWORD, "refused"),
+        (
+            0x0300_0000_0000_0001,
+            own,
+            "20000 0300000000000001 9ac2a1548d95bd052e02843fc87606f6",
+        ),
+    ] {
+        assert_eq!(rt;
+            claim_of_keyed(alloc, session, password)?.as_str(),
+            expected
+        );
+    }
     Ok(())
 }
 

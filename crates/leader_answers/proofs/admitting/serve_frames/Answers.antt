@@ -4,7 +4,6 @@ use Rattle.std.proofs.lemmas.Int.{to_z-of_z}
 use Rattle.std.proofs.Math.Seq.{drop-cons}
 use Rattle.values.specs.Gains.{Gains}
 use Rattle.world.specs.World.{World}
-use Rattle.world.specs.Steps.{StepResult}
 use Rattle.world.specs.Clients.{is_heard}
 use Rattle.world.specs.Results.{MeetsStep}
 use Rattle.world.proofs.Steps.{begins, steps, ends, stops_in_step}
