@@ -54,7 +54,9 @@ one_session_each apart c a m n session at_m at_n =
 -- The connection of a session has it.
 pub owner_has : (s : Sessions) (session : ℤ) (n : ℕ) → SessionsAgree s → connection_of s session ≡ Some n
     → session_of_connection s n ≡ Some session
-owner_has s session n a e = ap session_in (a.connections session n e).1
+owner_has s session n a e =
+    let has = (a.connections session n e).1 in
+    ap session_in has.0 ∙ ap Some has.1
 
 -- ---- connections open
 
