@@ -11,7 +11,8 @@ comes (OBSERVERINFO), is told the epoch (LEADERINFO), and says how far it is (AC
 with the transactions that the log still has, a TRUNC, or a SNAP with an image of the tree. NEWLEADER follows, which it
 acknowledges, and UPTODATE. From then on it gets each transaction by an INFORM, and a PING each half tick. What the
 observer's clients ask for comes as a REQUEST: sessions are created and closed, a sync is answered by a SYNC, and any
-other change fails, since this leader alone makes changes.
+other change fails, since this leader alone makes changes. For a session that a client comes back with a REVALIDATE
+comes, and the answer is whether the session lives.
 
 The changes begin when an observer follows, and more may come meanwhile. After the last one the leader goes, and ends
 with status 0; with status 1 where its observers have gone before.
@@ -26,10 +27,10 @@ import time
 from dataclasses import dataclass
 from typing import List, Optional
 
-from jute import Reader, buffer, int32, int64, text, vector
+from jute import Reader, boolean, buffer, int32, int64, text, vector
 from tree import CLOSE_SESSION, CREATE, CREATE_SESSION, DELETE, ERROR, SET_DATA, Transaction, Tree
 
-REQUEST, PROPOSAL, ACK, COMMIT, PING, SYNC, INFORM, NEWLEADER = 1, 2, 3, 4, 5, 7, 8, 10
+REQUEST, PROPOSAL, ACK, COMMIT, PING, REVALIDATE, SYNC, INFORM, NEWLEADER = 1, 2, 3, 4, 5, 6, 7, 8, 10
 UPTODATE, DIFF, TRUNC, SNAP, OBSERVERINFO, LEADERINFO, ACKEPOCH = 12, 13, 14, 15, 16, 17, 18
 NAMES = {DIFF: "DIFF", TRUNC: "TRUNC", SNAP: "SNAP"}
 PROTOCOL = 0x10000
@@ -100,6 +101,12 @@ class Leader:
                 learner.send(Packet(SYNC, 0))
         else:
             self.propose(f"a request of {named} fails", ERROR, int32(UNIMPLEMENTED), client, cxid)
+
+    def revalidate(self, learner: "Learner", reader: Reader) -> None:
+        """Says whether a session lives."""
+        client = reader.int64()
+        with self.lock:
+            learner.send(Packet(REVALIDATE, -1, int64(client) + boolean(client in self.tree.sessions)))
 
     def forget_log(self) -> None:
         """Drops the log, as a leader that starts anew from its snapshot has none."""
@@ -220,6 +227,8 @@ class Learner:
             packet = self.next()
             if packet.kind == REQUEST:
                 self.leader.answer(self, Reader(packet.data or b""))
+            elif packet.kind == REVALIDATE:
+                self.leader.revalidate(self, Reader(packet.data or b""))
 
 
 # The session that makes and sets the nodes, and the first of those that hold an ephemeral for a while.

@@ -13,7 +13,6 @@ says what may become of a run that met a refusal:
 
 What the client is sent before the end is right in each case, and no step takes over ten seconds.
 """
-import hashlib
 import os
 import pathlib
 import queue
@@ -177,8 +176,8 @@ class Observed:
         if len(answer) < CONNECTED_LEN:
             raise Closed
         (session,) = struct.unpack_from(">q", answer, 12)
-        password = hashlib.sha1(struct.pack(">q", session)).digest()[:16]
-        right = struct.pack(">iiiq", CONNECTED_LEN - 4, 0, 10000, session) + buffer(password) + b"\0"
+        password = buffer(forwarded.password_of(session))
+        right = struct.pack(">iiiq", CONNECTED_LEN - 4, 0, 10000, session) + password + b"\0"
         assert answer == right and session in self.leader.sessions, answer.hex()
         return session
 

@@ -2,7 +2,7 @@
 import struct
 from typing import NamedTuple
 
-from leader import CREATE, SYNC, buffer, received
+from leader import CREATE, CREATE2, SYNC, buffer, received
 
 GET_DATA = 4
 OPEN_ACL = struct.pack(">ii", 1, 31) + b"\0\0\0\5world" + b"\0\0\0\6anyone"
@@ -25,8 +25,13 @@ def frame(xid, kind, body=b""):
     return buffer(struct.pack(">ii", xid, kind) + body)
 
 
-def create(xid, path, content=b"hi", flags=0):
-    return frame(xid, CREATE, buffer(path) + buffer(content) + OPEN_ACL + struct.pack(">i", flags))
+def create(xid, path, content=b"hi", flags=0, kind=CREATE):
+    return frame(xid, kind, buffer(path) + buffer(content) + OPEN_ACL + struct.pack(">i", flags))
+
+
+def create2(xid, path):
+    """A create that is answered with the Stat, too."""
+    return create(xid, path, kind=CREATE2)
 
 
 def get_data(xid, path):
@@ -47,6 +52,16 @@ class Session(NamedTuple):
     def connect(self):
         """The frame that takes it up on another connection."""
         return buffer(struct.pack(">iqiq", 0, 0, self.timeout, self.id) + buffer(self.password))
+
+
+def password_of(session):
+    """What each server of ZooKeeper gives a session: 16 bytes of a java.util.Random with a seed of its id."""
+    seed = (session ^ 0xB3415C00 ^ 0x5DEECE66D) % (1 << 48)
+    password = b""
+    for _ in range(4):
+        seed = (seed * 0x5DEECE66D + 11) % (1 << 48)
+        password += struct.pack("<I", (seed >> 16) % (1 << 32))
+    return password
 
 
 def connected(connection):

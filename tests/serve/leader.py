@@ -1,5 +1,5 @@
 """A small leader, of epoch 1 unless it is told otherwise: it creates and ends the sessions that its observer asks for,
-and keeps the other requests until a test takes them."""
+says which of those live that clients bring from elsewhere, and keeps the other requests until a test takes them."""
 import queue
 import select
 import struct
@@ -7,8 +7,8 @@ import threading
 import time
 from typing import List, NamedTuple, Tuple
 
-CREATE, SYNC, CREATE_SESSION, CLOSE_SESSION, ERROR = 1, 9, -10, -11, -1
-REQUEST, PROPOSAL, PING, SYNCED, INFORM = 1, 2, 5, 7, 8
+CREATE, SYNC, CREATE2, CREATE_SESSION, CLOSE_SESSION, ERROR = 1, 9, 15, -10, -11, -1
+REQUEST, PROPOSAL, PING, REVALIDATE, SYNCED, INFORM = 1, 2, 5, 6, 7, 8
 EPOCH_1 = 1 << 32
 SECONDS = 10
 
@@ -21,6 +21,13 @@ class Asked(NamedTuple):
     kind: int
     body: bytes
     ids: List[Tuple[bytes, bytes]]
+
+
+class Claim(NamedTuple):
+    """A session that a client has from another server or from before, and the timeout that the client is to be told."""
+
+    session: int
+    timeout: int
 
 
 def received(connection, count):
@@ -85,14 +92,16 @@ class Leader:
     """Leads over a connection on which the observer is up to date. Its transactions are numbered by `last`, from 1 on
     in its epoch.
 
-    While `creates` is false, what asks for a session or for its end is kept with the other requests. Whoever sends
-    several packets that belong together holds the lock, since sessions are created at any time.
+    While `creates` is false, what asks for a session or for its end is kept with the other requests. While `confirms`
+    is false, claims are kept, too; else any session lives that it hasn't ended, wherever it was made. Whoever sends
+    several packets that belong together holds the lock, since sessions are created and confirmed at any time.
     """
 
     def __init__(self, connection, epoch=1):
         self.connection, self.epoch, self.last, self.lock = connection, epoch << 32, 0, threading.RLock()
-        self.requests, self.pings = queue.Queue(), queue.Queue()
-        self.sessions, self.creates, self.has_ended = {}, True, threading.Event()
+        self.requests, self.claims, self.pings = queue.Queue(), queue.Queue(), queue.Queue()
+        self.sessions, self.ended, self.creates, self.confirms = {}, set(), True, True
+        self.has_ended = threading.Event()
         self.stops, self.wrong = threading.Event(), None
         # How many seconds it has worked on what came.
         self.worked = 0.0
@@ -123,6 +132,10 @@ class Leader:
         if kind == PING:
             self.pings.put([struct.unpack_from(">qi", content, at) for at in range(0, len(content), 12)])
             return
+        if kind == REVALIDATE:
+            assert (zxid, ids) == (-1, []), (zxid, ids)
+            self.claim(Claim(*struct.unpack(">qi", content)))
+            return
         assert (kind, zxid) == (REQUEST, -1), (kind, zxid)
         asked = Asked(*struct.unpack(">qii", content[:16]), content[16:], ids)
         if asked.kind == CREATE_SESSION and self.creates:
@@ -132,9 +145,19 @@ class Leader:
         else:
             self.requests.put(asked)
 
+    def claim(self, claim):
+        if self.confirms:
+            self.settles(claim, claim.session not in self.ended)
+        else:
+            self.claims.put(claim)
+
     def asked(self):
         """Takes the oldest request that isn't answered."""
         return self.requests.get(timeout=SECONDS)
+
+    def claimed(self):
+        """Takes the oldest claim that isn't answered."""
+        return self.claims.get(timeout=SECONDS)
 
     # ---- what is sent
 
@@ -165,15 +188,23 @@ class Leader:
     def end(self, session, xid=0):
         """Ends a session: because its client asks for that, or because it has expired."""
         self.sessions.pop(session, None)
+        self.ended.add(session)
         return self.informs(CLOSE_SESSION, b"", session, xid)
+
+    def settles(self, claim, lives):
+        """Says whether a session lives. Then its requests from this observer are done from now on."""
+        with self.lock:
+            if lives:
+                self.sessions[claim.session] = claim.timeout
+            self.send(packet(REVALIDATE, -1, struct.pack(">q?", claim.session, lives)))
 
     def done(self, request):
         """What is sent when a create or a sync is done."""
         if request.kind == SYNC:
             return packet(SYNCED, 0)
-        assert request.kind == CREATE and request.body.endswith(struct.pack(">i", 0)), request
+        assert request.kind in (CREATE, CREATE2) and request.body.endswith(struct.pack(">i", 0)), request
         body = request.body[:-4] + struct.pack(">?i", False, -1)
-        return self.made(CREATE, body, request.session, request.xid)
+        return self.made(request.kind, body, request.session, request.xid)
 
     def does(self, request):
         """Does a create or a sync, and returns the last zxid."""

@@ -9,7 +9,7 @@ import time
 
 import forwarded
 import several
-from leader import CREATE, INFORM, PING, PROPOSAL, buffer, packet
+from leader import CREATE, CREATE2, INFORM, PING, PROPOSAL, buffer, packet
 from server import CREATE_A, GET, PING as CLIENT_PING, TOP, is_closed, reset, wait_until
 from several import (
     ACK, DIFF, EPOCH, LEADERINFO, NEWLEADER, SNAP, TRUNC, UPTODATE, Following, Seat, at_once, image,
@@ -436,9 +436,14 @@ REFUSED = {
     "F2 BadLength": bytes.fromhex("00000008 0000000100000001 ffffff00"),
     "F3 BadText": refused(CREATE, NEXT, created(b"/\xc0\xaf")),
     "F4 BadPath": refused(CREATE, NEXT, created(b"a")),
-    "F5 BadTxnType": refused(15, NEXT, created(b"/a")),
-    "F6 TrailingBytes": refused(CREATE, NEXT, created(b"/a") + bytes(12)),
+    "F5 BadTxnType": refused(12, NEXT, created(b"/a")),
+    "F6 TrailingBytes": refused(CREATE, NEXT, created(b"/a") + bytes(11)),
     "F7 OutOfOrder": refused(CREATE, NEXT, created(b"/a")) * 2,
+}
+# What is refused with `--dialect 3.4` alone: a create2, and a digest behind a create.
+REFUSED_EARLIER = {
+    "F5 BadTxnType": refused(CREATE2, NEXT, created(b"/a")),
+    "F6 TrailingBytes": refused(CREATE, NEXT, created(b"/a") + bytes(12)),
 }
 
 
@@ -454,8 +459,8 @@ def ends_by(fault, line, server):
     assert told[len(begin) :].strip() in page, f"docs/OPERATING.md doesn't say: {told[len(begin):].strip()}"
 
 
-def refuses_while_it_serves(fault, content):
-    with Following([Seat()], "--log", "off") as server:
+def refuses_while_it_serves(fault, content, *words):
+    with Following([Seat()], "--log", "off", *words) as server:
         line = server.seats[0].accept()
         line.leads(1)
         with server.connection() as client:
@@ -503,6 +508,8 @@ def refuses_a_cut_below_its_base():
 
 def test_what_is_refused_ends_the_process():
     jobs = {name: lambda name=name, it=it: refuses_while_it_serves(name, it) for name, it in REFUSED.items()}
+    for name, it in REFUSED_EARLIER.items():
+        jobs[f"{name} in dialect 3.4"] = lambda name=name, it=it: refuses_while_it_serves(name, it, "--dialect", "3.4")
     jobs.update(F8=refuses_a_commit, F12=refuses_a_packet, F9=refuses_a_cut_below_its_base)
     at_once(jobs)
 

@@ -2,10 +2,11 @@
 """tests/serve/run.py [PROGRAM] [--long] [NAME ..]: faults over sockets, tried at `serve` of the built program.
 
 It plays a small leader and many clients: some are reset, some are cut in the middle of a frame, some say nothing, some
-don't read, some send what is no frame, some go while their session or a write of theirs waits for the leader, and many
-of these load it together with clients that pipeline; and leaders that fault, or end in the middle of an image. Then it
-attacks the server (attacks.py, attacks_on_memory.py). By --long some of this is tried more often, or whole. PROGRAM is
-crates/replay_runner/out/replay_runner where none is named. The last line is `N passed, M failed`.
+don't read, some send what is no frame, some go while their session or a write of theirs waits for the leader, some
+bring their sessions from elsewhere (claims.py), and many of these load it together with clients that pipeline; and
+leaders that fault, or end in the middle of an image. Then it attacks the server (attacks.py, attacks_on_memory.py). By
+--long some of this is tried more often, or whole. PROGRAM is crates/replay_runner/out/replay_runner where none is named.
+The last line is `N passed, M failed`.
 """
 import os
 import queue
@@ -25,6 +26,7 @@ import attacks  # noqa: E402
 import attacks_on_memory  # noqa: E402
 import bounds  # noqa: E402
 import checkpoints  # noqa: E402
+import claims  # noqa: E402
 import commands  # noqa: E402
 import configured  # noqa: E402
 import forwarded  # noqa: E402
@@ -36,11 +38,12 @@ import silence  # noqa: E402
 from leader import CLOSE_SESSION, CREATE, ERROR, EPOCH_1, received  # noqa: E402
 from server import (  # noqa: E402
     ACKEPOCH, CONNECT, CONNECTED_LEN, GET, GOT_LEN, LEADERINFO, OBSERVERINFO, PING, PINGED_LEN, SNAP, UPTODATE, Program,
-    Server, got, hexa, is_closed, reset, wait_until,
+    Server, got, hexa, is_closed, is_silent, reset, wait_until,
 )
 
 MODULES = (
-    commands, configured, sys.modules[__name__], logs, next_leaders, silence, checkpoints, bounds, attacks, attacks_on_memory,
+    commands, configured, sys.modules[__name__], claims, logs, next_leaders, silence, checkpoints, bounds, attacks,
+    attacks_on_memory,
 )
 
 
@@ -367,11 +370,7 @@ def test_writes_are_forwarded_and_answered():
         assert asked[:3] == (session, 1, CREATE) and asked.ids == [], asked
         # Nobody else is held up, and what is held isn't answered yet.
         assert server.is_serving()
-        client.setblocking(False)
-        try:
-            raise AssertionError(client.recv(1))
-        except BlockingIOError:
-            client.settimeout(10)
+        assert is_silent(client)
         zxid = server.leader.does(asked)
         assert forwarded.replied(client) == (1, zxid, 0, forwarded.buffer(b"/b"))
         read = forwarded.replied(client)
@@ -452,11 +451,7 @@ def test_clients_that_go_while_they_connect():
                 client.close()
         assert wait_until(lambda: server.threads() == 3 + 25, 5), server.threads()
         # None is answered yet, and nobody else is held up.
-        clients[0].setblocking(False)
-        try:
-            raise AssertionError(clients[0].recv(1))
-        except BlockingIOError:
-            clients[0].settimeout(10)
+        assert is_silent(clients[0])
         with server.leader.lock:
             server.leader.creates = True
             for request in asked:

@@ -1,5 +1,6 @@
 """A leader, the program that follows it, and its clients, over sockets of 127.0.0.1."""
 import os
+import select
 import socket
 import struct
 import subprocess
@@ -52,6 +53,11 @@ def is_closed(connection):
         return connection.recv(1) == b""
     except ConnectionError:
         return True
+
+
+def is_silent(connection):
+    """Returns whether the connection is open, and nothing has come that wasn't taken."""
+    return not select.select([connection], [], [], 0)[0]
 
 
 def reset(connection):

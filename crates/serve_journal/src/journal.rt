@@ -97,7 +97,8 @@ impl<L: Log> Journal<L> {
         let bytes = self.greeting.bytes();
         info!(self.log; target: "leader",
             "{word} in epoch {epoch}: serving from zxid {zxid:#x} on, after {bytes} bytes, and {without} ms without a leader");
-        if self.served_epoch == Some(epoch) {
+        // Where the leader isn't asked for the sessions that come back, it goes on refusing their writes.
+        if self.served_epoch == Some(epoch) && !learner.dialect().reads().moved_sessions {
             warn!(self.log; target: "leader",
                 "the epoch is the same as before: a client that comes back with its session can read, and not write");
         }
