@@ -25,7 +25,7 @@ use Rattle.learner_sync.specs.declared.act.Act.TheVariants as act
 use Rattle.replica.specs.Replica.{Replica}
 use Rattle.replica.specs.declared.item_outcome.LeaderNews.{LeaderNews}
 use Rattle.replica.specs.declared.item_outcome.LeaderNews.TheVariants as news
-use Rattle.replica.specs.Taking.{ItemEffect, nothing_loaded, no_effect, last_txn, with_outcome, apply_to_tree, with_image_state, rebuild_tree, carry_out, carry_out_all, with_learner, take_item, packets_of_act, TakesItem, IsAnswerable}
+use Rattle.replica.specs.Taking.{ItemEffect, no_effect, last_txn, with_outcome, apply_to_tree, with_nothing_loaded, with_image_state, rebuild_tree, carry_out, carry_out_all, with_learner, take_item, packets_of_act, TakesItem, IsAnswerable}
 use Rattle.replica.specs.Inner.{with_told, is_part_load, IsPartAlone}
 use Rattle.replica.specs.declared.item_outcome.ItemOutcome.{ItemOutcome}
 
@@ -155,6 +155,8 @@ told-apart (act.Truncate zxid ∷ a ∷ acts) l after tell = inr (others-of (act
 told-apart (act.LoadImage ∷ a ∷ acts) l after tell = inr (others-of (act.LoadImage ∷ a ∷ acts) tell.2)
 told-apart (act.Send p ∷ acts) l after tell = inr (others-of (act.Send p ∷ acts) tell.2)
 told-apart (act.AnswerPing p ∷ acts) l after tell = inr (others-of (act.AnswerPing p ∷ acts) tell.2)
+told-apart (act.Revalidated session is_valid ∷ acts) l after tell =
+    inr (others-of (act.Revalidated session is_valid ∷ acts) tell.2)
 told-apart (act.SettleSync ∷ acts) l after tell = inr (others-of (act.SettleSync ∷ acts) tell.2)
 told-apart (act.DropImage ∷ acts) l after tell = inr (others-of (act.DropImage ∷ acts) tell.2)
 told-apart (act.Epochs ∷ acts) l after tell = inr (others-of (act.Epochs ∷ acts) tell.2)
@@ -179,12 +181,14 @@ never-refused t (act.AnswerPing p ∷ acts) e h refused =
     never-refused (record t { news = Some (news.Ping p) }) acts e h.1 refused
 never-refused t (act.SettleSync ∷ acts) e h refused =
     never-refused (record t { news = Some news.SyncSettled }) acts e h.1 refused
+never-refused t (act.Revalidated session is_valid ∷ acts) e h refused =
+    never-refused (record t { news = Some (news.Revalidated session is_valid) }) acts e h.1 refused
 never-refused t (act.Apply ∷ acts) e h refused =
     never-refused (apply_to_tree t (last_txn t.replica.learner.log)) acts e h.1 refused
 never-refused t (act.LoadImage ∷ acts) e h refused =
     never-refused (with_image_state t t.loading.made.state) acts e h.1 refused
 never-refused t (act.DropImage ∷ acts) e h refused =
-    never-refused (record t { loading = nothing_loaded }) acts e h.1 refused
+    never-refused (with_nothing_loaded t) acts e h.1 refused
 never-refused t (act.Truncate zxid ∷ acts) e h refused = never-refused (rebuild_tree t) acts e h.1 refused
 never-refused t (act.Epochs ∷ acts) e h refused = never-refused t acts e h.1 refused
 never-refused t (act.ServeFrom ∷ acts) e h refused = never-refused t acts e h.1 refused
@@ -251,6 +255,8 @@ acts-written t (act.AnswerPing p ∷ acts) h w =
     acts-written (record t { news = Some (news.Ping p) }) acts h.1 (w.0, h.0)
 acts-written t (act.SettleSync ∷ acts) h w =
     acts-written (record t { news = Some news.SyncSettled }) acts h.1 (w.0, tt)
+acts-written t (act.Revalidated session is_valid ∷ acts) h w =
+    acts-written (record t { news = Some (news.Revalidated session is_valid) }) acts h.1 (w.0, tt)
 acts-written t (act.Apply ∷ acts) h w =
     by (last_txn t.replica.learner.log) (λ u sent. acts-written u acts h.1 (sent w))
   where
@@ -267,7 +273,7 @@ acts-written t (act.LoadPart p ∷ acts) h w =
     by (Ok loaded) others = others loaded
     by (Err e) others = tt
 acts-written t (act.LoadImage ∷ acts) h w = acts-written (with_image_state t t.loading.made.state) acts h.1 w
-acts-written t (act.DropImage ∷ acts) h w = acts-written (record t { loading = nothing_loaded }) acts h.1 w
+acts-written t (act.DropImage ∷ acts) h w = acts-written (with_nothing_loaded t) acts h.1 w
 acts-written t (act.Truncate zxid ∷ acts) h w = acts-written (rebuild_tree t) acts h.1 w
 acts-written t (act.Epochs ∷ acts) h w = acts-written t acts h.1 w
 acts-written t (act.ServeFrom ∷ acts) h w = acts-written t acts h.1 w

@@ -22,7 +22,7 @@ use Rattle.learner_sync.specs.declared.phase.Phase.{Phase}
 use Rattle.learner_sync.specs.declared.phase.Phase.TheVariants as phase
 use Rattle.replica.specs.Replica.{Replica}
 use Rattle.replica.specs.declared.item_outcome.LeaderNews.TheVariants as news
-use Rattle.replica.specs.Taking.{ItemEffect, nothing_loaded, no_effect, last_txn, apply_to_tree, carry_out_all, take_item, is_serving_in, checkpoint_if}
+use Rattle.replica.specs.Taking.{ItemEffect, with_nothing_loaded, no_effect, last_txn, apply_to_tree, carry_out_all, take_item, is_serving_in, checkpoint_if}
 use Rattle.replica.specs.Laws.{FollowsItsLog, LogsAreFollowed}
 
 -- ---- one more transaction
@@ -54,7 +54,9 @@ stays t [] h f = f
 stays t (act.Send p ∷ acts) h f = stays (record t { replies = t.replies ++ p ∷ [] }) acts h.1 f
 stays t (act.AnswerPing p ∷ acts) h f = stays (record t { news = Some (news.Ping p) }) acts h.1 f
 stays t (act.SettleSync ∷ acts) h f = stays (record t { news = Some news.SyncSettled }) acts h.1 f
-stays t (act.DropImage ∷ acts) h f = stays (record t { loading = nothing_loaded }) acts h.1 f
+stays t (act.Revalidated session is_valid ∷ acts) h f =
+    stays (record t { news = Some (news.Revalidated session is_valid) }) acts h.1 f
+stays t (act.DropImage ∷ acts) h f = stays (with_nothing_loaded t) acts h.1 f
 stays t (act.Epochs ∷ acts) h f = stays t acts h.1 f
 stays t (act.ServeFrom ∷ acts) h f = stays t acts h.1 f
 stays t (act.Apply ∷ acts) h f = cc (h.0)
@@ -98,6 +100,8 @@ module _ (loading : Loading) (r : Replica) (l : Learner) (is : r.tree ≡ state_
   done (act.Send p ∷ acts) tell = stays begun (act.Send p ∷ acts) tell.2 (same-log tell.0)
   done (act.AnswerPing p ∷ acts) tell = stays begun (act.AnswerPing p ∷ acts) tell.2 (same-log tell.0)
   done (act.SettleSync ∷ acts) tell = stays begun (act.SettleSync ∷ acts) tell.2 (same-log tell.0)
+  done (act.Revalidated session is_valid ∷ acts) tell =
+      stays begun (act.Revalidated session is_valid ∷ acts) tell.2 (same-log tell.0)
   done (act.DropImage ∷ acts) tell = stays begun (act.DropImage ∷ acts) tell.2 (same-log tell.0)
   done (act.Epochs ∷ acts) tell = stays begun (act.Epochs ∷ acts) tell.2 (same-log tell.0)
   done (act.ServeFrom ∷ acts) tell = stays begun (act.ServeFrom ∷ acts) tell.2 (same-log tell.0)

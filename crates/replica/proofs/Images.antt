@@ -16,6 +16,7 @@ use Rattle.quorum_packet.specs.declared.kind.PacketKind.{PacketKind}
 use Rattle.quorum_packet.specs.declared.kind.PacketKind.TheVariants as kinds
 use Rattle.quorum_packet.specs.declared.packet.QuorumPacket.{QuorumPacket}
 use Rattle.settings.specs.Dialects.{reads_of}
+use Rattle.settings.specs.declared.dialect.Dialect.{Dialect}
 use Rattle.quorum_packet.specs.Kinds.{kind_of}
 use Rattle.learner_sync.specs.Learner.{Learner}
 use Rattle.learner_sync.specs.Learn.{LearnerStep, single_act, load_part, load_to_drop, await_image, at_phase, message_in_phase, part_in_phase, learn_item}
@@ -47,6 +48,8 @@ apart loading t [] h = refl
 apart loading t (act.Send p ∷ acts) h = apart loading (record t { replies = t.replies ++ p ∷ [] }) acts h.1
 apart loading t (act.AnswerPing p ∷ acts) h = apart loading (record t { news = Some (news.Ping p) }) acts h.1
 apart loading t (act.SettleSync ∷ acts) h = apart loading (record t { news = Some news.SyncSettled }) acts h.1
+apart loading t (act.Revalidated session is_valid ∷ acts) h =
+    apart loading (record t { news = Some (news.Revalidated session is_valid) }) acts h.1
 apart loading t (act.Apply ∷ acts) h = by (last_txn t.replica.learner.log) (λ u. apart loading u acts h.1)
   where
     by : (o : Option Txn)
@@ -69,8 +72,11 @@ packets-apart : ActsAccountForLog → (loading : Loading) (r : Replica) (p : Quo
 packets-apart tells loading r p = by (learn_item r.learner (item.Packet p)) refl
   where
     by : (x : Result LearnerStep Fault) → learn_item r.learner (item.Packet p) ≡ x
-        → carried loading r x ≡ (carried nothing_loaded r x >>= λ t. Ok (with_given_loading loading t))
-    by (Ok x) e = apart loading (no_effect nothing_loaded (with_learner r x)) x.acts (tells.packets r.learner p x e)
+        → carried loading r x
+        ≡ (carried (nothing_loaded r.learner.dialect) r x >>= λ t. Ok (with_given_loading loading t))
+    by (Ok x) e =
+        apart loading (no_effect (nothing_loaded r.learner.dialect) (with_learner r x)) x.acts
+        (tells.packets r.learner p x e)
     by (Err fault) e = refl
 
 -- ---- an image is announced
@@ -136,20 +142,20 @@ end-is-image : (loading : Loading) (r : Replica)
 end-is-image loading r = by r.learner.phase
   where
     by : (ph : Phase) → carried loading r (part_in_phase ph r.learner part.End)
-        ≡ carried (loading_of loading.made.state) r (part_in_phase ph r.learner part.End)
+        ≡ carried (loading_of r.learner.dialect loading.made.state) r (part_in_phase ph r.learner part.End)
     by phase.Hello = refl
     by phase.Sync = refl
     by (phase.Image zxid) = refl
     by ph = refl
 
-abbrev Unloads : Result ItemEffect Fault → Type 0
-Unloads (Ok t) = t.loading ≡ nothing_loaded
-Unloads (Err e) = Unit {0}
+abbrev Unloads : Dialect → Result ItemEffect Fault → Type 0
+Unloads dialect (Ok t) = t.loading ≡ nothing_loaded dialect
+Unloads dialect (Err e) = Unit {0}
 
-end-unloads : (loading : Loading) (r : Replica) → Unloads (take_item loading r (item.Part part.End))
+end-unloads : (loading : Loading) (r : Replica) → Unloads r.learner.dialect (take_item loading r (item.Part part.End))
 end-unloads loading r = by r.learner.phase
   where
-    by : (ph : Phase) → Unloads (carried loading r (part_in_phase ph r.learner part.End))
+    by : (ph : Phase) → Unloads r.learner.dialect (carried loading r (part_in_phase ph r.learner part.End))
     by phase.Hello = tt
     by phase.Sync = tt
     by (phase.Image zxid) = refl
@@ -161,5 +167,5 @@ images-come-in-parts tells = record {
   announced = λ loading r p t k e. subst Awaits e (snap-awaits loading r p k);
   inner = inner-loads;
   ends = λ loading r a. end-is-image loading r;
-  unloads = λ loading r t a e. subst Unloads e (end-unloads loading r);
+  unloads = λ loading r t a e. subst (Unloads r.learner.dialect) e (end-unloads loading r);
 }

@@ -6,5 +6,7 @@ pub mod OneTransaction
 pub mod Images
 -- Taking an item.
 pub mod Carrying
+-- What was learnt of an item, and the dialect.
+pub mod Learners
 -- Clients that are served stay served.
 pub mod Serving

@@ -11,12 +11,12 @@ use Rattle.learner_sync.specs.declared.act.Act.{Act}
 use Rattle.learner_sync.specs.declared.act.Act.TheVariants as act
 use Rattle.replica.specs.Replica.{Replica}
 use Rattle.replica.specs.declared.item_outcome.LeaderNews.{LeaderNews}
-use Rattle.replica.specs.Taking.{ItemEffect, nothing_loaded, carry_out}
+use Rattle.replica.specs.Taking.{ItemEffect, nothing_loaded, no_effect, carry_out}
 
 -- A replica, and the triggers and the news so far.
 abbrev pub with_told : List Trigger → Option LeaderNews → Replica → ItemEffect
 with_told triggers told r =
-    record { replies = []; triggers = triggers; news = told; loading = nothing_loaded; replica = r }
+    record (no_effect (nothing_loaded r.learner.dialect) r) { triggers = triggers; news = told }
 
 -- The acts, and the replica with the learner after the item; or the replica is as it was.
 abbrev pub UpdatesLearner : Result (List Act) ReadError → Result LearnerStep Fault → Replica → Replica → Type 0

@@ -70,7 +70,17 @@ pub record ImagesComeInParts : Type 0 where
       → take_item loading r (item.Part part.End) ≡ take_whole r (OneImage loading.made.state)
   -- After the end no image is being loaded.
   pub unloads : (loading : Loading) (r : Replica) (t : ItemEffect) → awaits_image r ≡ true
-      → take_item loading r (item.Part part.End) ≡ Ok t → t.loading ≡ nothing_loaded
+      → take_item loading r (item.Part part.End) ≡ Ok t → t.loading ≡ nothing_loaded r.learner.dialect
+
+-- ---- the dialect
+
+-- Leaders speak the same dialect, whatever they send.
+pub record DialectStays : Type 0 where
+  pub takes : (loading : Loading) (r : Replica) (i : Item) (t : ItemEffect) → take_item loading r i ≡ Ok t
+      → t.replica.learner.dialect ≡ r.learner.dialect
+  pub begins : (r : Replica) (server_id : ℤ) → (follow_leader r server_id).replica.learner.dialect ≡ r.learner.dialect
+  pub leaves : (r : Replica) → (without_leader r).learner.dialect ≡ r.learner.dialect
+  pub rebases : (r : Replica) → (checkpoint_replica r).learner.dialect ≡ r.learner.dialect
 
 -- ---- serving
 

@@ -2,7 +2,7 @@
 -- the triggers of what changed in the tree.
 use Rattle.std.specs.Prelude.{◌≡◌, ℕ, ◌<◌, ◌^◌, length, ◌-◌, ℤ, Bool, true, false, List, [], ◌∷◌, ◌++◌, Option, Some, None, Result, Ok, Err}
 use Rattle.std.specs.List.{flat_map, slice_get}
-use Rattle.std.specs.FinMap as finmap
+use Rattle.settings.specs.declared.dialect.Dialect.{Dialect}
 use Rattle.values.specs.declared.fault.Fault.{Fault}
 use Rattle.values.specs.declared.fault.ReadError.{ReadError}
 use Rattle.values.specs.declared.fault.ReadError.TheVariants as errors
@@ -12,8 +12,9 @@ use Rattle.data_tree.specs.State.{State}
 use Rattle.data_tree.specs.Meaning.{effect_of_txn, answer_of, state_after}
 use Rattle.data_tree.specs.declared.outcome.Outcome.{Outcome}
 use Rattle.data_tree.specs.declared.outcome.Trigger.{Trigger}
-use Rattle.snapshot_codec.specs.Made.{Loading, no_loaded_parts, with_loaded}
+use Rattle.snapshot_codec.specs.Made.{Loading, no_parts_in, with_loaded}
 use Rattle.snapshot_codec.specs.declared.part.ImagePart.TheVariants as part
+use Rattle.quorum_packet.specs.GroupedItems.{empty_loading}
 use Rattle.quorum_packet.specs.WholeItems.{WholeItem, OnePacket, OneImage}
 use Rattle.quorum_packet.specs.declared.item.Item.{Item}
 use Rattle.quorum_packet.specs.declared.item.Item.TheVariants as item
@@ -43,8 +44,8 @@ pub record ItemEffect : Type 0 where
   pub replica : Replica
 
 -- No image is being loaded.
-abbrev pub nothing_loaded : Loading
-nothing_loaded = record { made = no_loaded_parts; ended = false }
+abbrev pub nothing_loaded : Dialect → Loading
+nothing_loaded dialect = empty_loading dialect
 
 abbrev pub no_effect : Loading → Replica → ItemEffect
 no_effect loading r = record { replies = []; triggers = []; news = None; loading = loading; replica = r }
@@ -68,10 +69,14 @@ apply_to_tree t None = t
 apply_to_tree t (Some txn) =
     let meant = effect_of_txn t.replica.tree txn in with_outcome t (answer_of meant) meant.state
 
+-- The next image is loaded in the leader's dialect.
+abbrev pub with_nothing_loaded : ItemEffect → ItemEffect
+with_nothing_loaded t = record t { loading = nothing_loaded t.replica.learner.dialect }
+
 -- The image replaces the tree and is the base.
 abbrev pub with_image_state : ItemEffect → State → ItemEffect
 with_image_state t state =
-    record t { loading = nothing_loaded; replica = record t.replica { base = state; tree = state } }
+    record (with_nothing_loaded t) { replica = record t.replica { base = state; tree = state } }
 
 -- The tree is the base with the log applied.
 abbrev pub rebuild_tree : ItemEffect → ItemEffect
@@ -82,10 +87,11 @@ abbrev pub carry_out : ItemEffect → Act → Result ItemEffect Fault
 carry_out t (act.Send packet) = Ok (record t { replies = t.replies ++ packet ∷ [] })
 carry_out t (act.AnswerPing ping) = Ok (record t { news = Some (news.Ping ping) })
 carry_out t act.SettleSync = Ok (record t { news = Some news.SyncSettled })
+carry_out t (act.Revalidated session is_valid) = Ok (record t { news = Some (news.Revalidated session is_valid) })
 carry_out t act.Apply = Ok (apply_to_tree t (last_txn t.replica.learner.log))
 carry_out t (act.LoadPart p) = with_loaded t.loading p >>= λ loading. Ok (record t { loading = loading })
 carry_out t act.LoadImage = Ok (with_image_state t t.loading.made.state)
-carry_out t act.DropImage = Ok (record t { loading = nothing_loaded })
+carry_out t act.DropImage = Ok (with_nothing_loaded t)
 carry_out t (act.Truncate zxid) = Ok (rebuild_tree t)
 carry_out t act.Epochs = Ok t
 carry_out t act.ServeFrom = Ok t
@@ -105,13 +111,13 @@ abbrev pub take_item : Loading → Replica → Item → Result ItemEffect Fault
 take_item loading r i = learn_item r.learner i >>= λ x. carry_out_all (no_effect loading (with_learner r x)) x.acts
 
 -- An image of which all but the end is loaded.
-abbrev pub loading_of : State → Loading
-loading_of state = record { made = record { state = state; lists = finmap.empty }; ended = false }
+abbrev pub loading_of : Dialect → State → Loading
+loading_of dialect state = record { made = record (no_parts_in dialect) { state = state }; ended = false }
 
 -- The same for packets and whole images. An image does what its end does after its parts were loaded.
 abbrev pub take_whole : Replica → WholeItem → Result ItemEffect Fault
-take_whole r (OnePacket p) = take_item nothing_loaded r (item.Packet p)
-take_whole r (OneImage state) = take_item (loading_of state) r (item.Part part.End)
+take_whole r (OnePacket p) = take_item (nothing_loaded r.learner.dialect) r (item.Packet p)
+take_whole r (OneImage state) = take_item (loading_of r.learner.dialect state) r (item.Part part.End)
 
 -- ---- a leader connects, and leaves
 
@@ -123,7 +129,7 @@ packets_of_act a = []
 abbrev pub follow_leader : Replica → ℤ → ItemEffect
 follow_leader r server_id =
     let x = start_following r.learner server_id in
-    record (no_effect nothing_loaded (with_learner r x)) { replies = flat_map packets_of_act x.acts }
+    record (no_effect (nothing_loaded r.learner.dialect) (with_learner r x)) { replies = flat_map packets_of_act x.acts }
 
 abbrev pub without_leader : Replica → Replica
 without_leader r = record r { learner = stop_following r.learner }

@@ -11,6 +11,11 @@ pub enum LeaderNews {
     Ping(QuorumPacket),
     /// The leader has done the oldest sync that it was asked for.
     SyncSettled,
+    /// The leader has answered whether a session that a client brought lives.
+    Revalidated {
+        session: i64,
+        is_valid: bool,
+    },
     /// A transaction was applied.
     Applied {
         /// Its place in the log since the base.

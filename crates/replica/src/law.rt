@@ -1,7 +1,7 @@
 //! Laws of replicas.
 
 ghost use Rattle.replica.specs.Gathering.{TransactionsAreGathered};
-ghost use Rattle.replica.specs.Laws.{LogsAreFollowed, ImagesComeInParts, ServingStays};
+ghost use Rattle.replica.specs.Laws.{LogsAreFollowed, ImagesComeInParts, DialectStays, ServingStays};
 
 /// The tree is the base with the log applied: at the start, and whatever the leader sends.
 pub fn logs()
@@ -16,6 +16,13 @@ pub fn images()
     ensures { ImagesComeInParts }
 {
     learner_sync::law::acts();
+}
+
+/// Leaders speak the same dialect, whatever they send.
+pub fn dialects()
+    ensures { DialectStays }
+{
+    learner_sync::law::dialects();
 }
 
 /// Clients that are served stay served until the leader is gone.

@@ -3,8 +3,8 @@
 //! A `Replica` has a learner, which knows how far a leader was followed, a tree, and the base that the log starts from:
 //! the tree is always the base with the log applied. `take` takes the next packet or part of the leader's stream, does
 //! the acts that the learner learns from it, and returns the packets for the leader, the triggers for watchers, and
-//! what concerns more than the replica (`LeaderNews`): a PING, a sync, or a transaction that was applied, with its
-//! error. An image is loaded apart from the tree, by a loader that the caller keeps with the stream, and replaces the
+//! what concerns more than the replica (`LeaderNews`): a PING, a sync, an answer for a client's session, or a
+//! transaction that was applied, with its error. An image is loaded apart from the tree, by a loader that the caller keeps with the stream, and replaces the
 //! tree when its last part is in. A refused item leaves the replica and the loader as they were.
 //!
 //! Packets that only bring a transaction (`brings_txns`) may be gathered instead: `gather` leaves the tree, and

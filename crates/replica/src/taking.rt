@@ -58,9 +58,10 @@ impl Replica {
     fn load_image(&mut self, alloc: Global, loader: &mut Loader) -> Result<(), NoMemory>
         ensures replica { OnOk result
             (self.new ≡ record self.old { base = loader.old.made.state; tree = loader.old.made.state }) }
-        ensures loader { OnOk result (loader.new ≡ nothing_loaded) }
+        ensures loader { OnOk result (loader.new ≡ nothing_loaded self.old.learner.dialect) }
     {
-        let loaded = mem::replace(loader, Loader::new(alloc));
+        let next = Loader::in_dialect(self.learner.dialect(), alloc);
+        let loaded = mem::replace(loader, next);
         // Tree and base are dropped before the new base is made, so that no more than two trees take memory.
         self.base = Tree::empty(alloc);
         self.tree = loaded.finish();
@@ -117,11 +118,15 @@ impl Replica {
                 *news = Some(LeaderNews::SyncSettled);
                 return Ok(());
             }
+            Act::Revalidated { session, is_valid } => {
+                *news = Some(LeaderNews::Revalidated { session, is_valid });
+                return Ok(());
+            }
             Act::Apply => return Ok(self.apply_last(alloc, triggers, news)?),
             Act::LoadPart(part) => return loader.part(alloc, part),
             Act::LoadImage => return Ok(self.load_image(alloc, loader)?),
             Act::DropImage => {
-                *loader = Loader::new(alloc);
+                *loader = Loader::in_dialect(self.learner.dialect(), alloc);
                 return Ok(());
             }
             Act::Truncate(_) => return Ok(self.rebuild(alloc)?),

@@ -1,10 +1,11 @@
 //! The events of a replica, and the view of it afterwards.
 
-use jute::{put_int, put_long};
+use jute::{StatPersisted, put_int, put_long};
+use paths_and_acls::Path;
 use quorum_packet::{Item, LentItem, Packet, PacketKind, QuorumPacket};
 use replica::{ItemOutcome, LeaderNews, Replica};
 use settings::{Dialect, Epochs, ServerId};
-use snapshot_codec::{ImagePart, ImageSession, Loader};
+use snapshot_codec::{ImageNode, ImagePart, ImageSession, Loader};
 use std::alloc::Global;
 use values::{Blob, Bytes, Fault, NoMemory, ReadError};
 
@@ -29,8 +30,12 @@ pub enum Event {
     Txn(i32, &'static [u8], u32),
     /// The same transaction, in an INFORMANDACTIVATE that names server 1.
     Activated(i32, &'static [u8], u32),
+    /// A REVALIDATE with this data.
+    Answer(&'static [u8]),
     /// A part of an image with this session.
     Part(i64),
+    /// A part of an image with a node at this path, which has this owner.
+    Node(&'static str, i64),
     /// The end of an image.
     End,
 }
@@ -40,7 +45,9 @@ pub enum Event {
 pub enum Start {
     New,
     Primed,
-    /// Primed, in the dialect of ZooKeeper 3.5 to 3.9.
+    /// New, in the dialect of ZooKeeper 3.5 to 3.9.
+    LaterNew,
+    /// Primed, in that dialect.
     LaterPrimed,
 }
 
@@ -51,6 +58,8 @@ pub struct Seen {
     pub sent: Vec<usize>,
     /// The error of each transaction whose application was told.
     pub errors: Vec<i32>,
+    /// The answers of the leader for sessions.
+    pub answers: Vec<(i64, bool)>,
     /// The fault of the last event that was refused.
     pub refused: Option<Fault>,
     pub is_serving: bool,
@@ -59,6 +68,10 @@ pub struct Seen {
     pub logged: usize,
     /// The number of nodes in the tree.
     pub nodes: usize,
+    /// The number of nodes that a session owns.
+    pub ephemerals: usize,
+    /// The owner that "/c" shows.
+    pub owner: Option<i64>,
     /// The tree's sessions, in their order.
     pub sessions: Vec<i64>,
 }
@@ -141,19 +154,42 @@ fn txn_comes(
     Ok(packet(kind, zxid, Some(Blob::from_vec(bytes))))
 }
 
+// A part of an image with a node that has this owner.
+fn node_comes(alloc: Global, path: &str, owner: i64) -> Result<Item, ReadError> {
+    let stat = StatPersisted {
+        czxid: 1,
+        mzxid: 1,
+        ctime: 1_000,
+        mtime: 1_000,
+        version: 0,
+        cversion: 0,
+        aversion: 0,
+        ephemeral_owner: owner,
+        pzxid: 1,
+    };
+    Ok(Item::Part(ImagePart::Node(ImageNode {
+        path: Path::new(alloc, path)?,
+        bytes: None,
+        acl: -1,
+        stat,
+    })))
+}
+
 // A leader of epoch 1 names its epoch and the version of the protocol.
 fn greeting(alloc: Global) -> Result<Item, NoMemory> {
     let version = Blob::new(alloc, b"\0\x01\0\0")?;
     Ok(packet(PacketKind::LeaderInfo, at(0), Some(version)))
 }
 
-// The number of packets sent for the event, and of things that it tells besides. Appends the error of a transaction.
+// The number of packets sent for the event, and of things that it tells besides. Appends the error of a transaction, and
+// an answer for a session.
 fn happen(
     alloc: Global,
     replica: &mut Replica,
     loader: &mut Loader,
     event: Event,
     errors: &mut Vec<i32>,
+    answers: &mut Vec<(i64, bool)>,
 ) -> Result<usize, ReadError> {
     let item = match event {
         Event::Comes => return Ok(replica.start(alloc, ServerId::default())?.len()),
@@ -176,12 +212,18 @@ fn happen(
             let kind = PacketKind::InformAndActivate;
             txn_comes(alloc, kind, b"\0\0\0\0\0\0\0\x01", code, body, at(counter))?
         }
+        Event::Answer(data) => packet(PacketKind::Revalidate, -1, Some(Blob::new(alloc, data)?)),
+        Event::Node(path, owner) => node_comes(alloc, path, owner)?,
         Event::Part(id) => Item::Part(ImagePart::Session(ImageSession { id, timeout: 5_000 })),
         Event::End => Item::Part(ImagePart::End),
     };
     let brought = take(alloc, replica, loader, item)?;
-    if let Some(LeaderNews::Applied { error, .. }) = &brought.news {
-        errors.push(*error)?;
+    match &brought.news {
+        Some(LeaderNews::Applied { error, .. }) => errors.push(*error)?,
+        Some(LeaderNews::Revalidated { session, is_valid }) => {
+            answers.push((*session, *is_valid))?;
+        }
+        _ => {}
     }
     Ok(brought.replies.len() + usize::from(brought.news.is_some()))
 }
@@ -204,9 +246,10 @@ fn play(
 ) -> Result<Seen, NoMemory> {
     let mut sent = Vec::new(alloc);
     let mut errors = Vec::new(alloc);
+    let mut answers = Vec::new(alloc);
     let mut refused = None;
     for event in events {
-        match happen(alloc, replica, loader, *event, &mut errors) {
+        match happen(alloc, replica, loader, *event, &mut errors, &mut answers) {
             Ok(count) => sent.push(count)?,
             Err(ReadError::Fault(fault)) => refused = Some(fault),
             Err(ReadError::NoMemory) => return Err(NoMemory),
@@ -215,11 +258,17 @@ fn play(
     Ok(Seen {
         sent,
         errors,
+        answers,
         refused,
         is_serving: replica.is_serving(),
         last_zxid: replica.learner().last_zxid(),
         logged: replica.learner().since_base().len(),
         nodes: replica.tree().paths(),
+        ephemerals: replica.tree().ephemerals().count(),
+        owner: replica
+            .tree()
+            .node("/c")
+            .map(|node| node.shown().ephemeral_owner),
         sessions: sessions(alloc, replica)?,
     })
 }
@@ -229,8 +278,9 @@ pub fn after(alloc: Global, start: Start, events: &[Event]) -> Result<Seen, NoMe
     let mut replica = match start {
         Start::New => Replica::new(alloc, Dialect::Zk34, Epochs::default())?,
         Start::Primed => Replica::primed(alloc, Dialect::Zk34, 4, 10_000)?,
+        Start::LaterNew => Replica::new(alloc, Dialect::Zk38, Epochs::default())?,
         Start::LaterPrimed => Replica::primed(alloc, Dialect::Zk38, 4, 10_000)?,
     };
-    let mut loader = Loader::new(alloc);
+    let mut loader = Loader::in_dialect(replica.learner().dialect(), alloc);
     play(alloc, &mut replica, &mut loader, events)
 }

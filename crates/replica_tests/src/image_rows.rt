@@ -1,6 +1,6 @@
 //! Images, part by part.
 
-use crate::events::{Event, Start, after};
+use crate::events::{Event, Start, after, at};
 use quorum_packet::PacketKind;
 use std::test::Fail;
 use values::Fault;
@@ -60,6 +60,39 @@ fn a_second_image_is_not_asked_for(rt: HostRuntime) -> Result<(), Fail> {
 fn without_a_leader_an_image_is_passed_over(rt: HostRuntime) -> Result<(), Fail> {
     let alone = after(rt.alloc(), Start::New, &[Event::Part(9), Event::End])?;
     assert!(rt; alone.sessions.is_empty() && alone.refused.is_none());
+    Ok(())
+}
+
+// A container at /c, in the image of each of two leaders.
+const CONTAINERS: [Event; 13] = [
+    Event::Comes,
+    Event::Greets,
+    Event::Packet(PacketKind::Snap, 5),
+    Event::Node("/", 0),
+    Event::Node("/c", i64::MIN),
+    Event::End,
+    Event::Goes,
+    Event::Comes,
+    Event::Greets,
+    Event::Packet(PacketKind::Snap, 6),
+    Event::Node("/", 0),
+    Event::Node("/c", i64::MIN),
+    Event::End,
+];
+
+#[test]
+fn no_session_owns_a_container(rt: HostRuntime) -> Result<(), Fail> {
+    let first = after(rt.alloc(), Start::LaterNew, &CONTAINERS[..6])?;
+    assert!(rt; first.owner == Some(0) && first.ephemerals == 0 && first.last_zxid == at(5));
+    let second = after(rt.alloc(), Start::LaterNew, &CONTAINERS)?;
+    assert!(rt; second.owner == Some(0) && second.ephemerals == 0 && second.last_zxid == at(6));
+    Ok(())
+}
+
+#[test]
+fn in_the_earlier_dialect_each_owner_is_a_session(rt: HostRuntime) -> Result<(), Fail> {
+    let seen = after(rt.alloc(), Start::New, &CONTAINERS)?;
+    assert!(rt; seen.owner == Some(i64::MIN) && seen.ephemerals == 1);
     Ok(())
 }
 

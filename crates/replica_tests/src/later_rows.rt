@@ -50,6 +50,28 @@ fn a_reconfig_is_applied(rt: HostRuntime) -> Result<(), Fail> {
     Ok(())
 }
 
+// The leader's answer that a session lives, and that another has ended.
+const ANSWERS: [Event; 2] = [
+    Event::Answer(b"\x01\0\0\x1c\x0f\xff\0\0\x01"),
+    Event::Answer(b"\0\0\0\0\0\0\x77\x77\0"),
+];
+
+#[test]
+fn an_answer_for_a_session_is_told(rt: HostRuntime) -> Result<(), Fail> {
+    let seen = after(rt.alloc(), Start::LaterPrimed, &ANSWERS)?;
+    let answers = [(0x0100_001c_0fff_0000i64, true), (0x7777i64, false)];
+    assert!(rt; seen.answers.as_slice() == answers.as_slice() && seen.refused.is_none());
+    // It changes nothing.
+    assert!(rt; seen.sessions.as_slice() == [4i64].as_slice() && seen.logged == 0);
+    let short = after(
+        rt.alloc(),
+        Start::LaterPrimed,
+        &[Event::Answer(b"\0\0\0\0\0\0\x77\x77")],
+    )?;
+    assert!(rt; short.refused == Some(Fault::Short));
+    Ok(())
+}
+
 #[test]
 fn the_earlier_dialect_has_none_of_them(rt: HostRuntime) -> Result<(), Fail> {
     let passed = after(
@@ -60,5 +82,7 @@ fn the_earlier_dialect_has_none_of_them(rt: HostRuntime) -> Result<(), Fail> {
     assert!(rt; passed.refused.is_none() && passed.logged == 0 && passed.last_zxid == 0);
     let refused = after(rt.alloc(), Start::Primed, &[Event::Txn(19, FIRST, 1)])?;
     assert!(rt; refused.refused == Some(Fault::BadTxnType) && refused.logged == 0);
+    let answered = after(rt.alloc(), Start::Primed, &ANSWERS)?;
+    assert!(rt; answered.answers.is_empty() && answered.refused.is_none());
     Ok(())
 }
