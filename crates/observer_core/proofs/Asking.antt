@@ -337,9 +337,9 @@ module _ (stay : OtherConnectionsStay) (keep_watches : OthersKeepWatches) (queue
       (λ free. (
         response.session_id,
         inr (waits_asked w (asked_for n w response.session_id response.time_out has_byte) w
-        (new_connect response.session_id response.time_out has_byte) none idle refl
-        (asked_apart (Only response.session_id) (Had w response.session_id) stay keep_watches queues n w
-        response.session_id response.time_out has_byte refl)),
+            (new_connect response.session_id response.time_out has_byte) none idle refl
+            (asked_apart (Only response.session_id) (Had w response.session_id) stay keep_watches queues n w
+            response.session_id response.time_out has_byte refl)),
       ))
     where
       p : PendingTable
@@ -352,15 +352,15 @@ module _ (stay : OtherConnectionsStay) (keep_watches : OthersKeepWatches) (queue
   claim_asks w has_byte response agree none idle = (
     session,
     inr (waits_asked w (claim_session n has_byte w response) u
-    (claiming session response.time_out has_byte) none_then idle_then refl
-    (then_apart (Only session) (Had w session) n w (close_others session w) (ask_about_session n has_byte response)
-    (then_apart (Only session) (Had w session) n w (close_client_if_some w holder)
-    (λ x. close_client_if_some x (connecting_to x.clients.pending session))
-    (left_apart (Only session) (Had w session) stay keep_watches queues n w holder
-    (λ k e. inl (owner_has w.clients.sessions session k agree.0 e)))
-    (left_apart (Only session) (Had w session) stay keep_watches queues n v waiter
-    (λ k e. inr (waited_before k (fewer_if_closed w holder session k e)))))
-    (claimed_apart (Only session) (Had w session) stay keep_watches queues n u has_byte response refl))),
+        (claiming session response.time_out has_byte) none_then idle_then refl
+        (then_apart (Only session) (Had w session) n w (close_others session w) (ask_about_session n has_byte response)
+        (then_apart (Only session) (Had w session) n w (close_client_if_some w holder)
+        (λ x. close_client_if_some x (connecting_to x.clients.pending session))
+        (left_apart (Only session) (Had w session) stay keep_watches queues n w holder
+        (λ k e. inl (owner_has w.clients.sessions session k agree.0 e)))
+        (left_apart (Only session) (Had w session) stay keep_watches queues n v waiter
+        (λ k e. inr (waited_before k (fewer_if_closed w holder session k e)))))
+        (claimed_apart (Only session) (Had w session) stay keep_watches queues n u has_byte response refl))),
   )
     where
       session : ℤ
