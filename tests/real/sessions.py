@@ -137,11 +137,9 @@ def is_moved(client, path):
         return True
 
 
-def at_another_observer(bench):
-    """A client takes its session up at another observer: it reads there, its ephemerals stay, its writes are refused by
-    the leader, and its close ends the session."""
-    second = Observer(bench.observer.program, bench.folder, "another", 6)
-    second.start(bench.leader.quorum)
+def elsewhere(bench, second, tries):
+    """A client of the observer takes its session up at a second one, which has started, and has its ephemeral there.
+    Then `tries` gets the client. Its close ends the session."""
     second.reaches(0)
     proxy, leader = Proxy(bench.observer.client), library(bench.leader.client)
     client = library(proxy.port)
@@ -155,13 +153,46 @@ def at_another_observer(bench):
         proxy.mend()
         until("kazoo has come back", lambda: client.connected)
         assert client.client_id == session and client.get("/moved")[1].ephemeralOwner == session[0]
-        assert is_moved(client, "/moved") and is_at(leader, "/moved")
+        tries(client)
+        assert is_at(leader, "/moved")
         ended(client)
         assert not is_at(leader, "/moved")
     finally:
         proxy.close()
         second.stop()
     ended(leader)
+
+
+def at_another_observer(bench):
+    """A client takes its session up at another observer: its ephemerals stay, the leader does its writes there, and its
+    close ends the session."""
+    second = Observer(bench.observer.program, bench.folder, "another", 6)
+    second.start(bench.leader.quorum)
+
+    def writes(client):
+        client.retry(client.set, "/moved", b"from the other")
+        assert client.get("/moved")[0] == b"from the other"
+
+    elsewhere(bench, second, writes)
+
+
+def unasked(bench):
+    """The same in dialect 3.4, in which the leader isn't asked: it refuses the writes."""
+    first = bench.observer
+    bench.observer = Observer(first.program, bench.folder, "older", 5)
+    second = Observer(first.program, bench.folder, "unasked", 6)
+    try:
+        for it in (bench.observer, second):
+            it.start(bench.leader.quorum, 0, "--dialect", "3.4")
+        bench.observer.reaches(0)
+
+        def is_refused(client):
+            assert is_moved(client, "/moved")
+
+        elsewhere(bench, second, is_refused)
+    finally:
+        bench.observer.stop()
+        bench.observer = first
 
 
 def started_again(bench, proxy, client, how):
@@ -177,8 +208,8 @@ def started_again(bench, proxy, client, how):
 
 
 def apart_after(bench, how):
-    """Where the observer is started again in some way, a client takes its session up, as at another one, and a new
-    client has an id that no session of the earlier run has had; when that one ends, the older one's ephemeral stays."""
+    """Where the observer is started again in some way, a client takes its session up and writes, and a new client has
+    an id that no session of the earlier run has had; when that one ends, the older one's ephemeral stays."""
     bench.observer.stop()
     bench.observer.start(bench.leader.quorum)
     proxy, leader = Proxy(bench.observer.client), library(bench.leader.client)
@@ -190,7 +221,8 @@ def apart_after(bench, how):
         session = client.client_id[0]
         started_again(bench, proxy, client, how)
         assert client.get("/restarted")[1].ephemeralOwner == session
-        assert is_moved(client, "/restarted") and is_at(leader, "/restarted")
+        client.retry(client.set, "/restarted", b"by the same session")
+        assert is_at(leader, "/restarted")
         first = library(bench.observer.client)
         assert first.client_id[0] != session and first.client_id[0] >> 56 == session >> 56 == OBSERVER_ID
         first.create("/restarted-first", b"", ephemeral=True)
@@ -218,5 +250,5 @@ def clock_set_back(bench):
         bench.observer.program = program
 
 
-CHECKS = [after_a_close, after_a_cut, silent, taken_up, idle, observer_gone, at_another_observer, after_a_restart]
-CHECKS += [clock_set_back]
+CHECKS = [after_a_close, after_a_cut, silent, taken_up, idle, observer_gone, at_another_observer, unasked]
+CHECKS += [after_a_restart, clock_set_back]

@@ -1,7 +1,7 @@
 """Writes by clients of the observer: the leader does them, and the client sees each by its own reads after it."""
 from kazoo.exceptions import (
     BadVersionError, NoAuthError, NoChildrenForEphemeralsError, NodeExistsError, NoNodeError, NotEmptyError,
-    NotReadOnlyCallError, UnimplementedError,
+    NotReadOnlyCallError,
 )
 from kazoo.security import make_acl, make_digest_acl
 
@@ -139,20 +139,28 @@ def sync_elsewhere(bench):
         second.stop()
 
 
+def with_a_stat(bench):
+    """A create that asks for a Stat is answered with the one that the node has at the leader."""
+    client, leader = library(bench.observer.client), library(bench.leader.client)
+    path, stat = client.create("/with-a-stat", b"data", include_data=True)
+    leader.sync("/")
+    assert path == "/with-a-stat" and stat == leader.exists("/with-a-stat"), (path, stat)
+    raises(NodeExistsError, lambda: client.create("/with-a-stat", b"", include_data=True))
+    ended(client, leader)
+
+
 def refused(bench):
-    """A multi is refused here, a create that asks for a Stat closes the connection, and the session goes on."""
+    """A multi is refused here, and the session goes on."""
     client = library(bench.observer.client)
     session = client.client_id[0]
     client.create("/refused", b"")
     multi = client.transaction()
     multi.create("/refused/new", b"")
     raises(NotReadOnlyCallError, multi.commit)
-    raises(UnimplementedError, lambda: client.create("/refused/new", b"", include_data=True))
-    # After that kazoo has to come back.
-    assert client.retry(client.get_children, "/refused") == []
+    assert client.get_children("/refused") == []
     assert client.client_id[0] == session
-    client.retry(client.set, "/refused", b"later")
+    client.set("/refused", b"later")
     ended(client)
 
 
-CHECKS = [own_writes, sorts_of_nodes, that_fail, with_ids, pipelined, sync_elsewhere, refused]
+CHECKS = [own_writes, sorts_of_nodes, that_fail, with_ids, pipelined, sync_elsewhere, with_a_stat, refused]
