@@ -1,4 +1,4 @@
-use Rattle.std.proofs.Common.{◌≡◌, ℕ, List, Option, Some, None, drop, arith, sym, ◌∙◌}
+use Rattle.std.proofs.Common.{◌≡◌, Some, None, drop, arith, sym, ◌∙◌}
 use Rattle.std.proofs.lemmas.List.{length-drop}
 use Rattle.jute.specs.Texts.{behind_surrogate, is_generalized_utf8}
 use Rattle.jute.proofs.Utf8.{begins, behind_shorter, next_byte, ends_here, not_text_here, at_end}
