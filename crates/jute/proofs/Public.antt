@@ -7,7 +7,7 @@ pub use Rattle.jute.proofs.Buffers.{count_sound, buffer_sound, text_in_sound, na
 pub use Rattle.jute.proofs.Vectors.{vector_sound, null_vector_sound}
 pub use Rattle.jute.proofs.Tags.{empty_at_end, refusal_sound, tagged_sound, tagged_at_end, whole_found, whole_again, whole_refused, whole_refuses, held_sound}
 pub use Rattle.jute.proofs.Frames.{frame_sound}
-pub use Rattle.jute.proofs.Records.{id_in_sound, acl_in_sound, id_sound, acl_sound, stat_sound, stat_persisted_sound}
+pub use Rattle.jute.proofs.Records.{id_in_sound, acl_in_sound, acl_written, acl_writable, id_sound, acl_sound, stat_sound, stat_persisted_sound}
 pub use Rattle.jute.proofs.Streaming.{comes_in_pieces, items_whole, items_short, items_refused, shorter_rest, refused_other, only_streamed}
 pub use Rattle.jute.proofs.Relating.{are_items, are_items_only, only_lawful}
 pub use Rattle.jute.proofs.Loading.{at_most, load_step, load_refused, load_read, load_read_on, load_stands, load_eats}

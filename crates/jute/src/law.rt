@@ -22,6 +22,10 @@ pub fn formats()
     ensures name { IsSound text_or_empty }
     ensures id { IsSound id_format }
     ensures acl { IsSound acl_format }
+    // Surrogates change what is read of an entry, and nothing of what is written.
+    ensures written { (surrogates : Bool) → (acl_in surrogates).written ≡ acl_format.written }
+    ensures writable { (surrogates : Bool) (entry : Acl) → (acl_in surrogates).Writable entry
+        → acl_format.Writable entry }
     ensures stat { IsSound stat_format }
     ensures stat_persisted { IsSound stat_persisted }
     ensures request_header { IsSound request_header }

@@ -47,7 +47,7 @@ pub fn is_generalized_utf8(bytes: &[u8]) -> bool
 
 /// Whether the bytes are a text, in which surrogates may stand or not.
 #[tactic(auto, using(crate::proofs::Utf8::not_text, crate::proofs::Utf8::is_text))]
-pub(crate) fn is_text(surrogates: bool, bytes: &[u8]) -> bool
+pub fn is_text(surrogates: bool, bytes: &[u8]) -> bool
     ensures { result ≡ is_text surrogates bytes.now }
 {
     if surrogates {
