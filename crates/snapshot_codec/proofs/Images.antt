@@ -244,24 +244,24 @@ part_stays made (part.Node n) next e =
 part_stays made part.End next e = ap (λ (m : LoadedParts). m.dialect) (sym (ok_is made next e))
 
 -- The parts taken fit one another.
-order_of : (vs : List Value) (old new : LoadedParts) (front : List ImagePart) → FitsBehind old front
-    → made_of image_load old vs ≡ Ok new
+order_of : (dialect : Dialect) (vs : List Value) (old new : LoadedParts) (front : List ImagePart) → FitsBehind old front
+    → made_of (image_load dialect) old vs ≡ Ok new
     → AreAllowedAfter old.dialect front (flat_map parts_in vs) × FitsBehind new (front ++ flat_map parts_in vs)
     × (new.dialect ≡ old.dialect)
-order_of [] old new front f e = (
+order_of dialect [] old new front f e = (
   tt,
   subst (λ (ps : List ImagePart). FitsBehind new ps) (sym (append-nil front))
       (subst (λ (m : LoadedParts). FitsBehind m front) (ok_is old new e) f),
   ap (λ (m : LoadedParts). m.dialect) (sym (ok_is old new e)),
 )
-order_of (Count n ∷ vs) old new front f e = order_of vs old new front f e
-order_of (Path path ∷ vs) old new front f e = order_of vs old new front f e
-order_of (Close ∷ vs) old new front f e = order_of vs old new front f e
-order_of (Part p ∷ vs) old new front f e =
-    let step = bind_ok (with_part old p) (λ next. made_of image_load next vs) new e in
+order_of dialect (Count n ∷ vs) old new front f e = order_of dialect vs old new front f e
+order_of dialect (Path path ∷ vs) old new front f e = order_of dialect vs old new front f e
+order_of dialect (Close ∷ vs) old new front f e = order_of dialect vs old new front f e
+order_of dialect (Part p ∷ vs) old new front f e =
+    let step = bind_ok (with_part old p) (λ next. made_of (image_load dialect) next vs) new e in
     let goes = part_goes old front f p step.0 step.1 in
     let stays = part_stays old p step.0 step.1 in
-    let others = order_of vs step.0 new (front ++ p ∷ []) goes.1 step.2 in (
+    let others = order_of dialect vs step.0 new (front ++ p ∷ []) goes.1 step.2 in (
       (
         goes.0,
         subst (λ (d : Dialect). AreAllowedAfter d (front ++ p ∷ []) (flat_map parts_in vs)) stays others.0,
@@ -271,20 +271,20 @@ order_of (Part p ∷ vs) old new front f e =
     )
 
 -- Parts that fit one another are taken.
-made_by : (vs : List Value) (old : LoadedParts) (front : List ImagePart) → FitsBehind old front
+made_by : (dialect : Dialect) (vs : List Value) (old : LoadedParts) (front : List ImagePart) → FitsBehind old front
     → AreAllowedAfter old.dialect front (flat_map parts_in vs)
-    → (new : LoadedParts) × (made_of image_load old vs ≡ Ok new)
-made_by [] old front f h = (old, refl)
-made_by (Count n ∷ vs) old front f h = made_by vs old front f h
-made_by (Path path ∷ vs) old front f h = made_by vs old front f h
-made_by (Close ∷ vs) old front f h = made_by vs old front f h
-made_by (Part p ∷ vs) old front f h =
+    → (new : LoadedParts) × (made_of (image_load dialect) old vs ≡ Ok new)
+made_by dialect [] old front f h = (old, refl)
+made_by dialect (Count n ∷ vs) old front f h = made_by dialect vs old front f h
+made_by dialect (Path path ∷ vs) old front f h = made_by dialect vs old front f h
+made_by dialect (Close ∷ vs) old front f h = made_by dialect vs old front f h
+made_by dialect (Part p ∷ vs) old front f h =
     let step = part_taken old front f p h.0 in
     let goes = part_goes old front f p step.0 step.1 in
-    let others = made_by vs step.0 (front ++ p ∷ []) goes.1
+    let others = made_by dialect vs step.0 (front ++ p ∷ []) goes.1
     (subst (λ (d : Dialect). AreAllowedAfter d (front ++ p ∷ []) (flat_map parts_in vs))
     (sym (part_stays old p step.0 step.1)) h.1) in
-    (others.0, ap (λ (q : Result LoadedParts Fault). q >>= λ next. made_of image_load next vs) step.1 ∙ others.1)
+    (others.0, ap (λ (q : Result LoadedParts Fault). q >>= λ next. made_of (image_load dialect) next vs) step.1 ∙ others.1)
 
 -- ---- there is one such state
 
@@ -327,10 +327,10 @@ pub takes_in : (dialect : Dialect) (bytes : List ℕ) (s : State) (rest : List �
     → TakesSpelling (image_in dialect) bytes s rest
 unfolding image_read_in
 takes_in dialect bytes s rest fits e =
-    let loads = bind_ok (load_from image_load SessionCount (no_parts_in dialect) bytes) shown (s, rest) e in
-    let l = load_takes image_load parts_sound SessionCount (no_parts_in dialect) loads.0.0 bytes loads.0.1 fits loads.1 in
-    let f = stand_front part_stream l.0.found SessionCount l.0.end bytes loads.0.1 l.0.stand in
-    let o = order_of l.0.found (no_parts_in dialect) loads.0.0 [] (fits_nothing dialect) l.0.made in
+    let loads = bind_ok (load_from (image_load dialect) SessionCount (no_parts_in dialect) bytes) shown (s, rest) e in
+    let l = load_takes (image_load dialect) (parts_sound dialect) SessionCount (no_parts_in dialect) loads.0.0 bytes loads.0.1 fits loads.1 in
+    let f = stand_front (part_stream dialect) l.0.found SessionCount l.0.end bytes loads.0.1 l.0.stand in
+    let o = order_of dialect l.0.found (no_parts_in dialect) loads.0.0 [] (fits_nothing dialect) l.0.made in
     let taken : TakesSpelling (image_in dialect) bytes loads.0.0.state loads.0.1 = record {
       text = f.0;
       parts = f.1;
@@ -356,23 +356,23 @@ pub again_in : (dialect : Dialect) (s : State) (text rest : List ℕ) → Spells
     → image_read_in dialect (text ++ rest) ≡ Ok (s, rest)
 unfolding image_read_in
 again_in dialect s text rest sp =
-    let m = made_by sp.found (no_parts_in dialect) [] (fits_nothing dialect) sp.order in
-    let o = order_of sp.found (no_parts_in dialect) m.0 [] (fits_nothing dialect) m.1 in
+    let m = made_by dialect sp.found (no_parts_in dialect) [] (fits_nothing dialect) sp.order in
+    let o = order_of dialect sp.found (no_parts_in dialect) m.0 [] (fits_nothing dialect) m.1 in
     let found = flat_map parts_in sp.found in
     let loaded_is : IsMadeOf dialect m.0.state (flat_map sessions_in found) (flat_map lists_in found)
     (flat_map rows_in found) =
     subst (λ (d : Dialect). IsMadeOf d m.0.state (flat_map sessions_in found) (flat_map lists_in found)
     (flat_map rows_in found)) o.2 o.1.state in
     let same : m.0.state ≡ s = one_state dialect m.0.state s _ _ _ loaded_is sp.made in
-    let loaded : IsLoaded image_load SessionCount (no_parts_in dialect) (text ++ rest) m.0 rest = record {
+    let loaded : IsLoaded (image_load dialect) SessionCount (no_parts_in dialect) (text ++ rest) m.0 rest = record {
       found = sp.found;
       end = sp.end;
-      stand = stand_on part_stream sp.found SessionCount sp.end text rest sp.stand;
+      stand = stand_on (part_stream dialect) sp.found SessionCount sp.end text rest sp.stand;
       ends = sp.ends;
       made = m.1;
     } in
     ap (λ (q : Result (LoadedParts × List ℕ) Fault). q >>= shown)
-    (loaded_again image_load parts_sound SessionCount (no_parts_in dialect) m.0 (text ++ rest) rest loaded)
+    (loaded_again (image_load dialect) (parts_sound dialect) SessionCount (no_parts_in dialect) m.0 (text ++ rest) rest loaded)
     ∙ ap (λ (t : State). Ok (t, rest)) same
 
 pub image_again : (s : State) (text rest : List ℕ) → SpellsImageIn Zk34 s text
@@ -387,15 +387,15 @@ ate (Err e) n h = tt
 
 eats_in : (dialect : Dialect) (bytes : List ℕ) → LeavesFewer (image_read_in dialect bytes) (length bytes)
 unfolding image_read_in
-eats_in dialect bytes = ate (load_from image_load SessionCount (no_parts_in dialect) bytes) (length bytes)
-    (load_eats image_load streamed SessionCount (no_parts_in dialect) bytes)
+eats_in dialect bytes = ate (load_from (image_load dialect) SessionCount (no_parts_in dialect) bytes) (length bytes)
+    (load_eats (image_load dialect) (streamed dialect) SessionCount (no_parts_in dialect) bytes)
 
 stands_in : (dialect : Dialect) (bytes more : List ℕ) → IsStable (image_read_in dialect bytes) more (image_read_in dialect (bytes ++ more))
 unfolding image_read_in
 stands_in dialect bytes more =
-    then_stands (load_from image_load SessionCount (no_parts_in dialect) bytes)
-    (load_from image_load SessionCount (no_parts_in dialect) (bytes ++ more)) more shown
-    (load_stands image_load streamed SessionCount (no_parts_in dialect) bytes more) (λ a rest. refl)
+    then_stands (load_from (image_load dialect) SessionCount (no_parts_in dialect) bytes)
+    (load_from (image_load dialect) SessionCount (no_parts_in dialect) (bytes ++ more)) more shown
+    (load_stands (image_load dialect) (streamed dialect) SessionCount (no_parts_in dialect) bytes more) (λ a rest. refl)
 
 pub streamed_in : (dialect : Dialect) → IsStreamable (image_in dialect)
 streamed_in dialect = record {
@@ -437,14 +437,14 @@ is_refused made front (Part p) f out = by (with_part made p) refl
 names_in : (dialect : Dialect) (bytes : List ℕ) (e : Fault) → IsBytes bytes → image_read_in dialect bytes ≡ Err e → AgainstImage dialect e bytes
 unfolding image_read_in
 names_in dialect bytes e fits h =
-    elim (bind_err (load_from image_load SessionCount (no_parts_in dialect) bytes) shown e h) [
-      | inl first ↦ named (load_names image_load parts_sound SessionCount (no_parts_in dialect) bytes e fits first)
+    elim (bind_err (load_from (image_load dialect) SessionCount (no_parts_in dialect) bytes) shown e h) [
+      | inl first ↦ named (load_names (image_load dialect) (parts_sound dialect) SessionCount (no_parts_in dialect) bytes e fits first)
       | inr never ↦ absurd (not_refused (never.0.0.state, never.0.1) e never.2)
     ]
   where
-    named : IsRefused image_load SessionCount (no_parts_in dialect) bytes e → AgainstImage dialect e bytes
+    named : IsRefused (image_load dialect) SessionCount (no_parts_in dialect) bytes e → AgainstImage dialect e bytes
     named r =
-        let o = order_of r.found (no_parts_in dialect) r.so_far [] (fits_nothing dialect) r.made in
+        let o = order_of dialect r.found (no_parts_in dialect) r.so_far [] (fits_nothing dialect) r.made in
         record {
           found = r.found;
           end = r.end;
@@ -473,12 +473,12 @@ names_in dialect bytes e fits h =
 answers_in : (dialect : Dialect) (bytes : List ℕ) (e : Fault) → AgainstImage dialect e bytes → image_read_in dialect bytes ≡ Err e
 unfolding image_read_in
 answers_in dialect bytes e a = ap (λ (q : Result (LoadedParts × List ℕ) Fault). q >>= shown)
-    (load_answers image_load parts_sound SessionCount (no_parts_in dialect) bytes e refused)
+    (load_answers (image_load dialect) (parts_sound dialect) SessionCount (no_parts_in dialect) bytes e refused)
   where
-    refused : IsRefused image_load SessionCount (no_parts_in dialect) bytes e
+    refused : IsRefused (image_load dialect) SessionCount (no_parts_in dialect) bytes e
     refused =
-        let m = made_by a.found (no_parts_in dialect) [] (fits_nothing dialect) a.order in
-        let o = order_of a.found (no_parts_in dialect) m.0 [] (fits_nothing dialect) m.1 in
+        let m = made_by dialect a.found (no_parts_in dialect) [] (fits_nothing dialect) a.order in
+        let o = order_of dialect a.found (no_parts_in dialect) m.0 [] (fits_nothing dialect) m.1 in
         record {
           found = a.found;
           end = a.end;

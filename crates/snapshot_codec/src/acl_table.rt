@@ -7,10 +7,10 @@ ghost use Rattle.snapshot_codec.specs.Made.{list_at_key};
 
 use jute::Acl;
 use jute::codes::open_list;
+use paths_and_acls::AclList;
 use std::alloc::Global;
 use std::collections::BTreeMap;
 use std::marker::Model;
-use paths_and_acls::AclList;
 use values::NoMemory;
 
 /// The key of the open list, which every image has.

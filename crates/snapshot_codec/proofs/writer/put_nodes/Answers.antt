@@ -26,7 +26,7 @@ returns-in_err-key c =
     let lists = lists_from [] walked in
     let node = c.in-Some.node.now.now in
     let p = err_from_is_err_and c.from_residual.result c.from_residual.ensures.1 in
-    rw (p.1, p.2) (key_err c.in_err-key.field-0.0 c.args.table.now lists node.acl (nodes_bytes lists walked)
+    rw (p.1, p.2) (key_err c.args.dialect c.in_err-key.field-0.0 c.args.table.now lists node.acl (nodes_bytes lists walked)
     c.args.out.now.items c.loop-path.out.items (FitNodes c.args.dialect lists walked) c.requires
     (keyed_head lists (c.in-Some.path.now.text.now, node) (shown_rows c.next.new.self)
     (subst (λ r. AllKeyed lists (shown_rows r)) c.in-Some.ensures.steps c.loop-path.invariant.3)).0
