@@ -8,7 +8,7 @@ use client_records::{
 use jute::{Acl, Id, ReadRecord, Reader, Stat, WriteRecord, read_vector};
 use std::alloc::Global;
 use std::test::Fail;
-use values::{Blob, Bytes, Listed, NoMemory, Str, Text};
+use values::{Blob, Bytes, Listed, NoMemory, Str};
 
 /// The Stat of the root of a fresh tree: its one child is a preset node.
 const ROOT: [u8; 68] = *b"\x00\x00\x00\x00\x00\x00\x00\x00\x00\x00\x00\x00\x00\x00\x00\x00\
@@ -173,8 +173,8 @@ fn get_acl_response(rt: HostRuntime) -> Result<(), Fail> {
     let open = Acl {
         perms: 31,
         id: Id {
-            scheme: Text::new(alloc, "world")?,
-            id: Text::new(alloc, "anyone")?,
+            scheme: Blob::new(alloc, b"world")?,
+            id: Blob::new(alloc, b"anyone")?,
         },
     };
     let list = vec![in alloc; open]?;

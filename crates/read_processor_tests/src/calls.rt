@@ -7,7 +7,7 @@ use read_processor::{Look, Request, look};
 use std::alloc::Global;
 use std::test::Fail;
 use txn_codec::decode_txn;
-use values::{Blob, Str, Text};
+use values::{Blob, Str};
 
 // The bytes of words of hexadecimal digits.
 fn bytes_of(alloc: Global, parts: &[&str]) -> Result<Vec<u8>, Fail> {
@@ -50,8 +50,8 @@ pub fn read_of(kind: ReadKind, path: &str) -> Request<'_> {
 /// An id of a scheme.
 pub fn id_of(alloc: Global, scheme: &str, id: &str) -> Result<Id, Fail> {
     Ok(Id {
-        scheme: Text::new(alloc, scheme)?,
-        id: Text::new(alloc, id)?,
+        scheme: Blob::new(alloc, scheme.as_bytes())?,
+        id: Blob::new(alloc, id.as_bytes())?,
     })
 }
 
