@@ -10,8 +10,8 @@ What it refuses:
 - a name that definitions of two or more crates have, unless docs/GLOSSARY.md lists it under "Names in several crates",
   with the one meaning that it has in all of them;
 - an entry of these two lists whose crates are not those that define the name;
-- a crate of more than 100 functions, or of more than 125 with those that it derives, but for those under LARGER, and a
-  source file of more than 800 lines.
+- a crate of more than 100 functions, or of more than 125 with those that it derives, and a source file of more than 800
+  lines.
 
 Each crate counts as one, and so does the glossary. The last line is `N passed, M failed`; the exit status is 0 where
 nothing failed.
@@ -27,11 +27,6 @@ GLOSSARY = os.path.join(TOP, "docs", "GLOSSARY.md")
 MOST_FUNCTIONS = 100
 MOST_WITH_DERIVED = 125
 MOST_LINES = 800
-# Crates that may have more, both with and without derived ones.
-LARGER = {
-    # Each type of transaction of two dialects, as it is read, written and asked. To be cut by dialect or by direction.
-    "txn_codec": (120, 145),
-}
 
 # A declaration begins its line: words like `abbrev pub`, the name, parameters, a colon. In a module it is indented.
 PARAMETERS = r"(?:\{[^}]*\}|\((?:[^()]|\([^()]*\))*\))"
@@ -128,13 +123,12 @@ def wrong_sizes(crates):
     """Yields the crates of too many functions or with files of too many lines, and what is too much."""
     for crate in crates:
         sources = [text_of(file) for file in files_in(crate, ["src"], ".rt")]
-        most, most_with_derived = LARGER.get(crate, (MOST_FUNCTIONS, MOST_WITH_DERIVED))
         count = sum(len(FUNCTION.findall(it)) for it in sources)
-        if count > most:
-            yield crate, f"{crate}: {count} functions, and it may have {most}"
+        if count > MOST_FUNCTIONS:
+            yield crate, f"{crate}: {count} functions, and it may have {MOST_FUNCTIONS}"
         count += sum(map(derived_in, sources))
-        if count > most_with_derived:
-            yield crate, f"{crate}: {count} functions with derived ones, and it may have {most_with_derived}"
+        if count > MOST_WITH_DERIVED:
+            yield crate, f"{crate}: {count} functions with derived ones, and it may have {MOST_WITH_DERIVED}"
         for file in files_in(crate, ["src", "specs", "proofs"], (".rt", ".antt")):
             count = text_of(file).count("\n")
             if count > MOST_LINES:

@@ -1,10 +1,10 @@
 //! Logs that were counted by hand.
 
 use audit::{AuditError, audit_stat};
+use paths_and_acls::Path;
 use settings::Dialect;
 use std::alloc::Global;
 use std::test::Fail;
-use paths_and_acls::Path;
 use txn_codec::{Body, Create, Operation, Owner, Txn, TxnHeader};
 use values::Listed;
 

@@ -3,9 +3,9 @@
 use crate::asked::{Kind, Load};
 use anyhow::Result;
 use data_tree::Tree;
+use paths_and_acls::Path;
 use settings::Dialect;
 use std::alloc::Global;
-use paths_and_acls::Path;
 use txn_codec::{Body, Create, Operation, Owner, SetData, Txn, TxnHeader};
 use values::{Blob, Listed};
 

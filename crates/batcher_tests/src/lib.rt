@@ -5,9 +5,9 @@
 #[cfg(test)]
 mod cuts;
 
+use paths_and_acls::Path;
 use settings::Dialect;
 use std::alloc::Global;
-use paths_and_acls::Path;
 use txn_codec::{Body, Check, Create, Operation, Owner, Txn, TxnHeader};
 use values::{Listed, ReadError};
 

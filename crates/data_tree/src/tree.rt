@@ -27,11 +27,11 @@ use ephemerals::{Ephemerals, TextSet};
 use jute::Stat;
 use jute::codes::{NO_NODE, NODE_EXISTS};
 use node_map::{AddedChild, Node, NodeMap};
+use paths_and_acls::{Path, name_of, parent_of};
 use settings::Dialect;
 use std::alloc::Global;
 use std::collections::btree_map::Iter;
 use std::marker::Model;
-use paths_and_acls::{Path, name_of, parent_of};
 use txn_codec::{Body, Create, Operation, SetAcl, SetData, Txn, TxnHeader, has_error};
 use values::{Listed, NoMemory, Text};
 

@@ -2,9 +2,9 @@
 
 use jute::codes::{ALL, open_list};
 use jute::{Acl, Id};
+use paths_and_acls::AclList;
 use std::alloc::{AllocError, Global};
 use std::test::Fail;
-use paths_and_acls::AclList;
 use values::{Blob, Listed};
 
 // An entry that grants every client these permissions.

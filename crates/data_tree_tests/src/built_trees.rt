@@ -4,9 +4,9 @@ use crate::path_of;
 use data_tree::{Node, Tree};
 use ephemerals::TextSet;
 use jute::StatPersisted;
+use paths_and_acls::AclList;
 use std::alloc::Global;
 use std::test::Fail;
-use paths_and_acls::AclList;
 use values::Listed;
 
 // Numbers that are all different, with the owner.

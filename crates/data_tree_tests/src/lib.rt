@@ -20,8 +20,8 @@ mod texts;
 #[cfg(test)]
 mod transactions;
 
-use std::alloc::Global;
 use paths_and_acls::Path;
+use std::alloc::Global;
 
 /// The text as a path, if it is one.
 pub fn path_of(alloc: Global, text: &str) -> Option<Path> {

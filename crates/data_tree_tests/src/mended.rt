@@ -5,10 +5,10 @@ use crate::transactions::text_of;
 use data_tree::{Node, Tree};
 use ephemerals::TextSet;
 use jute::StatPersisted;
+use paths_and_acls::AclList;
 use settings::Dialect;
 use std::alloc::Global;
 use std::test::Fail;
-use paths_and_acls::AclList;
 use txn_codec::{Body, Create, Operation, Owner, Txn, TxnHeader};
 use values::Listed;
 

@@ -2,9 +2,9 @@
 
 use crate::words::{operation_of, txn_of};
 use footprint::{Footprint, footprint};
+use paths_and_acls::Path;
 use std::alloc::Global;
 use std::test::Fail;
-use paths_and_acls::Path;
 use txn_codec::{Body, SetAcl, Txn};
 use values::Listed;
 

@@ -1,8 +1,8 @@
 //! Transactions given as signs and paths.
 
+use paths_and_acls::Path;
 use settings::Dialect;
 use std::alloc::Global;
-use paths_and_acls::Path;
 use txn_codec::{Body, Check, Create, Operation, Owner, SetData, Txn, TxnHeader};
 use values::ReadError;
 

@@ -5,9 +5,9 @@ ghost use Rattle.std.specs.Prelude.{◌≤◌, length, IfOk};
 use crate::messages::{PATH_LIMIT, short_path};
 use anyhow::{Result, ensure};
 use jute::{StatPersisted, WriteRecord, put_bytes, put_long, put_string};
+use paths_and_acls::Path;
 use quorum_packet::{PacketKind, QuorumPacket, write_packet};
 use std::alloc::Global;
-use paths_and_acls::Path;
 use values::Blob;
 
 // The protocol version that a leader sends with its epoch.

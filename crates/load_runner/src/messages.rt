@@ -8,9 +8,9 @@ use client_records::codes::PING_XID;
 use client_records::{ConnectRequest, PathAndWatch, ReadKind, RequestKind};
 use jute::codes::open_list;
 use jute::{RequestHeader, WriteRecord, put_bytes};
+use paths_and_acls::Path;
 use quorum_packet::{PacketKind, QuorumPacket, write_packet};
 use std::alloc::Global;
-use paths_and_acls::Path;
 use txn_codec::{Body, Create, Operation, Owner, SetData, Txn, encode_txn};
 use values::{Blob, Str};
 

@@ -7,8 +7,8 @@ use crate::load::{CONNECTION, Load};
 use crate::messages::{CONTENT, PATH_LIMIT, child_path, set_data, write_read};
 use anyhow::Result;
 use client_records::ReadKind;
-use std::alloc::Global;
 use paths_and_acls::Path;
+use std::alloc::Global;
 
 /// The sizes of the load.
 #[derive(Clone, Copy, Debug)]

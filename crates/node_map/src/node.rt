@@ -8,9 +8,9 @@ ghost use Rattle.node_map.specs.Stats.{stat_of, shown_stat, java_int, length_or_
 
 use ephemerals::TextSet;
 use jute::{Stat, StatPersisted};
+use paths_and_acls::AclList;
 use settings::Dialect;
 use std::alloc::{AllocError, Global};
-use paths_and_acls::AclList;
 use txn_codec::{Create, Owner, SetAcl, SetData, TxnHeader};
 use values::{Blob, NoMemory};
 

@@ -15,11 +15,11 @@ use crate::added_child::AddedChild;
 use crate::node::{Node, stat_after_delete};
 use ephemerals::{Ephemerals, TextSet};
 use jute::StatPersisted;
+use paths_and_acls::{AclList, child_of, is_path, name_of, parent_of};
 use std::alloc::{AllocError, Global};
 use std::collections::BTreeMap;
 use std::collections::btree_map::Iter;
 use std::marker::Model;
-use paths_and_acls::{AclList, child_of, is_path, name_of, parent_of};
 use txn_codec::{Create, SetAcl, SetData, TxnHeader};
 use values::{NoMemory, TextQuery};
 

@@ -20,7 +20,7 @@ use Rattle.quorum_packet.specs.declared.item.Item.{Item}
 use Rattle.quorum_packet.specs.declared.item.Item.TheVariants as item
 use Rattle.quorum_packet.specs.declared.item.LentItem.{LentItem}
 use Rattle.quorum_packet.specs.declared.item.LentItem.TheVariants as lent
-use Rattle.quorum_packet.specs.Lending.{owned_item, CanBeWrittenOwned}
+use Rattle.quorum_packet.specs.Lending.{CanBeWrittenOwned}
 use Rattle.quorum_packet.specs.declared.packet.QuorumPacket.{QuorumPacket}
 use Rattle.quorum_packet.specs.declared.phase.Phase.{Phase}
 use Rattle.quorum_packet.specs.declared.phase.Phase.TheVariants.{Packets, Image}

@@ -11,7 +11,7 @@ use Rattle.quorum_packet.specs.declared.packet.QuorumPacket.{QuorumPacket}
 use Rattle.quorum_packet.specs.declared.phase.Phase.{Phase}
 use Rattle.quorum_packet.specs.declared.phase.Phase.TheVariants.{Packets, Image}
 use Rattle.quorum_packet.specs.GroupedItems.{AreInOrder, ItemsAreInOrder}
-use Rattle.quorum_packet.specs.Items.{FoundValue, OfPacket, OfImage, packet_back, value_back, found_format, is_snap, phase_after_value, stream_of_leader, shown_items}
+use Rattle.quorum_packet.specs.Items.{FoundValue, OfPacket, OfImage, packet_back, value_back, is_snap, phase_after_value, stream_of_leader, shown_items}
 use Rattle.quorum_packet.specs.Packet.{packet_format}
 use Rattle.quorum_packet.specs.WholeItems.{is_owed}
 use Rattle.quorum_packet.proofs.GroupedItems.{read_case, refused_case}

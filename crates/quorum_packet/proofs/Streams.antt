@@ -1,14 +1,17 @@
 -- The leader's stream comes in pieces, in parts and as whole images.
 use Rattle.std.proofs.Common.{◌≡◌, ℕ, List, ◌++◌, Bool, true, false, Ok, refl, ap, ◌∙◌}
 use Rattle.std.proofs.lemmas.Grind.{flat_map-append}
+use Rattle.settings.specs.declared.dialect.Dialect.{Dialect}
 use Rattle.jute.specs.Laws.{WritesSpellings, IsLawful, IsSound}
 use Rattle.jute.specs.Loading.{AreSound}
 use Rattle.jute.specs.Relation.{AreLawful}
 use Rattle.jute.specs.Stream.{Place, Items, with_more_bytes, joined_items, items_in, IsStreamable, IsStream}
 use Rattle.jute.proofs.Public.{judged_takes, judged_reads, judged_pieced, judged_eats, case_sound, sound_streamed, sound_lawful, comes_in_pieces}
-use Rattle.snapshot_codec.specs.Image.{image_format}
+use Rattle.snapshot_codec.specs.Image.{image_in}
 use Rattle.snapshot_codec.specs.Parts.{part_format}
-use Rattle.snapshot_codec.proofs.Public.{part_sound, image_taken, image_again, image_streamed, image_written}
+use Rattle.snapshot_codec.proofs.Images.{takes_in, again_in, streamed_in}
+use Rattle.snapshot_codec.proofs.Public.{part_sound}
+use Rattle.snapshot_codec.proofs.Written.{written_in}
 use Rattle.quorum_packet.specs.declared.item.Item.{Item}
 use Rattle.quorum_packet.specs.declared.phase.Phase.{Phase}
 use Rattle.quorum_packet.specs.declared.phase.Phase.TheVariants.{Packets, Image}
@@ -49,37 +52,40 @@ shows_pieces place more =
 
 -- ---- whole
 
-packet_item : IsSound (whole_format false)
-packet_item = case_sound (λ p. OnePacket p) one_packet_back packet_format (λ p. refl) packet_sound
+module _ (dialect : Dialect) where
+  packet_item : IsSound (whole_format dialect false)
+  packet_item = case_sound (λ p. OnePacket p) one_packet_back packet_format (λ p. refl) packet_sound
 
-image_item_streamed : IsStreamable (whole_format true)
-image_item_streamed = record {
-  pieced = judged_pieced (λ s. Ok (OneImage s)) one_image_back image_format image_streamed.pieced;
-  some = judged_eats (λ s. Ok (OneImage s)) one_image_back image_format image_streamed.some;
-}
+  image_item_streamed : IsStreamable (whole_format dialect true)
+  image_item_streamed =
+      let image = streamed_in dialect in
+      record {
+        pieced = judged_pieced (λ s. Ok (OneImage s)) one_image_back (image_in dialect) image.pieced;
+        some = judged_eats (λ s. Ok (OneImage s)) one_image_back (image_in dialect) image.some;
+      }
 
-streamed_in : (owed : Bool) → IsStreamable (whole_format owed)
-streamed_in false = record { pieced = packet_item.pieced; some = packet_item.some }
-streamed_in true = image_item_streamed
+  item_streamed : (owed : Bool) → IsStreamable (whole_format dialect owed)
+  item_streamed false = record { pieced = packet_item.pieced; some = packet_item.some }
+  item_streamed true = image_item_streamed
 
-pub whole_streamed : IsStream whole_items
-whole_streamed = record { streamed = streamed_in }
+  pub whole_streamed : IsStream (whole_items dialect)
+  whole_streamed = record { streamed = item_streamed }
 
-image_item_writes : WritesSpellings (whole_format true)
-image_item_writes (OnePacket p) h = absurd h
-image_item_writes (OneImage s) h = (s, h.0, image_written s h.1)
+  image_item_writes : WritesSpellings (whole_format dialect true)
+  image_item_writes (OnePacket p) h = absurd h
+  image_item_writes (OneImage s) h = (s, h.0, written_in dialect s h.1)
 
-image_item_lawful : IsLawful (whole_format true)
-image_item_lawful = record {
-  takes = judged_takes (λ s. Ok (OneImage s)) one_image_back image_format image_taken;
-  again = λ v text rest h. judged_reads (λ s. Ok (OneImage s)) image_format h.0 v (text ++ rest) rest
-      (image_again h.0 text rest h.2) h.1;
-  writes = image_item_writes;
-}
+  image_item_lawful : IsLawful (whole_format dialect true)
+  image_item_lawful = record {
+    takes = judged_takes (λ s. Ok (OneImage s)) one_image_back (image_in dialect) (takes_in dialect);
+    again = λ v text rest h. judged_reads (λ s. Ok (OneImage s)) (image_in dialect) h.0 v (text ++ rest) rest
+        (again_in dialect h.0 text rest h.2) h.1;
+    writes = image_item_writes;
+  }
 
-lawful_in : (owed : Bool) → IsLawful (whole_format owed)
-lawful_in false = packet_item.lawful
-lawful_in true = image_item_lawful
+  item_lawful : (owed : Bool) → IsLawful (whole_format dialect owed)
+  item_lawful false = packet_item.lawful
+  item_lawful true = image_item_lawful
 
-pub whole_lawful : AreLawful whole_items
-whole_lawful = record { lawful = lawful_in }
+  pub whole_lawful : AreLawful (whole_items dialect)
+  whole_lawful = record { lawful = item_lawful }

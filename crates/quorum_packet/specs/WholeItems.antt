@@ -1,10 +1,11 @@
--- The leader's stream as packets and whole images: an image comes first exactly if one is owed, and directly after each
--- SNAP packet.
+-- The leader's stream as packets and whole images in its dialect: an image comes first exactly if one is owed, and
+-- directly after each SNAP packet.
 use Rattle.std.specs.Prelude.{Bool, true, false, Option, Some, None}
+use Rattle.settings.specs.declared.dialect.Dialect.{Dialect}
 use Rattle.jute.specs.Format.{Format, case_of}
 use Rattle.jute.specs.Stream.{PhasedStream}
 use Rattle.data_tree.specs.State.{State}
-use Rattle.snapshot_codec.specs.Image.{image_format}
+use Rattle.snapshot_codec.specs.Image.{image_in}
 use Rattle.quorum_packet.specs.declared.packet.QuorumPacket.{QuorumPacket}
 use Rattle.quorum_packet.specs.declared.phase.Phase.{Phase}
 use Rattle.quorum_packet.specs.declared.phase.Phase.TheVariants.{Packets, Image}
@@ -23,9 +24,9 @@ abbrev pub one_image_back : WholeItem → Option State
 one_image_back (OneImage s) = Some s
 one_image_back (OnePacket p) = None
 
-abbrev pub whole_format : Bool → Format WholeItem
-whole_format false = case_of (λ p. OnePacket p) one_packet_back packet_format
-whole_format true = case_of (λ s. OneImage s) one_image_back image_format
+abbrev pub whole_format : Dialect → Bool → Format WholeItem
+whole_format dialect false = case_of (λ p. OnePacket p) one_packet_back packet_format
+whole_format dialect true = case_of (λ s. OneImage s) one_image_back (image_in dialect)
 
 abbrev pub is_owed : Phase → Bool
 is_owed Packets = false
@@ -36,5 +37,5 @@ owed_after owed (OnePacket p) = is_snap p
 owed_after owed (OneImage s) = false
 
 -- The phase says whether an image is owed.
-abbrev pub whole_items : PhasedStream Bool WholeItem
-whole_items = record { format = λ owed. whole_format owed; after = owed_after }
+abbrev pub whole_items : Dialect → PhasedStream Bool WholeItem
+whole_items dialect = record { format = λ owed. whole_format dialect owed; after = owed_after }

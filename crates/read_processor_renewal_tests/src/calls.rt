@@ -2,11 +2,11 @@
 
 use client_records::{Name, SetWatches};
 use data_tree::Tree;
+use paths_and_acls::Path;
 use read_processor::Watch;
 use settings::Dialect;
 use std::alloc::Global;
 use std::test::Fail;
-use paths_and_acls::Path;
 use txn_codec::{Body, Create, Operation, Owner, Txn, TxnHeader};
 use values::{Listed, NoMemory};
 use watch_manager::WatchMode;

@@ -9,10 +9,10 @@ use crate::owner::{comes_late, loaded_stat, mark_in, or_missing};
 use crate::part::{ImageAcl, ImageNode, ImagePart, ImageSession};
 use data_tree::{Node, Tree};
 use ephemerals::TextSet;
+use paths_and_acls::AclList;
 use settings::Dialect;
 use std::alloc::Global;
 use std::marker::Model;
-use paths_and_acls::AclList;
 use values::{Fault, ReadError};
 
 /// A tree that is built from the parts of an image, one by one and in their order.

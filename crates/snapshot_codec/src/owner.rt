@@ -5,9 +5,9 @@ ghost use Rattle.snapshot_codec.specs.Dialects.{is_mark_in, owning_session, mark
 
 use data_tree::{Node, Tree};
 use jute::StatPersisted;
+use paths_and_acls::AclList;
 use settings::Dialect;
 use std::alloc::Global;
-use paths_and_acls::AclList;
 use values::Listed;
 
 // The least number of a time to live, and the first one past them all.

@@ -4,13 +4,13 @@ use crate::joined;
 use crate::pieces::{A, B, BARE, CLOSE, KEY_1, KEY_7, NONE, NUMBERS, ONE, READ_8, ROOT, SIGNATURE};
 use data_tree::Tree;
 use jute::StatPersisted;
+use paths_and_acls::Path;
 use settings::Dialect;
 use snapshot_codec::{
     ImageAcl, ImageNode, ImagePart, Loader, read_image, read_image_in, write_image, write_image_in,
 };
 use std::alloc::Global;
 use std::test::Fail;
-use paths_and_acls::Path;
 use values::{Fault, Listed, ReadError};
 
 // The numbers of a node before its owner, and the pzxid behind it.

@@ -9,10 +9,10 @@ use crate::pieces::{
 use data_tree::{Node, Tree};
 use ephemerals::TextSet;
 use jute::StatPersisted;
+use paths_and_acls::{AclList, Path};
 use snapshot_codec::{WriteError, read_image, write_image};
 use std::alloc::Global;
 use std::test::Fail;
-use paths_and_acls::{AclList, Path};
 use values::{Blob, NoMemory};
 
 // The image written for a tree.

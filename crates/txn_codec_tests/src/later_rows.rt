@@ -1,10 +1,10 @@
 //! Transactions of the dialect of ZooKeeper 3.5 to 3.9. Most rows have the bytes of a leader of 3.8, after the header.
 
 use crate::rows::{bytes_of, row_of};
+use paths_and_acls::Path;
 use settings::Dialect;
 use std::alloc::Global;
 use std::test::Fail;
-use paths_and_acls::Path;
 use txn_codec::{Body, Operation, decode_txn, decode_txn_in};
 
 // Session 7, its request 1, zxid 0x100000001, at 1000.

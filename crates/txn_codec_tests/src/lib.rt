@@ -13,8 +13,8 @@ mod rows;
 #[cfg(test)]
 mod txn_rows;
 
-use std::alloc::Global;
 use paths_and_acls::Path;
+use std::alloc::Global;
 use values::ReadError;
 
 /// The text as a path.

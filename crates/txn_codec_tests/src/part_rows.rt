@@ -4,9 +4,9 @@ ghost use Rattle.std.specs.Prelude.{◌<◌, ◌^◌, IfOk, length};
 
 use jute::codes::open_list;
 use jute::{Acl, ReadRecord, Reader, WriteRecord};
+use paths_and_acls::Path;
 use std::alloc::Global;
 use std::test::Fail;
-use paths_and_acls::Path;
 use txn_codec::{Check, Create, Owner, SetAcl, SetData};
 use values::{Blob, Listed, NoMemory, ReadError};
 

@@ -1,9 +1,9 @@
 //! Paths.
 
 use crate::path_of;
+use paths_and_acls::{Path, child_of, is_path, name_of, parent_of};
 use std::alloc::Global;
 use std::test::Fail;
-use paths_and_acls::{Path, child_of, is_path, name_of, parent_of};
 use values::{Fault, NoMemory, ReadError};
 
 // Whether the text is a path, with this parent and name.

@@ -5,7 +5,7 @@ use Rattle.quorum_packet.proofs.law.whole_items.Goals as goal
 
 pub returns : goal.returns
 returns c = record {
-  pieces = comes_in_pieces whole_items whole_streamed;
-  found = are_items whole_items whole_streamed whole_lawful;
-  alone = are_items_only whole_items whole_streamed whole_lawful;
+  pieces = λ dialect. comes_in_pieces (whole_items dialect) (whole_streamed dialect);
+  found = λ dialect. are_items (whole_items dialect) (whole_streamed dialect) (whole_lawful dialect);
+  alone = λ dialect. are_items_only (whole_items dialect) (whole_streamed dialect) (whole_lawful dialect);
 }
