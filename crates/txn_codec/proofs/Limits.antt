@@ -1,5 +1,5 @@
 -- A decoded transaction is within the limits, and each node that it creates or deletes has a parent.
-use Rattle.std.proofs.Common.{◌≡◌, ℕ, Bool, ◌&&◌, List, [], ◌∷◌, Option, Some, None, Result, Ok, Err, sym, subst}
+use Rattle.std.proofs.Common.{◌≡◌, ℕ, Bool, ◌&&◌, List, [], ◌∷◌, Option, Some, None, Result, Ok, Err, subst}
 use Rattle.std.specs.Prelude.{ℤ, IfOk, IsTrue, not}
 use Rattle.std.specs.List.{AllByRecursion}
 use Rattle.std.proofs.lemmas.List.Elements.{All-from_recursion}
@@ -22,7 +22,7 @@ use Rattle.txn_codec.specs.Kinds.{operation_kind, body_kind}
 use Rattle.txn_codec.specs.Parents.{HasParent, HaveParents}
 use Rattle.paths_and_acls.specs.Paths.{is_child_path}
 use Rattle.paths_and_acls.specs.Fields.{child_path}
-use Rattle.txn_codec.specs.Spelling.{last_field, created_operation, operation_format, is_lenient, part_format_in, parts_format_in, has_own_end, body_fields, body_in, txn_in}
+use Rattle.txn_codec.specs.Spelling.{last_field, created_operation, operation_format, is_lenient, part_format_in, has_own_end, body_fields, body_in, txn_in}
 use Rattle.txn_codec.proofs.Bodies.{txn_at_end}
 use Rattle.txn_codec.proofs.Closing.{closing_children}
 use Rattle.txn_codec.proofs.Endings.{before_trailer, buffered}
