@@ -1,7 +1,7 @@
 use Rattle.std.proofs.Common.{◌↔◌, drop}
 use Rattle.std.specs.List.{AllByRecursion}
 use Rattle.jute.specs.Owned.{acl_in}
-use Rattle.snapshot_codec.proofs.fits.fits_list.Given as goal
+use Rattle.snapshot_codec.proofs.fits.fits_entries.Given as goal
 
 abbrev pub invariant-loop-entry : goal.invariant-loop-entry
 invariant-loop-entry l =
