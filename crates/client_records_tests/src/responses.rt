@@ -167,7 +167,7 @@ fn are_read(alloc: Global, bytes: &[u8], entries: &[Acl]) -> Result<bool, Fail> 
 }
 
 #[test]
-#[tactic(auto, unfolding(client_records::specs::Responses::get_acl_response, jute::specs::Records::stat_format, jute::specs::Owned::acl_format, jute::specs::Owned::id_format))]
+#[tactic(auto, unfolding(client_records::specs::Responses::get_acl_response, jute::specs::Records::stat_format, jute::specs::Owned::acl_in, jute::specs::Owned::id_in))]
 fn get_acl_response(rt: HostRuntime) -> Result<(), Fail> {
     let alloc = rt.alloc();
     let open = Acl {

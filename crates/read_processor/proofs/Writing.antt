@@ -5,7 +5,7 @@ use Rattle.std.proofs.lemmas.List.{length-append}
 use Rattle.std.proofs.lemmas.List.Concat.{flat_map-cons}
 use Rattle.std.proofs.lemmas.List.Elements.{All-nil, All-cons}
 use Rattle.jute.specs.Format.{Format, text_or_empty, vector_of, number_bytes}
-use Rattle.jute.specs.Owned.{acl_format, id_format}
+use Rattle.jute.specs.Owned.{acl_in, id_in, acl_format}
 use Rattle.jute.specs.Records.{stat_format}
 use Rattle.jute.specs.declared.owned.Acl.{Acl}
 use Rattle.jute.specs.declared.stat.Stat.{Stat}
@@ -49,11 +49,11 @@ name_plain = record {
 acl_length : (a : Acl)
     → length (acl_format.written a)
     ≡ 4 + (length (text_or_empty.written a.id.scheme) + length (text_or_empty.written a.id.id))
-unfolding acl_format id_format number_bytes
+unfolding acl_in id_in number_bytes
 acl_length a = simp length-append (omega arith)
 
 acl_plain : Plain acl_format
-unfolding acl_format id_format
+unfolding acl_in id_in
 acl_plain = record {
   some = λ a. omega (arith, acl_length a);
   writable = λ a lt. (

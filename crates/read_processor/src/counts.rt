@@ -23,9 +23,9 @@ pub(crate) fn with_bytes(count: usize, more: usize) -> Option<usize>
     Some(count + more)
 }
 
-// Adds a text with its length prefix.
+// Adds a text, by its bytes, with its length prefix.
 #[tactic(auto, unfolding(jute::specs::Format::number_bytes))]
-fn with_text(count: usize, text: &str) -> Option<usize>
+fn with_text(count: usize, text: &[u8]) -> Option<usize>
     requires { count ≤ body_limit }
     ensures { CountsBytes result (count + length (text_or_empty.written text.now)) }
 {
@@ -33,14 +33,14 @@ fn with_text(count: usize, text: &str) -> Option<usize>
     with_bytes(behind_length, text.len())
 }
 
-#[tactic(auto, unfolding(jute::specs::Format::number_bytes, jute::specs::Owned::acl_format, jute::specs::Owned::id_format))]
+#[tactic(auto, unfolding(jute::specs::Format::number_bytes, jute::specs::Owned::acl_in, jute::specs::Owned::id_in))]
 fn with_acl(count: usize, entry: &Acl) -> Option<usize>
     requires { count ≤ body_limit }
     ensures { CountsBytes result (count + length (acl_format.written entry.now)) }
 {
     let behind_perms = with_bytes(count, 4)?;
-    let behind_scheme = with_text(behind_perms, entry.id.scheme.as_str())?;
-    with_text(behind_scheme, entry.id.id.as_str())
+    let behind_scheme = with_text(behind_perms, entry.id.scheme.as_slice())?;
+    with_text(behind_scheme, entry.id.id.as_slice())
 }
 
 // The length of an access control list in bytes, with its count; None if it exceeds `BODY_LIMIT`.
@@ -60,7 +60,7 @@ pub(crate) fn names_len(texts: Iter<'_, String>) -> Option<usize>
 {
     let mut count = 4;
     for text in texts {
-        count = with_text(count, text)?;
+        count = with_text(count, text.as_bytes())?;
     }
     Some(count)
 }

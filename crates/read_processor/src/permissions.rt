@@ -18,13 +18,13 @@ fn lets_read(acl: &Acl) -> bool
 fn is_everybody(id: &Id) -> bool
     ensures { result ≡ is_everybody id.now }
 {
-    id.scheme.as_str() == "world" && id.id.as_str() == "anyone"
+    id.scheme.as_slice() == b"world".as_slice() && id.id.as_slice() == b"anyone".as_slice()
 }
 
 fn is_same_id(a: &Id, b: &Id) -> bool
     ensures { result ≡ is_same_id a.now b.now }
 {
-    a.scheme.as_str() == b.scheme.as_str() && a.id.as_str() == b.id.as_str()
+    a.scheme.as_slice() == b.scheme.as_slice() && a.id.as_slice() == b.id.as_slice()
 }
 
 fn is_shown(ids: &[Id], id: &Id) -> bool
