@@ -10,7 +10,7 @@ use Rattle.values.specs.Hex.{hex_bytes}
 use Rattle.jute.specs.Format.{judged_at, buffer_at, vector_at, read_n, number_bytes}
 use Rattle.jute.specs.Codes.{open_acl}
 use Rattle.jute.specs.Frame.{frame_at}
-use Rattle.jute.specs.Owned.{id_format, acl_format}
+use Rattle.jute.specs.Owned.{id_in, acl_in}
 use Rattle.jute.specs.Records.{request_header, reply_header}
 use Rattle.jute.specs.declared.owned.Id.{Id}
 use Rattle.jute.specs.Stream.{Items, items_within, items_in, place_at}
@@ -164,7 +164,7 @@ abbrev error_txn : Txn
 error_txn = record { header = header; body = bodies.Single (operations.Error (negsuc 109)) }
 
 create_fits : txn_format.Fits create_txn
-unfolding acl_format id_format
+unfolding acl_in id_in
 create_fits =
     let path = text_fits (codes "/a") path_is_text (omega arith) in
     let world = text_fits (codes "world") world_is_text (omega arith) in
@@ -199,7 +199,7 @@ error_fits = ((refl, search rules), ((refl, search rules), (refl, (refl, search 
 
 create_found : items_shown_at (place_at Packets inform_of_forwarded)
     ≡ one_packet (packet_of (pos 4294967297) (txn_format.written create_txn))
-unfolding items_within packet_format judged_at buffer_at vector_at read_n number_bytes acl_format id_format
+unfolding items_within packet_format judged_at buffer_at vector_at read_n number_bytes acl_in id_in
 create_found = refl
 
 error_found : items_shown_at (place_at Packets inform_of_error)

@@ -17,7 +17,7 @@ use Rattle.values.specs.declared.fault.Fault.TheVariants.{OutOfOrder}
 use Rattle.jute.specs.Format.{◌>>=◌, judged_at, buffer_at, buffer_limit, vector_at, text_format, read_n, number_bytes}
 use Rattle.jute.specs.Codes.{open_acl}
 use Rattle.jute.specs.Frame.{frame_at}
-use Rattle.jute.specs.Owned.{id_format, acl_format}
+use Rattle.jute.specs.Owned.{id_in, acl_in}
 use Rattle.jute.specs.Records.{stat_format, request_header, reply_header}
 use Rattle.client_records.specs.declared.kind.ReadKind.TheVariants.{GetData}
 use Rattle.client_records.specs.declared.kind.RequestKind.TheVariants as kinds
@@ -143,7 +143,7 @@ pub text_fits : (t : List ℕ) → IsUtf8 t → length t ≤ buffer_limit → te
 text_fits t is short = (rw (is_utf8-from_IsUtf8 t is) refl, short)
 
 pub create_fits : txn_format.Fits create_txn
-unfolding acl_format id_format
+unfolding acl_in id_in
 create_fits =
     let path = text_fits (codes "/a") path_is_text (omega arith) in
     let world = text_fits (codes "world") world_is_text (omega arith) in
@@ -236,7 +236,7 @@ one_packet p = record { found = item.Packet p ∷ []; left = place_at Packets []
 
 pub create_found : items_shown_at (place_at Packets inform_of_create) ≡ one_packet
     (packet_of (pos 4294967297) (txn_format.written create_txn))
-unfolding items_within packet_format judged_at buffer_at vector_at read_n number_bytes acl_format id_format
+unfolding items_within packet_format judged_at buffer_at vector_at read_n number_bytes acl_in id_in
 create_found = refl
 
 set_found : items_shown_at (place_at Packets inform_of_set_data)
