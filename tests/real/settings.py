@@ -1,5 +1,5 @@
-"""What a later leader writes past 3.4 is refused: each setting that keeps it from that is needed. The observer ends
-with status 7, and its last line says what to do."""
+"""In dialect 3.4, what a later leader writes past 3.4 is refused: each setting that keeps it from that is needed. The
+observer ends with status 7, and its last line says what to do."""
 import time
 
 from kazoo.client import KazooClient
@@ -8,6 +8,7 @@ from lab import DIALECT, JARS, JAVA, OBSERVER_ID, Leader, Observer, Process, fre
 from voters import Follower
 
 DIGEST, CLOSE_SESSION = DIALECT
+OLDER = ("--dialect", "3.4")
 
 
 def fault_of(bench, name, dialect, cause):
@@ -17,7 +18,7 @@ def fault_of(bench, name, dialect, cause):
     leader, observer = Leader(folder), Observer(bench.observer.program, folder)
     try:
         leader.start(dialect)
-        observer.start(leader.quorum)
+        observer.start(leader.quorum, 0, *OLDER)
         # Opening a session there would be a transaction too.
         until("the observer serves", lambda: word(observer.client, "isro") == "rw")
         client = KazooClient(f"127.0.0.1:{leader.client}")
@@ -39,7 +40,7 @@ def digest(bench):
 
 
 def defaults(bench):
-    """A server as it is installed, found among several addresses: the line names the setting that is missing."""
+    """A server as it is installed, found among several addresses: the line says how to start the observer."""
     folder = bench.folder / "defaults"
     folder.mkdir()
     leader, observer = Leader(folder), Follower(bench.observer.program, folder, "defaults", OBSERVER_ID)
@@ -47,7 +48,7 @@ def defaults(bench):
         leader.start(())
         began = time.monotonic()
         # Its first transaction may have come before the observer, which is then sent an image.
-        observer.begin(f"127.0.0.1:{free_ports(1)[0]},127.0.0.1:{leader.quorum}")
+        observer.begin(f"127.0.0.1:{free_ports(1)[0]},127.0.0.1:{leader.quorum}", 0, *OLDER)
         until("the observer serves", observer.serves)
         client = KazooClient(f"127.0.0.1:{leader.client}")
         client.start(15)
