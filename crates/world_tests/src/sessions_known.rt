@@ -64,7 +64,22 @@ fn timeout(known: &KnownTimeouts<'_>, session: i64) -> i32 {
     known.timeout_of(session).unwrap_or(0)
 }
 
-// The timeouts of sessions 5, 6, 7 and 9, or 0: the tree has 5 and 9, and connections have 5 and 7.
+// The timeouts of sessions 5, 6, 7 and 9, or 0.
+fn timeouts_in<'a>(counts_told: bool, sessions: &'a Sessions, tree: &'a Tree) -> [i32; 4] {
+    let known = KnownTimeouts {
+        counts_told,
+        sessions,
+        tree: tree.sessions(),
+    };
+    [
+        timeout(&known, 5),
+        timeout(&known, 6),
+        timeout(&known, 7),
+        timeout(&known, 9),
+    ]
+}
+
+// The timeouts of these sessions: the tree has 5 and 9, and connections have 5 and 7.
 fn timeouts(alloc: Global, counts_told: bool) -> Result<[i32; 4], NoMemory> {
     let mut sessions = Sessions::new(
         alloc,
@@ -78,17 +93,7 @@ fn timeouts(alloc: Global, counts_told: bool) -> Result<[i32; 4], NoMemory> {
     let mut tree = Tree::empty(alloc);
     tree.put_session(5, 4000)?;
     tree.put_session(9, 30_000)?;
-    let known = KnownTimeouts {
-        counts_told,
-        sessions: &sessions,
-        tree: tree.sessions(),
-    };
-    Ok([
-        timeout(&known, 5),
-        timeout(&known, 6),
-        timeout(&known, 7),
-        timeout(&known, 9),
-    ])
+    Ok(timeouts_in(counts_told, &sessions, &tree))
 }
 
 #[test]
