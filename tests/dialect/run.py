@@ -26,20 +26,8 @@ SECONDS = 60
 
 # What isn't done yet, and the rows that ask for it.
 NOT_YET = {
-    "multis of clients": (
-        "own-multi own-multi-create2 own-multi-create2-38 own-multi-empty own-multi-events own-multi-fails own-multi-refused"
-    ),
     "a deleteContainer told from a delete": "own-delete-container",
-    "watches of later clients": (
-        "add-watch add-watch-any both-modes remove-kinds remove-none remove-watches set-watches2 set-watches2-bad "
-        "set-watches2-order watch-kinds"
-    ),
-    "reads of later clients": (
-        "all-children ephemerals get-acl image-no-list multi-read multi-read-bad multi-read-rights reads-held sasl sasl-null "
-        "small-reads unknown unreadable who-am-i"
-    ),
     "addresses": "address",
-    "surrogates in lists": "halves",
 }
 
 

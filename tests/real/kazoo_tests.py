@@ -18,9 +18,15 @@ VERSION = {"TRAVIS": "true", "ZOOKEEPER_VERSION": "3.8.0"}
 SECONDS, FILE_SECONDS = 90, 1500
 PYTEST = (sys.executable, "-B", "-m", "pytest", "-q", "--rootdir", PACKAGES, "-p", "no:cacheprovider")
 
-# What ZooKeeper's own observer doesn't pass either: it has no read-only mode and no SASL here; the rest needs Kerberos,
-# or is of kazoo's own builds.
-LEFT_OUT = ("TestReadOnlyMode", "test_connect_sasl_auth", "TestSASLGSSAPIAuthentication", "TestBuildEnvironment")
+# What ZooKeeper's own observer doesn't pass either: it has no read-only mode and no SASL here, so kazoo asks it for a token
+# over and over; the rest needs Kerberos, or is of kazoo's own builds.
+LEFT_OUT = (
+    "TestReadOnlyMode",
+    "test_connect_sasl_auth",
+    "test_invalid_sasl_auth",
+    "TestSASLGSSAPIAuthentication",
+    "TestBuildEnvironment",
+)
 
 
 def collected():
@@ -53,7 +59,8 @@ class Bench(defaults.Bench):
         lines = self.folder / f"{name}.outcomes"
         lines.touch()
         own = {"UNDER_TEST": str(self.observer.client), "OUTCOMES": str(lines), "PYTHONPATH": str(HERE), **VERSION}
-        words = [*PYTEST, "-p", "kazoo_cluster", f"--timeout={SECONDS}", PACKAGES / file]
+        wanted = f"not ({' or '.join(LEFT_OUT)})"
+        words = [*PYTEST, "-p", "kazoo_cluster", f"--timeout={SECONDS}", "-k", wanted, PACKAGES / file]
         process = Process(name, words, self.folder, env={**os.environ, **own}, cwd=self.folder)
         try:
             process.ends(FILE_SECONDS)

@@ -1,7 +1,7 @@
 """Writes by clients of the observer: the leader does them, and the client sees each by its own reads after it."""
 from kazoo.exceptions import (
     BadVersionError, NoAuthError, NoChildrenForEphemeralsError, NodeExistsError, NoNodeError, NotEmptyError,
-    NotReadOnlyCallError,
+    RolledBackError, RuntimeInconsistency,
 )
 from kazoo.security import make_acl, make_digest_acl
 
@@ -149,18 +149,23 @@ def with_a_stat(bench):
     ended(client, leader)
 
 
-def refused(bench):
-    """A multi is refused here, and the session goes on."""
+def together(bench):
+    """A multi is done as a whole or not at all, and each part has its result."""
     client = library(bench.observer.client)
-    session = client.client_id[0]
-    client.create("/refused", b"")
+    client.create("/together", b"")
     multi = client.transaction()
-    multi.create("/refused/new", b"")
-    raises(NotReadOnlyCallError, multi.commit)
-    assert client.get_children("/refused") == []
-    assert client.client_id[0] == session
-    client.set("/refused", b"later")
+    multi.create("/together/new", b"first")
+    multi.set_data("/together/new", b"second")
+    path, stat = multi.commit()
+    assert path == "/together/new" and stat.version == 1
+    multi = client.transaction()
+    multi.delete("/together/new")
+    multi.check("/together", 7)
+    multi.create("/together/other", b"")
+    results = multi.commit()
+    assert [type(it) for it in results] == [RolledBackError, BadVersionError, RuntimeInconsistency]
+    assert client.get("/together/new")[0] == b"second"
     ended(client)
 
 
-CHECKS = [own_writes, sorts_of_nodes, that_fail, with_ids, pipelined, sync_elsewhere, with_a_stat, refused]
+CHECKS = [own_writes, sorts_of_nodes, that_fail, with_ids, pipelined, sync_elsewhere, with_a_stat, together]

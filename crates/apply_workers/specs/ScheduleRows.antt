@@ -31,7 +31,8 @@ abbrev pub two_workers : List Step
 two_workers = Claim 0 ∷ Claim 1 ∷ Do 1 ∷ Give 1 ∷ Do 0 ∷ Give 0 ∷ Do 0 ∷ Give 0 ∷ []
 
 abbrev pub create_outcome : Bytes → Bytes → Outcome
-create_outcome path parent = record { err = pos 0; parts = []; triggers = Created path ∷ ChildrenChanged parent ∷ [] }
+create_outcome path parent =
+    record { results = record { err = pos 0; parts = [] }; triggers = Created path ∷ ChildrenChanged parent ∷ [] }
 
 abbrev pub three_creates : TxnHeader → List Txn
 three_creates h = create_txn_of h path_a_x ∷ create_txn_of h path_a_y ∷ create_txn_of h path_b_z ∷ []

@@ -8,7 +8,7 @@ ghost use Rattle.apply_workers.specs.Inner.{put_at, finished_groups};
 use crate::group_work::{Finished, Work};
 use apply_board::Group;
 use batcher::LentBatch;
-use data_tree::{Cells, Outcome, Tree};
+use data_tree::{Cells, Outcome, Tree, TxnResults};
 use std::alloc::Global;
 use txn_codec::{SessionChange, Txn};
 use values::{Listed, NoMemory};
@@ -77,8 +77,10 @@ fn empty_outcomes(alloc: Global, count: usize) -> Result<Vec<Outcome>, NoMemory>
     let mut blanks = Vec::with_capacity(alloc, count)?;
     for _ in 0..count {
         blanks.push(Outcome {
-            err: 0,
-            parts: Listed::from_vec(Vec::new(alloc)),
+            results: TxnResults {
+                err: 0,
+                parts: Listed::from_vec(Vec::new(alloc)),
+            },
             triggers: Listed::from_vec(Vec::new(alloc)),
         })?;
     }

@@ -89,7 +89,7 @@ fn told(trigger: &Trigger) -> (char, &str) {
 pub fn answers(alloc: Global, outcomes: &[Outcome]) -> Result<String, Fail> {
     let mut text = String::new(alloc);
     for outcome in outcomes {
-        let err = outcome.err;
+        let err = outcome.results.err;
         text.push_str(format!(in alloc; "{err}")?.as_str())?;
         for trigger in outcome.triggers.as_slice() {
             let (sign, path) = told(trigger);

@@ -28,7 +28,7 @@ fn apply(
         ≡ count_after_triggers path.now count.old txn.now.header.zxid (effect_of_txn tree.old txn.now).triggers) }
 {
     let outcome = tree.apply(alloc, txn)?;
-    if outcome.err != 0 {
+    if outcome.results.err != 0 {
         return Ok(false);
     }
     count.add(path, &txn.header, outcome.triggers.as_slice());

@@ -15,7 +15,7 @@ use txn_codec::Txn;
 fn apply_lent(alloc: Global, tree: &mut Tree, txns: &[Txn], tally: &mut Tally) -> Result<()> {
     for txn in txns {
         let outcome = tree.apply(alloc, txn)?;
-        tally.count(outcome.err);
+        tally.count(outcome.results.err);
     }
     Ok(())
 }
@@ -32,7 +32,7 @@ fn apply_moved(
             break;
         };
         let outcome = tree.apply(alloc, &txn)?;
-        tally.count(outcome.err);
+        tally.count(outcome.results.err);
     }
     Ok(())
 }

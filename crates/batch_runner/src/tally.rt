@@ -45,7 +45,7 @@ impl Tally {
     /// Counts outcomes.
     pub fn count_all(&mut self, outcomes: &[Outcome]) {
         for outcome in outcomes {
-            self.count(outcome.err);
+            self.count(outcome.results.err);
         }
     }
 

@@ -15,8 +15,8 @@ use Rattle.forwarding.specs.declared.request.WriteKind.TheVariants as writes
 use Rattle.forwarding.specs.Queue.{write_number}
 use Rattle.read_processor.specs.Look.{is_request_path}
 use Rattle.client_frames.specs.declared.call.CallBody.TheVariants.{Forward, Sync, Local}
-use Rattle.client_frames.specs.declared.call.LocalCall.TheVariants.{Unreadable}
-use Rattle.client_frames.specs.Call.{value_if_read, sync_of, sync_of_path, call_body}
+use Rattle.client_frames.specs.declared.call.LocalCall.TheVariants.{InvalidPath, Refused}
+use Rattle.client_frames.specs.Call.{value_if_read, sync_of, sync_of_path, multi_call, call_body}
 use Rattle.client_frames.specs.Laws.{ForwardedByType}
 
 code_step : (b : Bool) (z : ℤ) (j k : RequestKind) (rest : Option RequestKind) → (b ≡ true → z ≡ code_of j)
@@ -43,7 +43,7 @@ no_sync : (found : Option PathAlone) (write : WriteKind) → sync_of found ≡ F
 no_sync None write e = cc
 no_sync (Some r) write e = of_path r.path e
   where
-    tested : (b : Bool) (path : List ℕ) → cond b (Sync path) (Local Unreadable) ≡ Forward write → ⊥
+    tested : (b : Bool) (path : List ℕ) → cond b (Sync path) (Local InvalidPath) ≡ Forward write → ⊥
     tested true path e = cc
     tested false path e = cc
 
@@ -57,28 +57,42 @@ forwarded_same e = cc
 same_number : {z : ℤ} {w write : WriteKind} → z ≡ write_number w → Forward w ≡ Forward write → z ≡ write_number write
 same_number is e = is ∙ ap write_number (forwarded_same e)
 
-number_of_forwarded : (found : Option RequestKind) (z : ℤ) (bytes : List ℕ) (write : WriteKind)
-    → ((k : RequestKind) → found ≡ Some k → z ≡ code_of k) → call_body found bytes ≡ Forward write
+-- A multi that is forwarded is a multi.
+number_of_multi : (later : Bool) (z : ℤ) (write : WriteKind) → z ≡ pos 14
+    → cond later (Forward writes.Multi) (Local Refused) ≡ Forward write → z ≡ write_number write
+number_of_multi true z write is e = same_number is e
+number_of_multi false z write is e = absurd cc
+
+number_of_forwarded : (dialect : Dialect) (found : Option RequestKind) (z : ℤ) (bytes : List ℕ) (write : WriteKind)
+    → ((k : RequestKind) → found ≡ Some k → z ≡ code_of k) → call_body dialect found bytes ≡ Forward write
     → z ≡ write_number write
-number_of_forwarded None z bytes write is e = absurd cc
-number_of_forwarded (Some kinds.Create) z bytes write is e = same_number (is _ refl) e
-number_of_forwarded (Some kinds.Delete) z bytes write is e = same_number (is _ refl) e
-number_of_forwarded (Some (kinds.Read kind)) z bytes write is e = absurd cc
-number_of_forwarded (Some kinds.SetData) z bytes write is e = same_number (is _ refl) e
-number_of_forwarded (Some kinds.SetAcl) z bytes write is e = same_number (is _ refl) e
-number_of_forwarded (Some kinds.Sync) z bytes write is e = absurd (no_sync (value_if_read (path_alone.read bytes)) write e)
-number_of_forwarded (Some kinds.Ping) z bytes write is e = absurd cc
-number_of_forwarded (Some kinds.Check) z bytes write is e = absurd cc
-number_of_forwarded (Some kinds.Multi) z bytes write is e = absurd cc
-number_of_forwarded (Some kinds.Auth) z bytes write is e = absurd cc
-number_of_forwarded (Some kinds.SetWatches) z bytes write is e = absurd cc
-number_of_forwarded (Some kinds.AddWatch) z bytes write is e = absurd cc
-number_of_forwarded (Some kinds.CloseSession) z bytes write is e = same_number (is _ refl) e
-number_of_forwarded (Some kinds.Create2) z bytes write is e = same_number (is _ refl) e
-number_of_forwarded (Some kinds.Reconfig) z bytes write is e = same_number (is _ refl) e
-number_of_forwarded (Some kinds.CreateContainer) z bytes write is e = same_number (is _ refl) e
-number_of_forwarded (Some kinds.DeleteContainer) z bytes write is e = same_number (is _ refl) e
-number_of_forwarded (Some kinds.CreateTtl) z bytes write is e = same_number (is _ refl) e
+number_of_forwarded dialect None z bytes write is e = absurd cc
+number_of_forwarded dialect (Some kinds.Create) z bytes write is e = same_number (is _ refl) e
+number_of_forwarded dialect (Some kinds.Delete) z bytes write is e = same_number (is _ refl) e
+number_of_forwarded dialect (Some (kinds.Read kind)) z bytes write is e = absurd cc
+number_of_forwarded dialect (Some kinds.SetData) z bytes write is e = same_number (is _ refl) e
+number_of_forwarded dialect (Some kinds.SetAcl) z bytes write is e = same_number (is _ refl) e
+number_of_forwarded dialect (Some kinds.Sync) z bytes write is e = absurd (no_sync (value_if_read (path_alone.read bytes)) write e)
+number_of_forwarded dialect (Some kinds.Ping) z bytes write is e = absurd cc
+number_of_forwarded dialect (Some kinds.Check) z bytes write is e = absurd cc
+number_of_forwarded dialect (Some kinds.Multi) z bytes write is e = number_of_multi (reads_of dialect).later_requests z write (is _ refl) e
+number_of_forwarded dialect (Some kinds.Auth) z bytes write is e = absurd cc
+number_of_forwarded dialect (Some kinds.SetWatches) z bytes write is e = absurd cc
+number_of_forwarded dialect (Some kinds.AddWatch) z bytes write is e = absurd cc
+number_of_forwarded dialect (Some kinds.SetWatches2) z bytes write is e = absurd cc
+number_of_forwarded dialect (Some kinds.CheckWatches) z bytes write is e = absurd cc
+number_of_forwarded dialect (Some kinds.RemoveWatches) z bytes write is e = absurd cc
+number_of_forwarded dialect (Some kinds.MultiRead) z bytes write is e = absurd cc
+number_of_forwarded dialect (Some kinds.GetEphemerals) z bytes write is e = absurd cc
+number_of_forwarded dialect (Some kinds.GetAllChildrenNumber) z bytes write is e = absurd cc
+number_of_forwarded dialect (Some kinds.WhoAmI) z bytes write is e = absurd cc
+number_of_forwarded dialect (Some kinds.Sasl) z bytes write is e = absurd cc
+number_of_forwarded dialect (Some kinds.CloseSession) z bytes write is e = same_number (is _ refl) e
+number_of_forwarded dialect (Some kinds.Create2) z bytes write is e = same_number (is _ refl) e
+number_of_forwarded dialect (Some kinds.Reconfig) z bytes write is e = same_number (is _ refl) e
+number_of_forwarded dialect (Some kinds.CreateContainer) z bytes write is e = same_number (is _ refl) e
+number_of_forwarded dialect (Some kinds.DeleteContainer) z bytes write is e = same_number (is _ refl) e
+number_of_forwarded dialect (Some kinds.CreateTtl) z bytes write is e = same_number (is _ refl) e
 
 no_check : (write : WriteKind) → write_number write ≢ pos 13
 no_check writes.Create e = grind arith
@@ -90,13 +104,14 @@ no_check writes.Reconfig e = grind arith
 no_check writes.CreateContainer e = grind arith
 no_check writes.DeleteContainer e = grind arith
 no_check writes.CreateTtl e = grind arith
+no_check writes.Multi e = grind arith
 no_check writes.CloseSession e = cc
 
 pub forwarded_by_type : ForwardedByType
 forwarded_by_type = record {
   same_type = λ dialect frame rest header call write whole read forwards.
       let found = rw whole at read in
-      let body : call_body (request_kind_in dialect header.kind) rest ≡ Forward write = cc (found, forwards) in
-      number_of_forwarded (request_kind_in dialect header.kind) header.kind rest write (code_of_found dialect header.kind) body;
+      let body : call_body dialect (request_kind_in dialect header.kind) rest ≡ Forward write = cc (found, forwards) in
+      number_of_forwarded dialect (request_kind_in dialect header.kind) header.kind rest write (code_of_found dialect header.kind) body;
   no_check = no_check;
 }

@@ -2,29 +2,41 @@
 
 ghost use Rattle.std.specs.Prelude.{◌≡◌, IfOk};
 ghost use Rattle.jute.specs.Reads.{ReadsOwnedWhole};
-ghost use Rattle.client_records.specs.Requests.{path_alone, auth_packet, set_watches, add_watch};
-ghost use Rattle.client_frames.specs.Call.{value_if_read, call_or_unreadable, call_of_read, sync_of, sync_of_path, call_body, call_in};
+ghost use Rattle.client_records.specs.Multi.{multi_read};
+ghost use Rattle.client_records.specs.Requests.{path_alone, auth_packet, set_watches, set_watches2, path_and_kind, add_watch, sasl_request};
+ghost use Rattle.client_frames.specs.Call.{value_if_read, call_or_unreadable, call_of_read, sync_of, sync_of_path, multi_call, call_body, call_in};
 
 use client_records::{
-    AddWatch, AuthPacket, PathAlone, PathAndWatch, ReadKind, RequestKind, SetWatches,
+    AddWatch, AuthPacket, PathAlone, PathAndKind, PathAndWatch, ReadKind, ReadPart, RequestKind,
+    SaslRequest, SetWatches, SetWatches2, read_parts,
 };
 use forwarding::WriteKind;
 use jute::{ReadRecord, Reader, RequestHeader};
 use read_processor::{Request, is_readable_path, may_watch};
 use settings::Dialect;
 use std::alloc::Global;
-use values::{Fault, NoMemory, ReadError, Str};
+use values::{Fault, Listed, NoMemory, ReadError, Str};
 
 /// A request that this server answers from what it has.
 #[derive(Drop)]
 pub enum LocalCall<'a> {
     Read(Request<'a>),
     SetWatches(SetWatches<'a>),
+    SetWatches2(SetWatches2<'a>),
     AddWatch(AddWatch<'a>),
-    /// The body isn't one of the header's type, or is a sync of a path that can't be read.
+    CheckWatches(PathAndKind<'a>),
+    RemoveWatches(PathAndKind<'a>),
+    MultiRead(Listed<ReadPart<'a>>),
+    GetEphemerals(PathAlone<'a>),
+    GetAllChildrenNumber(PathAlone<'a>),
+    WhoAmI,
+    Sasl(SaslRequest<'a>),
+    /// The body isn't one of the header's type.
     Unreadable,
+    /// A sync of a path that no node can have.
+    InvalidPath,
     Ping,
-    /// A check or a multi, which isn't forwarded.
+    /// A check, or a multi where multis aren't forwarded.
     Refused,
     /// The header's type is unknown.
     Unknown,
@@ -84,19 +96,106 @@ fn read_add_watch<'a>(alloc: Global, reader: &mut Reader<'a>) -> Result<LocalCal
     }
 }
 
+fn read_set_watches2<'a>(alloc: Global, reader: &mut Reader<'a>) -> Result<LocalCall<'a>, NoMemory>
+    ensures { IfOk result
+        (λ call. call ≡ call_or_unreadable LocalCall.SetWatches2 (value_if_read (set_watches2.read reader.old))) }
+{
+    match read_or_none(alloc, reader)? {
+        None => Ok(LocalCall::Unreadable),
+        Some(asked) => Ok(LocalCall::SetWatches2(asked)),
+    }
+}
+
+fn read_check_watches<'a>(alloc: Global, reader: &mut Reader<'a>) -> Result<LocalCall<'a>, NoMemory>
+    ensures { IfOk result
+        (λ call. call ≡ call_or_unreadable LocalCall.CheckWatches (value_if_read (path_and_kind.read reader.old))) }
+{
+    match read_or_none(alloc, reader)? {
+        None => Ok(LocalCall::Unreadable),
+        Some(asked) => Ok(LocalCall::CheckWatches(asked)),
+    }
+}
+
+fn read_remove_watches<'a>(
+    alloc: Global,
+    reader: &mut Reader<'a>,
+) -> Result<LocalCall<'a>, NoMemory>
+    ensures { IfOk result
+        (λ call. call ≡ call_or_unreadable LocalCall.RemoveWatches (value_if_read (path_and_kind.read reader.old))) }
+{
+    match read_or_none(alloc, reader)? {
+        None => Ok(LocalCall::Unreadable),
+        Some(asked) => Ok(LocalCall::RemoveWatches(asked)),
+    }
+}
+
+fn read_multi_read<'a>(alloc: Global, reader: &mut Reader<'a>) -> Result<LocalCall<'a>, NoMemory>
+    ensures { IfOk result
+        (λ call. call ≡ call_or_unreadable LocalCall.MultiRead (value_if_read (multi_read reader.old))) }
+{
+    match read_parts(alloc, reader) {
+        Ok(parts) => Ok(LocalCall::MultiRead(parts)),
+        Err(ReadError::NoMemory) => Err(NoMemory),
+        Err(ReadError::Fault(_)) => Ok(LocalCall::Unreadable),
+    }
+}
+
+fn read_get_ephemerals<'a>(
+    alloc: Global,
+    reader: &mut Reader<'a>,
+) -> Result<LocalCall<'a>, NoMemory>
+    ensures { IfOk result
+        (λ call. call ≡ call_or_unreadable LocalCall.GetEphemerals (value_if_read (path_alone.read reader.old))) }
+{
+    match read_or_none(alloc, reader)? {
+        None => Ok(LocalCall::Unreadable),
+        Some(asked) => Ok(LocalCall::GetEphemerals(asked)),
+    }
+}
+
+fn read_get_all_children_number<'a>(
+    alloc: Global,
+    reader: &mut Reader<'a>,
+) -> Result<LocalCall<'a>, NoMemory>
+    ensures { IfOk result
+        (λ call. call ≡ call_or_unreadable LocalCall.GetAllChildrenNumber (value_if_read (path_alone.read reader.old))) }
+{
+    match read_or_none(alloc, reader)? {
+        None => Ok(LocalCall::Unreadable),
+        Some(asked) => Ok(LocalCall::GetAllChildrenNumber(asked)),
+    }
+}
+
+fn read_sasl<'a>(alloc: Global, reader: &mut Reader<'a>) -> Result<LocalCall<'a>, NoMemory>
+    ensures { IfOk result
+        (λ call. call ≡ call_or_unreadable LocalCall.Sasl (value_if_read (sasl_request.read reader.old))) }
+{
+    match read_or_none(alloc, reader)? {
+        None => Ok(LocalCall::Unreadable),
+        Some(asked) => Ok(LocalCall::Sasl(asked)),
+    }
+}
+
 // A path and, where a client may ask for a watch, whether it does.
 fn read_request<'a>(
     alloc: Global,
+    dialect: Dialect,
     kind: ReadKind,
     reader: &mut Reader<'a>,
 ) -> Result<LocalCall<'a>, NoMemory>
-    ensures { IfOk result (λ call. call ≡ call_of_read kind reader.old) }
+    ensures { IfOk result (λ call. call ≡ call_of_read dialect kind reader.old) }
 {
+    let rules = dialect;
     if may_watch(kind) {
         return match read_or_none(alloc, reader)? {
             None => Ok(LocalCall::Unreadable),
             Some(PathAndWatch { path, watch }) => {
-                Ok(LocalCall::Read(Request { kind, path, watch }))
+                Ok(LocalCall::Read(Request {
+                    kind,
+                    path,
+                    watch,
+                    rules,
+                }))
             }
         };
     }
@@ -104,7 +203,12 @@ fn read_request<'a>(
         None => Ok(LocalCall::Unreadable),
         Some(PathAlone { path }) => {
             let watch = false;
-            Ok(LocalCall::Read(Request { kind, path, watch }))
+            Ok(LocalCall::Read(Request {
+                kind,
+                path,
+                watch,
+                rules,
+            }))
         }
     }
 }
@@ -114,10 +218,10 @@ fn sync_of_path<'a>(path: Option<Str<'a>>) -> CallBody<'a>
     ensures { result ≡ sync_of_path path.entry }
 {
     let Some(path) = path else {
-        return CallBody::Local(LocalCall::Unreadable);
+        return CallBody::Local(LocalCall::InvalidPath);
     };
     if !is_readable_path(path.as_str().as_bytes()) {
-        return CallBody::Local(LocalCall::Unreadable);
+        return CallBody::Local(LocalCall::InvalidPath);
     }
     CallBody::Sync(path)
 }
@@ -137,20 +241,41 @@ fn read_auth<'a>(alloc: Global, reader: &mut Reader<'a>) -> Result<CallBody<'a>,
     Ok(CallBody::Auth(read_or_none(alloc, reader)?))
 }
 
+// A multi is forwarded where its answer can be read.
+fn multi_call<'a>(dialect: Dialect) -> CallBody<'a>
+    ensures { result ≡ multi_call dialect }
+{
+    if dialect.reads().later_requests {
+        return CallBody::Forward(WriteKind::Multi);
+    }
+    CallBody::Local(LocalCall::Refused)
+}
+
 fn read_body<'a>(
     alloc: Global,
+    dialect: Dialect,
     kind: Option<RequestKind>,
     reader: &mut Reader<'a>,
 ) -> Result<CallBody<'a>, NoMemory>
-    ensures { IfOk result (λ body. body ≡ call_body kind reader.old) }
+    ensures { IfOk result (λ body. body ≡ call_body dialect kind reader.old) }
 {
     let Some(kind) = kind else {
         return Ok(CallBody::Local(LocalCall::Unknown));
     };
     match kind {
-        RequestKind::Read(kind) => Ok(CallBody::Local(read_request(alloc, kind, reader)?)),
+        RequestKind::Read(kind) => Ok(CallBody::Local(read_request(alloc, dialect, kind, reader)?)),
         RequestKind::SetWatches => Ok(CallBody::Local(read_set_watches(alloc, reader)?)),
+        RequestKind::SetWatches2 => Ok(CallBody::Local(read_set_watches2(alloc, reader)?)),
         RequestKind::AddWatch => Ok(CallBody::Local(read_add_watch(alloc, reader)?)),
+        RequestKind::CheckWatches => Ok(CallBody::Local(read_check_watches(alloc, reader)?)),
+        RequestKind::RemoveWatches => Ok(CallBody::Local(read_remove_watches(alloc, reader)?)),
+        RequestKind::MultiRead => Ok(CallBody::Local(read_multi_read(alloc, reader)?)),
+        RequestKind::GetEphemerals => Ok(CallBody::Local(read_get_ephemerals(alloc, reader)?)),
+        RequestKind::GetAllChildrenNumber => {
+            Ok(CallBody::Local(read_get_all_children_number(alloc, reader)?))
+        }
+        RequestKind::WhoAmI => return Ok(CallBody::Local(LocalCall::WhoAmI)),
+        RequestKind::Sasl => Ok(CallBody::Local(read_sasl(alloc, reader)?)),
         RequestKind::Create => return Ok(CallBody::Forward(WriteKind::Create)),
         RequestKind::Delete => return Ok(CallBody::Forward(WriteKind::Delete)),
         RequestKind::SetData => return Ok(CallBody::Forward(WriteKind::SetData)),
@@ -164,9 +289,8 @@ fn read_body<'a>(
         RequestKind::Sync => read_sync(alloc, reader),
         RequestKind::Auth => read_auth(alloc, reader),
         RequestKind::Ping => return Ok(CallBody::Local(LocalCall::Ping)),
-        RequestKind::Check | RequestKind::Multi => {
-            return Ok(CallBody::Local(LocalCall::Refused));
-        }
+        RequestKind::Check => return Ok(CallBody::Local(LocalCall::Refused)),
+        RequestKind::Multi => return Ok(multi_call(dialect)),
     }
 }
 
@@ -183,7 +307,7 @@ pub fn read_call<'a>(
     let header = RequestHeader::read(alloc, &mut reader)?;
     let xid = header.xid;
     let kind = RequestKind::from_code(dialect, header.kind);
-    let body = read_body(alloc, kind, &mut reader)?;
+    let body = read_body(alloc, dialect, kind, &mut reader)?;
     Ok(Call { xid, body })
 }
 

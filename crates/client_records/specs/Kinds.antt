@@ -7,7 +7,7 @@ use Rattle.settings.specs.declared.dialect.Reads.{Reads}
 use Rattle.client_records.specs.declared.kind.ReadKind.{ReadKind}
 use Rattle.client_records.specs.declared.kind.ReadKind.TheVariants.{Exists, GetData, GetAcl, GetChildren, GetChildren2}
 use Rattle.client_records.specs.declared.kind.RequestKind.{RequestKind}
-use Rattle.client_records.specs.declared.kind.RequestKind.TheVariants.{Create, Delete, Read, SetData, SetAcl, Sync, Ping, Check, Multi, Auth, SetWatches, AddWatch, CloseSession, Create2, Reconfig, CreateContainer, DeleteContainer, CreateTtl}
+use Rattle.client_records.specs.declared.kind.RequestKind.TheVariants.{Create, Delete, Read, SetData, SetAcl, Sync, Ping, Check, Multi, Auth, SetWatches, AddWatch, CloseSession, Create2, Reconfig, CreateContainer, DeleteContainer, CreateTtl, CheckWatches, RemoveWatches, MultiRead, Sasl, GetEphemerals, GetAllChildrenNumber, SetWatches2, WhoAmI}
 
 abbrev pub code_of_read : ReadKind → ℤ
 code_of_read Exists = pos 3
@@ -35,6 +35,14 @@ code_of Reconfig = pos 16
 code_of CreateContainer = pos 19
 code_of DeleteContainer = pos 20
 code_of CreateTtl = pos 21
+code_of CheckWatches = pos 17
+code_of RemoveWatches = pos 18
+code_of MultiRead = pos 22
+code_of Sasl = pos 102
+code_of GetEphemerals = pos 103
+code_of GetAllChildrenNumber = pos 104
+code_of SetWatches2 = pos 105
+code_of WhoAmI = pos 107
 
 -- Those of ZooKeeper 3.4, and addWatch.
 abbrev pub request_kinds : List RequestKind
@@ -44,7 +52,9 @@ request_kinds = Create ∷ Delete ∷ Read Exists ∷ Read GetData ∷ SetData �
 -- Those that only later clients send, where these are read.
 abbrev pub later_request_kinds : Reads → List RequestKind
 later_request_kinds reads =
-    if reads.later_requests then Create2 ∷ Reconfig ∷ CreateContainer ∷ DeleteContainer ∷ CreateTtl ∷ [] else []
+    if reads.later_requests
+    then Create2 ∷ Reconfig ∷ CreateContainer ∷ DeleteContainer ∷ CreateTtl ∷ CheckWatches ∷ RemoveWatches ∷ MultiRead
+    ∷ Sasl ∷ GetEphemerals ∷ GetAllChildrenNumber ∷ SetWatches2 ∷ WhoAmI ∷ [] else []
 
 abbrev pub request_kinds_in : Reads → List RequestKind
 request_kinds_in reads = request_kinds ++ later_request_kinds reads

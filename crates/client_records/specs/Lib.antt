@@ -1,4 +1,5 @@
 pub mod Fields
 pub mod Kinds
+pub mod Multi
 pub mod Requests
 pub mod Responses

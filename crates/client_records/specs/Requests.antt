@@ -5,8 +5,11 @@ use Rattle.client_records.specs.declared.connect.ConnectRequest.{ConnectRequest}
 use Rattle.client_records.specs.declared.request.PathAndWatch.{PathAndWatch}
 use Rattle.client_records.specs.declared.request.PathAlone.{PathAlone}
 use Rattle.client_records.specs.declared.request.SetWatches.{SetWatches}
+use Rattle.client_records.specs.declared.request.SetWatches2.{SetWatches2}
+use Rattle.client_records.specs.declared.request.PathAndKind.{PathAndKind}
 use Rattle.client_records.specs.declared.request.AddWatch.{AddWatch}
 use Rattle.client_records.specs.declared.request.AuthPacket.{AuthPacket}
+use Rattle.client_records.specs.declared.request.SaslRequest.{SaslRequest}
 
 unfoldable pub connect_request : Format ConnectRequest
 connect_request =
@@ -51,6 +54,18 @@ set_watches =
     (λ r. (r.relative_zxid, (r.data_watches, (r.exist_watches, r.child_watches))))
     (pair_of long (pair_of names_format (pair_of names_format names_format)))
 
+unfoldable pub set_watches2 : Format SetWatches2
+set_watches2 =
+    mapped_format
+    (λ v. record { older = v.0; persistent_watches = v.1.0; recursive_watches = v.1.1 })
+    (λ r. (r.older, (r.persistent_watches, r.recursive_watches)))
+    (pair_of set_watches (pair_of names_format names_format))
+
+-- Of CheckWatchesRequest and RemoveWatchesRequest.
+unfoldable pub path_and_kind : Format PathAndKind
+path_and_kind = mapped_format (λ v. record { path = v.0; kind = v.1 }) (λ r. (r.path, r.kind))
+    (pair_of text_format int)
+
 unfoldable pub add_watch : Format AddWatch
 add_watch = mapped_format (λ v. record { path = v.0; mode = v.1 }) (λ r. (r.path, r.mode)) (pair_of text_format int)
 
@@ -60,3 +75,6 @@ auth_packet =
     (λ v. record { kind = v.0; scheme = v.1.0; auth = v.1.1 })
     (λ r. (r.kind, (r.scheme, r.auth)))
     (pair_of int (pair_of text_format buffer))
+
+unfoldable pub sasl_request : Format SaslRequest
+sasl_request = mapped_format (λ v. record { token = v }) (λ r. r.token) buffer

@@ -1,5 +1,5 @@
 -- The records in the frames to a client: the fields of zookeeper.jute in their order, with nothing between.
-use Rattle.jute.specs.Format.{Format, int, long, buffer, text_format, pair_of, mapped_format}
+use Rattle.jute.specs.Format.{Format, int, long, buffer, text_format, text_or_empty, vector_of, or_null, pair_of, mapped_format}
 use Rattle.jute.specs.Records.{stat_format}
 use Rattle.client_records.specs.Fields.{acls_format, names_format}
 use Rattle.client_records.specs.declared.connect.ConnectResponse.{ConnectResponse}
@@ -11,6 +11,11 @@ use Rattle.client_records.specs.declared.response.GetChildren2Response.{GetChild
 use Rattle.client_records.specs.declared.response.GetAclResponse.{GetAclResponse}
 use Rattle.client_records.specs.declared.response.PathResponse.{PathResponse}
 use Rattle.client_records.specs.declared.response.Create2Response.{Create2Response}
+use Rattle.client_records.specs.declared.response.ErrorResponse.{ErrorResponse}
+use Rattle.client_records.specs.declared.response.GetAllChildrenNumberResponse.{GetAllChildrenNumberResponse}
+use Rattle.client_records.specs.declared.response.ClientInfo.{ClientInfo}
+use Rattle.client_records.specs.declared.response.WhoAmIResponse.{WhoAmIResponse}
+use Rattle.client_records.specs.declared.response.SaslResponse.{SaslResponse}
 
 unfoldable pub connect_response : Format ConnectResponse
 connect_response =
@@ -45,6 +50,22 @@ path_response = mapped_format (λ v. record { path = v }) (λ r. r.path) text_fo
 unfoldable pub create2_response : Format Create2Response
 create2_response = mapped_format (λ v. record { path = v.0; stat = v.1 }) (λ r. (r.path, r.stat))
     (pair_of text_format stat_format)
+
+unfoldable pub error_response : Format ErrorResponse
+error_response = mapped_format (λ v. record { err = v }) (λ r. r.err) int
+
+unfoldable pub all_children_number_response : Format GetAllChildrenNumberResponse
+all_children_number_response = mapped_format (λ v. record { total_number = v }) (λ r. r.total_number) int
+
+unfoldable pub client_info : Format ClientInfo
+client_info = mapped_format (λ v. record { auth_scheme = v.0; user = v.1 }) (λ r. (r.auth_scheme, r.user))
+    (pair_of text_or_empty text_or_empty)
+
+unfoldable pub who_am_i_response : Format WhoAmIResponse
+who_am_i_response = mapped_format (λ v. record { client_info = v }) (λ r. r.client_info) (or_null (vector_of client_info))
+
+unfoldable pub sasl_response : Format SaslResponse
+sasl_response = mapped_format (λ v. record { token = v }) (λ r. r.token) buffer
 
 unfoldable pub watcher_event : Format WatcherEvent
 watcher_event =

@@ -3,6 +3,9 @@
 /// No error.
 pub const OK: i32 = 0;
 
+/// The error of a request whose body can't be read, for later clients.
+pub const MARSHALLING_ERROR: i32 = -5;
+
 /// The error of a request with an unknown operation.
 pub const UNIMPLEMENTED: i32 = -6;
 
@@ -14,6 +17,9 @@ pub const SESSION_MOVED: i32 = -118;
 
 /// The error of a request that would change the tree.
 pub const NOT_READ_ONLY: i32 = -119;
+
+/// The error of a request to find or to remove a watch that isn't there.
+pub const NO_WATCHER: i32 = -121;
 
 /// The state in each event: the client is connected.
 pub const SYNC_CONNECTED: i32 = 3;

@@ -61,6 +61,22 @@ pub enum RequestKind {
     DeleteContainer,
     /// Create a node with a time to live.
     CreateTtl,
+    /// Tell whether the client has a watch of a kind at a path.
+    CheckWatches,
+    /// Remove such a watch.
+    RemoveWatches,
+    /// Make several reads at once.
+    MultiRead,
+    /// Show who the client is, by SASL.
+    Sasl,
+    /// List the session's ephemeral nodes.
+    GetEphemerals,
+    /// Count the nodes below a node.
+    GetAllChildrenNumber,
+    /// Set the watches that the client had before, those among them that aren't used up.
+    SetWatches2,
+    /// List the ids of the connection.
+    WhoAmI,
 }
 
 impl RequestKind {
@@ -75,9 +91,17 @@ impl RequestKind {
         match code {
             15 => Some(RequestKind::Create2),
             16 => Some(RequestKind::Reconfig),
+            17 => Some(RequestKind::CheckWatches),
+            18 => Some(RequestKind::RemoveWatches),
             19 => Some(RequestKind::CreateContainer),
             20 => Some(RequestKind::DeleteContainer),
             21 => Some(RequestKind::CreateTtl),
+            22 => Some(RequestKind::MultiRead),
+            102 => Some(RequestKind::Sasl),
+            103 => Some(RequestKind::GetEphemerals),
+            104 => Some(RequestKind::GetAllChildrenNumber),
+            105 => Some(RequestKind::SetWatches2),
+            107 => Some(RequestKind::WhoAmI),
             _ => None,
         }
     }
@@ -134,6 +158,14 @@ impl RequestKind {
             RequestKind::CreateContainer => 19,
             RequestKind::DeleteContainer => 20,
             RequestKind::CreateTtl => 21,
+            RequestKind::CheckWatches => 17,
+            RequestKind::RemoveWatches => 18,
+            RequestKind::MultiRead => 22,
+            RequestKind::Sasl => 102,
+            RequestKind::GetEphemerals => 103,
+            RequestKind::GetAllChildrenNumber => 104,
+            RequestKind::SetWatches2 => 105,
+            RequestKind::WhoAmI => 107,
         }
     }
 }

@@ -1,5 +1,5 @@
-//! The records of a client's frames (zookeeper.jute of ZooKeeper 3.4, and AddWatchRequest and Create2Response of later
-//! releases), which follow the headers of `jute`.
+//! The records of a client's frames (zookeeper.jute of ZooKeeper 3.4, and what the requests of later clients need of
+//! later releases), which follow the headers of `jute`.
 //!
 //! Requests are read, and borrow their texts and data from the frame; responses and events are written from the tree.
 //! `specs/Requests.antt` and `specs/Responses.antt` define each record's format by jute's combinators, and
@@ -19,6 +19,7 @@ mod event;
 mod fields;
 mod kind;
 pub mod law;
+mod multi;
 mod request;
 mod response;
 
@@ -26,8 +27,13 @@ pub use connect::{ConnectRequest, ConnectResponse};
 pub use event::WatcherEvent;
 pub use fields::{Name, put_list, put_names, read_list};
 pub use kind::{ReadKind, RequestKind};
-pub use request::{AddWatch, AuthPacket, PathAlone, PathAndWatch, SetWatches};
+pub use multi::{MultiHeader, ReadPart, read_parts};
+pub use request::{
+    AddWatch, AuthPacket, PathAlone, PathAndKind, PathAndWatch, SaslRequest, SetWatches,
+    SetWatches2,
+};
 pub use response::{
-    Acls, Create2Response, ExistsResponse, GetAclResponse, GetChildren2Response,
-    GetChildrenResponse, GetDataResponse, PathResponse,
+    Acls, ClientInfo, Create2Response, ErrorResponse, ExistsResponse, GetAclResponse,
+    GetAllChildrenNumberResponse, GetChildren2Response, GetChildrenResponse, GetDataResponse,
+    PathResponse, SaslResponse, WhoAmIResponse,
 };

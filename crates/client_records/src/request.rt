@@ -1,6 +1,6 @@
 //! The requests of a client, after the header of the frame.
 
-ghost use Rattle.client_records.specs.Requests.{path_and_watch, path_alone, set_watches, add_watch, auth_packet};
+ghost use Rattle.client_records.specs.Requests.{path_and_watch, path_alone, set_watches, set_watches2, path_and_kind, add_watch, auth_packet, sasl_request};
 
 use crate::fields::{Name, buffer_len, put_buffer, put_list, put_text, read_list, text_len};
 use jute::{ReadRecord, Reader, WriteRecord, items_len, put_bool};
@@ -129,6 +129,91 @@ impl<'a> WriteRecord for SetWatches<'a> {
     }
 }
 
+/// The SetWatches2 of zookeeper.jute since ZooKeeper 3.6: a SetWatches, and the watches that aren't used up.
+#[derive(Drop, PartialEq)]
+pub struct SetWatches2<'a> {
+    /// The last zxid that the client has seen, and its watches that are used up.
+    pub older: SetWatches<'a>,
+    /// Paths of its persistent watches.
+    pub persistent_watches: Listed<Name<'a>>,
+    /// Paths of its recursive watches.
+    pub recursive_watches: Listed<Name<'a>>,
+}
+
+impl<'a> ReadRecord<'a> for SetWatches2<'a> {
+    ghost read_of = { set_watches2.read };
+
+    #[tactic(auto, unfolding(crate::specs::Requests::set_watches2))]
+    fn read(alloc: Global, reader: &mut Reader<'a>) -> Result<SetWatches2<'a>, ReadError> {
+        let mut ahead = reader.ahead();
+        let older = SetWatches::read(alloc, &mut ahead)?;
+        let persistent_watches = read_list(alloc, &mut ahead)?;
+        let recursive_watches = read_list(alloc, &mut ahead)?;
+        *reader = ahead;
+        Ok(SetWatches2 {
+            older,
+            persistent_watches,
+            recursive_watches,
+        })
+    }
+}
+
+impl<'a> WriteRecord for SetWatches2<'a> {
+    ghost format = { set_watches2 };
+
+    #[tactic(auto, unfolding(crate::specs::Requests::set_watches2, jute::specs::Format::number_bytes))]
+    fn written_len(&self) -> usize {
+        8 + self.older.written_len()
+            + items_len(self.persistent_watches.as_slice())
+            + items_len(self.recursive_watches.as_slice())
+    }
+
+    #[tactic(auto, unfolding(crate::specs::Requests::set_watches2), using(values::proofs::Gaining::puts_behind, values::proofs::Gaining::gains_behind, values::proofs::Gaining::gains_first))]
+    fn write(&self, out: &mut Vec<u8>) -> Result<(), NoMemory> {
+        self.older.write(out)?;
+        put_list(out, self.persistent_watches.as_slice())?;
+        put_list(out, self.recursive_watches.as_slice())
+    }
+}
+
+/// The CheckWatchesRequest and the RemoveWatchesRequest of zookeeper.jute since ZooKeeper 3.5, which have the same
+/// fields.
+#[derive(Drop, PartialEq)]
+pub struct PathAndKind<'a> {
+    /// The path of the watch; `None` is null.
+    pub path: Option<Str<'a>>,
+    /// The kind of the watch: 1 of children, 2 of data, 3 any, 4 persistent, 5 recursive.
+    pub kind: i32,
+}
+
+impl<'a> ReadRecord<'a> for PathAndKind<'a> {
+    ghost read_of = { path_and_kind.read };
+
+    #[tactic(auto, unfolding(crate::specs::Requests::path_and_kind))]
+    fn read(_alloc: Global, reader: &mut Reader<'a>) -> Result<PathAndKind<'a>, ReadError> {
+        let mut ahead = reader.ahead();
+        let path = ahead.read_string()?.map(Str::new);
+        let kind = ahead.read_int()?;
+        *reader = ahead;
+        Ok(PathAndKind { path, kind })
+    }
+}
+
+impl<'a> WriteRecord for PathAndKind<'a> {
+    ghost format = { path_and_kind };
+
+    #[tactic(auto, unfolding(crate::specs::Requests::path_and_kind, jute::specs::Format::number_bytes))]
+    fn written_len(&self) -> usize {
+        text_len(&self.path) + 4
+    }
+
+    #[tactic(auto, unfolding(crate::specs::Requests::path_and_kind))]
+    fn write(&self, out: &mut Vec<u8>) -> Result<(), NoMemory> {
+        put_text(out, &self.path)?;
+        self.kind.write(out)
+    }
+}
+
 /// The AddWatchRequest of zookeeper.jute since ZooKeeper 3.6: a watch that isn't used up.
 #[derive(Drop, PartialEq)]
 pub struct AddWatch<'a> {
@@ -204,5 +289,36 @@ impl<'a> WriteRecord for AuthPacket<'a> {
         self.kind.write(out)?;
         put_text(out, &self.scheme)?;
         put_buffer(out, &self.auth)
+    }
+}
+
+/// The GetSASLRequest of zookeeper.jute.
+#[derive(Drop, PartialEq)]
+pub struct SaslRequest<'a> {
+    /// The token of the mechanism; `None` is null.
+    pub token: Option<Bytes<'a>>,
+}
+
+impl<'a> ReadRecord<'a> for SaslRequest<'a> {
+    ghost read_of = { sasl_request.read };
+
+    #[tactic(auto, unfolding(crate::specs::Requests::sasl_request))]
+    fn read(_alloc: Global, reader: &mut Reader<'a>) -> Result<SaslRequest<'a>, ReadError> {
+        let token = reader.read_buffer()?.map(Bytes::new);
+        Ok(SaslRequest { token })
+    }
+}
+
+impl<'a> WriteRecord for SaslRequest<'a> {
+    ghost format = { sasl_request };
+
+    #[tactic(auto, unfolding(crate::specs::Requests::sasl_request))]
+    fn written_len(&self) -> usize {
+        buffer_len(&self.token)
+    }
+
+    #[tactic(auto, unfolding(crate::specs::Requests::sasl_request))]
+    fn write(&self, out: &mut Vec<u8>) -> Result<(), NoMemory> {
+        put_buffer(out, &self.token)
     }
 }

@@ -1,10 +1,10 @@
 //! The responses to a client's requests, after the header of the frame.
 
 ghost use Rattle.std.specs.Prelude.{◌≡◌};
-ghost use Rattle.client_records.specs.Responses.{exists_response, get_data_response, get_children_response, get_children2_response, get_acl_response, path_response, create2_response};
+ghost use Rattle.client_records.specs.Responses.{exists_response, get_data_response, get_children_response, get_children2_response, get_acl_response, path_response, create2_response, error_response, all_children_number_response, who_am_i_response, client_info, sasl_response};
 
 use crate::fields::{Name, buffer_len, put_buffer, put_list, put_text, read_list, text_len};
-use jute::{Acl, ReadRecord, Reader, Stat, WriteRecord, items_len};
+use jute::{Acl, ReadRecord, Reader, Stat, WriteRecord, items_len, put_bytes};
 use std::alloc::Global;
 use std::marker::Model;
 use values::{Bytes, Listed, NoMemory, ReadError, Str};
@@ -235,5 +235,113 @@ impl<'a> WriteRecord for Create2Response<'a> {
     fn write(&self, out: &mut Vec<u8>) -> Result<(), NoMemory> {
         put_text(out, &self.path)?;
         self.stat.write(out)
+    }
+}
+
+/// The ErrorResponse of zookeeper.jute, which answers an addWatch of later clients. It is only written.
+#[derive(Drop)]
+pub struct ErrorResponse {
+    /// The error of the header, again.
+    pub err: i32,
+}
+
+impl WriteRecord for ErrorResponse {
+    ghost format = { error_response };
+
+    #[tactic(auto, unfolding(crate::specs::Responses::error_response, jute::specs::Format::number_bytes))]
+    fn written_len(&self) -> usize {
+        4
+    }
+
+    #[tactic(auto, unfolding(crate::specs::Responses::error_response))]
+    fn write(&self, out: &mut Vec<u8>) -> Result<(), NoMemory> {
+        self.err.write(out)
+    }
+}
+
+/// The GetAllChildrenNumberResponse of zookeeper.jute. It is only written.
+#[derive(Drop)]
+pub struct GetAllChildrenNumberResponse {
+    /// How many nodes are below the node, at any depth.
+    pub total_number: i32,
+}
+
+impl WriteRecord for GetAllChildrenNumberResponse {
+    ghost format = { all_children_number_response };
+
+    #[tactic(auto, unfolding(crate::specs::Responses::all_children_number_response, jute::specs::Format::number_bytes))]
+    fn written_len(&self) -> usize {
+        4
+    }
+
+    #[tactic(auto, unfolding(crate::specs::Responses::all_children_number_response))]
+    fn write(&self, out: &mut Vec<u8>) -> Result<(), NoMemory> {
+        self.total_number.write(out)
+    }
+}
+
+/// The ClientInfo of zookeeper.jute: an id of a connection, as it is shown to its client. It is only written.
+#[derive(Drop)]
+pub struct ClientInfo<'a> {
+    /// The scheme, such as `digest`.
+    pub auth_scheme: Bytes<'a>,
+    /// Whom the id names in the scheme, in `digest` the user.
+    pub user: Bytes<'a>,
+}
+
+impl<'a> WriteRecord for ClientInfo<'a> {
+    ghost format = { client_info };
+
+    #[tactic(auto, unfolding(crate::specs::Responses::client_info, jute::specs::Format::number_bytes))]
+    fn written_len(&self) -> usize {
+        8 + self.auth_scheme.as_slice().len() + self.user.as_slice().len()
+    }
+
+    #[tactic(auto, unfolding(crate::specs::Responses::client_info), using(values::proofs::Gaining::puts_behind, values::proofs::Gaining::gains_behind, values::proofs::Gaining::gains_first))]
+    fn write(&self, out: &mut Vec<u8>) -> Result<(), NoMemory> {
+        put_bytes(out, self.auth_scheme.as_slice())?;
+        put_bytes(out, self.user.as_slice())
+    }
+}
+
+/// The WhoAmIResponse of zookeeper.jute. It is only written.
+#[derive(Drop)]
+pub struct WhoAmIResponse<'a> {
+    /// The ids of the connection.
+    pub client_info: Listed<ClientInfo<'a>>,
+}
+
+impl<'a> WriteRecord for WhoAmIResponse<'a> {
+    ghost format = { who_am_i_response };
+
+    #[tactic(auto, unfolding(crate::specs::Responses::who_am_i_response, jute::specs::Format::number_bytes))]
+    fn written_len(&self) -> usize {
+        4 + items_len(self.client_info.as_slice())
+    }
+
+    #[tactic(auto, unfolding(crate::specs::Responses::who_am_i_response))]
+    fn write(&self, out: &mut Vec<u8>) -> Result<(), NoMemory> {
+        put_list(out, self.client_info.as_slice())
+    }
+}
+
+/// The SetSASLResponse of zookeeper.jute. It is only written.
+#[derive(Drop)]
+pub struct SaslResponse<'a> {
+    /// The token of the mechanism; `None` is null.
+    pub token: Option<Bytes<'a>>,
+}
+
+impl<'a> WriteRecord for SaslResponse<'a> {
+    ghost format = { sasl_response };
+
+    #[tactic(auto, unfolding(crate::specs::Responses::sasl_response))]
+    fn written_len(&self) -> usize {
+        buffer_len(&self.token)
+    }
+
+    #[tactic(auto, unfolding(crate::specs::Responses::sasl_response))]
+    fn write(&self, out: &mut Vec<u8>) -> Result<(), NoMemory> {
+        put_buffer(out, &self.token)
     }
 }

@@ -26,12 +26,20 @@ const CODES: [(RequestKind, i32); 17] = [
 ];
 
 /// The types that only later clients send.
-const LATER: [(RequestKind, i32); 5] = [
+const LATER: [(RequestKind, i32); 13] = [
     (RequestKind::Create2, 15),
     (RequestKind::Reconfig, 16),
     (RequestKind::CreateContainer, 19),
     (RequestKind::DeleteContainer, 20),
     (RequestKind::CreateTtl, 21),
+    (RequestKind::CheckWatches, 17),
+    (RequestKind::RemoveWatches, 18),
+    (RequestKind::MultiRead, 22),
+    (RequestKind::Sasl, 102),
+    (RequestKind::GetEphemerals, 103),
+    (RequestKind::GetAllChildrenNumber, 104),
+    (RequestKind::SetWatches2, 105),
+    (RequestKind::WhoAmI, 107),
 ];
 
 #[test]
@@ -55,7 +63,7 @@ fn later_codes(rt: HostRuntime) {
 /// Codes that aren't a client's request: a notification, codes between the known ones, createSession and error.
 #[test]
 fn other_codes(rt: HostRuntime) {
-    for code in [0, 10, 17, 22, 102, 105, 107, -1, -10, i32::MAX, i32::MIN] {
+    for code in [0, 10, 23, 99, 108, -1, -10, i32::MAX, i32::MIN] {
         assert!(rt; RequestKind::from_code(Dialect::Zk34, code).is_none());
         assert!(rt; RequestKind::from_code(Dialect::Zk38, code).is_none());
     }

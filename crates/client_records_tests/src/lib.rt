@@ -4,6 +4,8 @@
 #[cfg(test)]
 mod kinds;
 #[cfg(test)]
+mod later;
+#[cfg(test)]
 mod lists;
 #[cfg(test)]
 mod requests;

@@ -8,7 +8,7 @@ use client_records::{
 use jute::{Acl, Id, ReadRecord, Reader, Stat, WriteRecord, read_vector};
 use std::alloc::Global;
 use std::test::Fail;
-use values::{Blob, Bytes, Listed, NoMemory, Str, Text};
+use values::{Blob, Bytes, Listed, NoMemory, Str};
 
 /// The Stat of the root of a fresh tree: its one child is a preset node.
 const ROOT: [u8; 68] = *b"\x00\x00\x00\x00\x00\x00\x00\x00\x00\x00\x00\x00\x00\x00\x00\x00\
@@ -167,14 +167,14 @@ fn are_read(alloc: Global, bytes: &[u8], entries: &[Acl]) -> Result<bool, Fail> 
 }
 
 #[test]
-#[tactic(auto, unfolding(client_records::specs::Responses::get_acl_response, jute::specs::Records::stat_format, jute::specs::Owned::acl_format, jute::specs::Owned::id_format))]
+#[tactic(auto, unfolding(client_records::specs::Responses::get_acl_response, jute::specs::Records::stat_format, jute::specs::Owned::acl_in, jute::specs::Owned::id_in))]
 fn get_acl_response(rt: HostRuntime) -> Result<(), Fail> {
     let alloc = rt.alloc();
     let open = Acl {
         perms: 31,
         id: Id {
-            scheme: Text::new(alloc, "world")?,
-            id: Text::new(alloc, "anyone")?,
+            scheme: Blob::new(alloc, b"world")?,
+            id: Blob::new(alloc, b"anyone")?,
         },
     };
     let list = vec![in alloc; open]?;

@@ -14,12 +14,16 @@ use Rattle.client_records.specs.declared.codes.TheConstants.{OK, UNIMPLEMENTED, 
 use Rattle.sessions.specs.Sessions.{session_of_connection, connection_of, ids_of, connect_session, claimed_session, refusal_response, add_auth}
 use Rattle.sessions.specs.declared.request.Connected.{Connected}
 use Rattle.sessions.specs.declared.request.SessionResponse.{SessionResponse}
+use Rattle.watch_manager.specs.Kinds.{without_watch}
+use Rattle.read_processor.specs.declared.watch.SoughtWatch.{SoughtWatch}
 use Rattle.read_processor.specs.declared.watch.Watch.{Watch}
 use Rattle.read_processor.specs.declared.renewal.Renewal.{Renewal}
 use Rattle.read_processor.specs.declared.shown.Look.{Look}
 use Rattle.read_processor.specs.Look.{look_at_state, without_body}
-use Rattle.read_processor.specs.Watch.{watch_of, watch_to_add}
-use Rattle.read_processor.specs.Renewal.{renew_watches}
+use Rattle.read_processor.specs.MultiReads.{look_at_parts}
+use Rattle.read_processor.specs.LaterReads.{look_at_ephemerals, look_below, look_at_ids, look_of_sasl}
+use Rattle.read_processor.specs.Watch.{watch_of, watch_to_add, look_of_added, watch_sought}
+use Rattle.read_processor.specs.Renewal.{renew_watches, renew_all_watches}
 use Rattle.read_processor.specs.Reply.{reply_frame}
 use Rattle.client_frames.specs.declared.call.Call.{Call}
 use Rattle.client_frames.specs.declared.call.CallBody.{CallBody}
@@ -38,7 +42,8 @@ use Rattle.world.specs.Sending.{close_client, send_or_close, send_last, send_rep
 use Rattle.world.specs.Results.{MeetsStep}
 use Rattle.world.proofs.NatMaps.{same_key, insert-same}
 use Rattle.world.proofs.Heard.{heard_open}
-use Rattle.client_service.specs.Serve.{with_watch, with_each_watch, with_watch_if, answer_read, answer_set_watches, answer_add_watch, touched_as, touch_client, send_connect_response, answer_connect, refuse_connect, ask_for_session, close_others, ask_about_session, claim_or_refuse, is_claim, is_new_session, finish_connect, may_connect, is_live, connect_client, call_of, handle_connect, handle_local, with_leaving, leave_if_closing, handle_call, serve_as, serve_by, is_refused_frame, serve_frame, serve_all, frames_of_client}
+use Rattle.client_service.specs.Serve.{with_watch, with_each_watch, with_watch_if, answer_read, answer_set_watches, answer_add_watch, has_sought_watch, look_of_sought, answer_check_watches, answer_remove_watches, touched_as, touch_client, send_connect_response, answer_connect, refuse_connect, ask_for_session, close_others, ask_about_session, claim_or_refuse, is_claim, is_new_session, finish_connect, may_connect, is_live, connect_client, call_of, handle_connect, handle_local, with_leaving, leave_if_closing, handle_call, serve_as, serve_by, is_refused_frame, serve_frame, serve_all, frames_of_client}
+use Rattle.client_service.specs.LaterReads.{answer_sasl, unreadable_error, answer_unreadable, unknown_zxid}
 use Rattle.client_service.specs.Runs.{AskedRead, answer_asked, answer_all_asked, serve_if_heard}
 use Rattle.client_service.specs.Inner.{waiting_bytes, world_with_rest}
 use Rattle.client_service.proofs.Serving.{nothing_found}
@@ -147,26 +152,62 @@ module _ (n : ℕ) where
 
   -- ---- a frame of a session
 
+  renewed : (k : ℕ) (w : World) (xid : ℤ) (o : Option Renewal) → NoneWait w
+      → NoneWait (answer_set_watches k w xid o).after
+  renewed k w xid None none = replied k w xid (without_body BAD_ARGUMENTS) none
+  renewed k w xid (Some r) none =
+      replied k (with_watches w (with_each_watch k w.clients.watches r.watches)) xid (without_body OK) none
+
+  not_read : (k : ℕ) (w : World) (xid : ℤ) → NoneWait w → NoneWait (answer_unreadable k w xid).after
+  not_read k w xid none = replied k w xid (without_body (unreadable_error w.settings.dialect)) none
+
   local_answered : (k : ℕ) (w : World) (xid : ℤ) (call : LocalCall) → NoneWait w
       → NoneWait (handle_local k w xid call).after
   local_answered k w xid (locals.Read r) none =
       let seen = look_at_state w.replica.tree (ids_of w.clients.sessions k) r in
       replied k (with_watches w (with_watch_if k w.clients.watches (watch_of r seen.error))) xid seen none
-  local_answered k w xid (locals.SetWatches r) none = by (renew_watches w.replica.tree r)
-    where
-      by : (o : Option Renewal) → NoneWait (answer_set_watches k w xid o).after
-      by None = replied k w xid (without_body BAD_ARGUMENTS) none
-      by (Some r) = replied k (with_watches w (with_each_watch k w.clients.watches r.watches)) xid (without_body OK) none
-  local_answered k w xid (locals.AddWatch r) none = by (watch_to_add r)
+  local_answered k w xid (locals.SetWatches r) none =
+      renewed k w xid (renew_watches w.settings.dialect w.replica.tree r) none
+  local_answered k w xid (locals.SetWatches2 r) none =
+      renewed k w xid (Some (renew_all_watches w.replica.tree r)) none
+  local_answered k w xid (locals.AddWatch r) none = by (watch_to_add w.settings.dialect r)
     where
       by : (o : Option Watch) → NoneWait (answer_add_watch k w xid o).after
-      by None = replied k w xid (without_body BAD_ARGUMENTS) none
-      by (Some watch) = replied k (with_watches w (with_watch k w.clients.watches watch)) xid (without_body OK) none
-  local_answered k w xid locals.Unreadable none = replied k w xid (without_body BAD_ARGUMENTS) none
+      by None = not_read k w xid none
+      by (Some watch) =
+          replied k (with_watches w (with_watch k w.clients.watches watch)) xid (look_of_added w.settings.dialect) none
+  local_answered k w xid (locals.CheckWatches r) none = by (watch_sought r)
+    where
+      by : (o : Option SoughtWatch) → NoneWait (answer_check_watches k w xid o).after
+      by None = not_read k w xid none
+      by (Some sought) = replied k w xid (look_of_sought (has_sought_watch k w sought)) none
+  local_answered k w xid (locals.RemoveWatches r) none = by (watch_sought r)
+    where
+      by : (o : Option SoughtWatch) → NoneWait (answer_remove_watches k w xid o).after
+      by None = not_read k w xid none
+      by (Some sought) =
+          replied k (with_watches w (without_watch sought.kind k sought.path w.clients.watches)) xid
+          (look_of_sought (has_sought_watch k w sought)) none
+  local_answered k w xid (locals.MultiRead parts) none =
+      replied k w xid (look_at_parts w.replica.tree (ids_of w.clients.sessions k) parts) none
+  local_answered k w xid (locals.GetEphemerals r) none =
+      let session = unwrap_or (session_of_connection w.clients.sessions k) (pos 0) in
+      replied k w xid (look_at_ephemerals w.replica.tree session r.path) none
+  local_answered k w xid (locals.GetAllChildrenNumber r) none =
+      replied k w xid (look_below w.replica.tree (ids_of w.clients.sessions k) r.path) none
+  local_answered k w xid locals.WhoAmI none = replied k w xid (look_at_ids (ids_of w.clients.sessions k)) none
+  local_answered k w xid (locals.Sasl r) none = by r.token
+    where
+      by : (token : Option (List ℕ)) → NoneWait (answer_sasl k w xid token).after
+      by None = closed k w none
+      by (Some token) = sent k w (reply_frame xid (pos 0) look_of_sasl) none
+  local_answered k w xid locals.InvalidPath none = replied k w xid (without_body BAD_ARGUMENTS) none
+  local_answered k w xid locals.Unreadable none = not_read k w xid none
   local_answered k w xid locals.Ping none = replied k w PING_XID (without_body OK) none
   local_answered k w xid locals.Refused none = replied k w xid (without_body NOT_READ_ONLY) none
   local_answered k w xid locals.Unknown none =
-      sent_last k w (reply_frame xid w.replica.learner.last_zxid (without_body UNIMPLEMENTED)) none
+      let zxid = unknown_zxid w.settings.dialect w.replica.learner.last_zxid in
+      sent_last k w (reply_frame xid zxid (without_body UNIMPLEMENTED)) none
 
   left : (k : ℕ) (kind : WriteKind) (w : World) → NoneWait w → NoneWait (leave_if_closing k kind w)
   left k kind w none = by (is_close kind)
@@ -190,7 +231,7 @@ module _ (n : ℕ) where
       → NoneWait (handle_call k session w frame xid body).after
   called k session w frame xid (bodies.Forward kind) none = left k kind w none
   called k session w frame xid (bodies.Sync path) none = none
-  called k session w frame xid (bodies.Auth None) none = replied k w xid (without_body BAD_ARGUMENTS) none
+  called k session w frame xid (bodies.Auth None) none = not_read k w xid none
   called k session w frame xid (bodies.Auth (Some packet)) none =
       let shows = add_auth w.clients.sessions k packet.scheme packet.auth in
       let v = with_sessions w shows.after in

@@ -1,3 +1,4 @@
+pub mod LaterReads
 pub mod Serve
 pub mod Runs
 pub mod Inner

@@ -8,7 +8,7 @@ use Rattle.values.specs.declared.fault.Fault.{Fault}
 use Rattle.jute.specs.Frame.{frame_format}
 use Rattle.jute.specs.Stream.{PhasedStream, Items, Unread, stream_of, place_at, items_in}
 use Rattle.jute.specs.declared.codes.TheConstants.{BAD_ARGUMENTS}
-use Rattle.client_records.specs.declared.codes.TheConstants.{OK, UNIMPLEMENTED, AUTH_FAILED, NOT_READ_ONLY, PING_XID}
+use Rattle.client_records.specs.declared.codes.TheConstants.{OK, UNIMPLEMENTED, AUTH_FAILED, NOT_READ_ONLY, NO_WATCHER, PING_XID}
 use Rattle.client_records.specs.declared.connect.ConnectRequest.{ConnectRequest}
 use Rattle.client_records.specs.declared.request.AuthPacket.{AuthPacket}
 use Rattle.sessions.specs.State.{SessionTable as Sessions}
@@ -17,6 +17,11 @@ use Rattle.sessions.specs.Sessions.{session_of_connection, connection_of, ids_of
 use Rattle.sessions.specs.declared.request.Connected.{Connected}
 use Rattle.sessions.specs.declared.request.SessionResponse.{SessionResponse}
 use Rattle.watch_manager.specs.Watching.{WatchTables, with_lasting_watch}
+use Rattle.watch_manager.specs.Kinds.{has_watch, without_watch}
+use Rattle.watch_manager.specs.declared.kind.WatchKind.{WatchKind}
+use Rattle.watch_manager.specs.declared.kind.WatchKind.TheVariants as kinds
+use Rattle.watch_manager.specs.declared.mode.WatchMode.{WatchMode}
+use Rattle.watch_manager.specs.declared.mode.WatchMode.TheVariants.{Persistent, Recursive}
 use Rattle.watch_manager.specs.Counts.{counts_of}
 use Rattle.watch_manager.specs.declared.counts.WatchCounts.{WatchCounts}
 use Rattle.watch_manager.specs.Summary.{summary}
@@ -27,12 +32,14 @@ use Rattle.four_letter.specs.declared.figures.Figures.{Figures}
 use Rattle.four_letter.specs.declared.figures.WatchRow.{WatchRow}
 use Rattle.four_letter.specs.declared.word.Word.{Word}
 use Rattle.read_processor.specs.declared.request.Request.{Request}
+use Rattle.read_processor.specs.declared.shown.Look.{Look}
+use Rattle.read_processor.specs.declared.watch.SoughtWatch.{SoughtWatch}
 use Rattle.read_processor.specs.declared.watch.Watch.{Watch}
 use Rattle.read_processor.specs.declared.watch.Watch.TheVariants as tables
 use Rattle.read_processor.specs.declared.renewal.Renewal.{Renewal}
 use Rattle.read_processor.specs.Look.{look_at_state, without_body}
-use Rattle.read_processor.specs.Watch.{watch_of, watch_to_add}
-use Rattle.read_processor.specs.Renewal.{renew_watches}
+use Rattle.read_processor.specs.Watch.{watch_of, watch_to_add, look_of_added, watch_sought}
+use Rattle.read_processor.specs.Renewal.{renew_watches, renew_all_watches}
 use Rattle.read_processor.specs.Reply.{reply_frame}
 use Rattle.client_frames.specs.declared.call.Call.{Call}
 use Rattle.client_frames.specs.declared.call.CallBody.{CallBody}
@@ -49,16 +56,24 @@ use Rattle.client_frames.specs.declared.connecting.Connecting.{Connecting}
 use Rattle.world.specs.World.{OpenConnection, Clients, World}
 use Rattle.client_frames.specs.Call.{call_in}
 use Rattle.client_frames.specs.Connect.{connecting_in, session_request_of, answer_to_connect}
+use Rattle.client_service.specs.LaterReads.{answer_multi_read, answer_ephemerals, answer_below, answer_who_am_i, answer_sasl, answer_unreadable, answer_unknown}
 use Rattle.world.specs.Steps.{StepResult, prepend_outputs, no_output, and_then, fold_steps}
 use Rattle.world.specs.Sending.{to_leader, close_client, send_or_close, send_last, send_reply, send_reply_last, with_watches, with_sessions, with_pending, close_client_if_some}
 use Rattle.world.specs.Clients.{idle_connection, is_open, heard_connection, is_heard, with_connection, without_client, notices_to}
 
 -- ---- reads and watches
 
+-- The kind of the lasting watches that aren't of this mode.
+abbrev pub kind_of_other : WatchMode → WatchKind
+kind_of_other Persistent = kinds.Recursive
+kind_of_other Recursive = kinds.Persistent
+
 abbrev pub with_watch : ℕ → WatchTables → Watch → WatchTables
 with_watch n w (tables.Data path) = record w { data_watches = set.insert w.data_watches (path, n) }
 with_watch n w (tables.Child path) = record w { child = set.insert w.child (path, n) }
 with_watch n w (tables.Lasting path mode) = with_lasting_watch n path mode w
+with_watch n w (tables.LastingAlone path mode) =
+    without_watch (kind_of_other mode) n path (with_lasting_watch n path mode w)
 
 abbrev pub with_each_watch : ℕ → WatchTables → List Watch → WatchTables
 with_each_watch n w [] = w
@@ -81,11 +96,30 @@ answer_set_watches n w xid (Some r) =
     prepend_outputs (notices_to n r.events)
     (send_reply n (with_watches w (with_each_watch n w.clients.watches r.watches)) xid (without_body OK))
 
--- The watch to add is set, whether or not there is a node.
+-- The watch to add is set, whether or not there is a node. Without one the request counts as one that can't be read.
 abbrev pub answer_add_watch : ℕ → World → ℤ → Option Watch → StepResult World
-answer_add_watch n w xid None = send_reply n w xid (without_body BAD_ARGUMENTS)
+answer_add_watch n w xid None = answer_unreadable n w xid
 answer_add_watch n w xid (Some watch) =
-    send_reply n (with_watches w (with_watch n w.clients.watches watch)) xid (without_body OK)
+    send_reply n (with_watches w (with_watch n w.clients.watches watch)) xid (look_of_added w.settings.dialect)
+
+abbrev pub has_sought_watch : ℕ → World → SoughtWatch → Bool
+has_sought_watch n w sought = has_watch sought.kind n sought.path w.clients.watches
+
+-- The error says whether the watch is there.
+abbrev pub look_of_sought : Bool → Look
+look_of_sought is_there = without_body (if is_there then OK else NO_WATCHER)
+
+-- A request that names no watch, with a null path or another kind, counts as one that can't be read.
+abbrev pub answer_check_watches : ℕ → World → ℤ → Option SoughtWatch → StepResult World
+answer_check_watches n w xid None = answer_unreadable n w xid
+answer_check_watches n w xid (Some sought) = send_reply n w xid (look_of_sought (has_sought_watch n w sought))
+
+-- The watch is gone then, and the reply says whether it was there.
+abbrev pub answer_remove_watches : ℕ → World → ℤ → Option SoughtWatch → StepResult World
+answer_remove_watches n w xid None = answer_unreadable n w xid
+answer_remove_watches n w xid (Some sought) =
+    send_reply n (with_watches w (without_watch sought.kind n sought.path w.clients.watches)) xid
+    (look_of_sought (has_sought_watch n w sought))
 
 -- ---- sessions
 
@@ -108,7 +142,7 @@ abbrev pub show_id : ℕ → World → ℤ → AuthPacket → StepResult World
 show_id n w xid packet = send_auth_result n w xid (add_auth w.clients.sessions n packet.scheme packet.auth)
 
 abbrev pub answer_auth : ℕ → World → ℤ → Option AuthPacket → StepResult World
-answer_auth n w xid None = send_reply n w xid (without_body BAD_ARGUMENTS)
+answer_auth n w xid None = answer_unreadable n w xid
 answer_auth n w xid (Some packet) = show_id n w xid packet
 
 -- Sends the ConnectResponse; after a refusal the connection is closed.
@@ -228,12 +262,23 @@ handle_connect serving n w (Ok c) =
 -- A request is answered at the present state.
 abbrev pub handle_local : ℕ → World → ℤ → LocalCall → StepResult World
 handle_local n w xid (locals.Read r) = answer_read n w xid r
-handle_local n w xid (locals.SetWatches r) = answer_set_watches n w xid (renew_watches w.replica.tree r)
-handle_local n w xid (locals.AddWatch r) = answer_add_watch n w xid (watch_to_add r)
-handle_local n w xid locals.Unreadable = send_reply n w xid (without_body BAD_ARGUMENTS)
+handle_local n w xid (locals.SetWatches r) =
+    answer_set_watches n w xid (renew_watches w.settings.dialect w.replica.tree r)
+handle_local n w xid (locals.SetWatches2 r) =
+    answer_set_watches n w xid (Some (renew_all_watches w.replica.tree r))
+handle_local n w xid (locals.AddWatch r) = answer_add_watch n w xid (watch_to_add w.settings.dialect r)
+handle_local n w xid (locals.CheckWatches r) = answer_check_watches n w xid (watch_sought r)
+handle_local n w xid (locals.RemoveWatches r) = answer_remove_watches n w xid (watch_sought r)
+handle_local n w xid (locals.MultiRead parts) = answer_multi_read n w xid parts
+handle_local n w xid (locals.GetEphemerals r) = answer_ephemerals n w xid r.path
+handle_local n w xid (locals.GetAllChildrenNumber r) = answer_below n w xid r.path
+handle_local n w xid locals.WhoAmI = answer_who_am_i n w xid
+handle_local n w xid (locals.Sasl r) = answer_sasl n w xid r.token
+handle_local n w xid locals.InvalidPath = send_reply n w xid (without_body BAD_ARGUMENTS)
+handle_local n w xid locals.Unreadable = answer_unreadable n w xid
 handle_local n w xid locals.Ping = send_reply n w PING_XID (without_body OK)
 handle_local n w xid locals.Refused = send_reply n w xid (without_body NOT_READ_ONLY)
-handle_local n w xid locals.Unknown = send_reply_last n w xid (without_body UNIMPLEMENTED)
+handle_local n w xid locals.Unknown = answer_unknown n w xid
 
 -- It is answered in its turn: while an earlier request of the connection waits, the frame is held.
 abbrev pub handle_or_hold : ℕ → World → List ℕ → ℤ → LocalCall → StepResult World

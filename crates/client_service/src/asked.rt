@@ -4,6 +4,7 @@ ghost use Rattle.std.specs.Prelude.{◌≡◌, IfOk};
 
 use client_records::ReadKind;
 use read_processor::Request;
+use settings::Dialect;
 use std::alloc::Global;
 use std::marker::Model;
 use values::{NoMemory, Str, Text};
@@ -16,6 +17,7 @@ pub struct AskedRead {
     kind: ReadKind,
     path: Option<Text>,
     watch: bool,
+    rules: Dialect,
 }
 
 impl Model for AskedRead {
@@ -26,7 +28,7 @@ impl Model for AskedRead {
     ghost view = { λ a. record {
       number = a.number;
       xid = a.xid;
-      request = record { kind = a.kind; path = a.path; watch = a.watch };
+      request = record { kind = a.kind; path = a.path; watch = a.watch; rules = a.rules };
     } };
 }
 
@@ -57,6 +59,7 @@ impl AskedRead {
             kind: request.kind,
             path,
             watch: request.watch,
+            rules: request.rules,
         })
     }
 
@@ -82,6 +85,7 @@ impl AskedRead {
             kind: self.kind,
             path: self.path.as_ref().map(|path| Str::new(path.as_str())),
             watch: self.watch,
+            rules: self.rules,
         }
     }
 }

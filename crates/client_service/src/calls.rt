@@ -6,7 +6,14 @@ ghost use Rattle.world.specs.Sending.{with_pending};
 ghost use Rattle.client_service.specs.Serve.{client_frame_limit, leave_if_closing, handle_local, handle_or_hold, forward_frame, answer_auth, handle_call};
 ghost use Rattle.world.specs.Results.{MakesStep};
 
-use crate::reading::{answer_add_watch, answer_renewal, answer_request};
+use crate::later_reads::{
+    answer_below, answer_ephemerals, answer_multi_read, answer_sasl, answer_unknown,
+    answer_unreadable, answer_who_am_i,
+};
+use crate::reading::{
+    answer_add_watch, answer_check_watches, answer_remove_watches, answer_renewal,
+    answer_renewal_of_all, answer_request,
+};
 use crate::session::show_id;
 use client_frames::{Call, CallBody, LocalCall};
 use client_records::AuthPacket;
@@ -33,11 +40,26 @@ pub fn answer_local(
     match call {
         LocalCall::Read(asked) => answer_request(alloc, number, stage, xid, asked),
         LocalCall::SetWatches(asked) => answer_renewal(alloc, number, stage, xid, asked),
+        LocalCall::SetWatches2(asked) => answer_renewal_of_all(alloc, number, stage, xid, asked),
         LocalCall::AddWatch(asked) => answer_add_watch(alloc, number, stage, xid, asked),
-        LocalCall::Unreadable => stage.answer_without_body(alloc, number, xid, BAD_ARGUMENTS),
+        LocalCall::CheckWatches(asked) => answer_check_watches(alloc, number, stage, xid, asked),
+        LocalCall::RemoveWatches(asked) => answer_remove_watches(alloc, number, stage, xid, asked),
+        LocalCall::MultiRead(parts) => answer_multi_read(
+            alloc,
+            number,
+            stage,
+            xid,
+            parts.as_slice(),
+        ),
+        LocalCall::GetEphemerals(asked) => answer_ephemerals(alloc, number, stage, xid, asked),
+        LocalCall::GetAllChildrenNumber(asked) => answer_below(alloc, number, stage, xid, asked),
+        LocalCall::WhoAmI => answer_who_am_i(alloc, number, stage, xid),
+        LocalCall::Sasl(asked) => answer_sasl(alloc, number, stage, xid, asked),
+        LocalCall::InvalidPath => stage.answer_without_body(alloc, number, xid, BAD_ARGUMENTS),
+        LocalCall::Unreadable => answer_unreadable(alloc, number, stage, xid),
         LocalCall::Ping => stage.answer_without_body(alloc, number, PING_XID, OK),
         LocalCall::Refused => stage.answer_without_body(alloc, number, xid, NOT_READ_ONLY),
-        LocalCall::Unknown => stage.answer_without_body_last(alloc, number, xid, UNIMPLEMENTED),
+        LocalCall::Unknown => answer_unknown(alloc, number, stage, xid),
     }
 }
 
@@ -151,7 +173,7 @@ fn answer_auth(
     ensures { MakesStep result stage.old (λ w. answer_auth number w xid packet.now) stage.new }
 {
     match packet {
-        None => stage.answer_without_body(alloc, number, xid, BAD_ARGUMENTS),
+        None => answer_unreadable(alloc, number, stage, xid),
         Some(packet) => show_id(alloc, number, stage, xid, packet),
     }
 }

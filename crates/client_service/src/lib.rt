@@ -42,6 +42,7 @@ mod asked;
 mod calls;
 mod client;
 mod joining;
+mod later_reads;
 mod law;
 mod reading;
 mod request;

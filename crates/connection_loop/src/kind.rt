@@ -33,8 +33,8 @@ pub enum Gate {
     Open,
 }
 
-fn kind_of_request(kind: Option<RequestKind>, len: usize) -> FrameKind
-    ensures { result ≡ kind_of_request kind len }
+fn kind_of_request(dialect: Dialect, kind: Option<RequestKind>, len: usize) -> FrameKind
+    ensures { result ≡ kind_of_request dialect kind len }
 {
     let Some(kind) = kind else {
         return FrameKind::Local;
@@ -65,12 +65,26 @@ fn kind_of_request(kind: Option<RequestKind>, len: usize) -> FrameKind
             }
         }
         RequestKind::Auth => FrameKind::Light,
-        RequestKind::SetWatches => FrameKind::Heavy,
+        RequestKind::Multi => {
+            if dialect.reads().later_requests {
+                FrameKind::Forwarded
+            } else {
+                FrameKind::Local
+            }
+        }
+        RequestKind::SetWatches
+        | RequestKind::SetWatches2
+        | RequestKind::MultiRead
+        | RequestKind::GetEphemerals
+        | RequestKind::GetAllChildrenNumber => FrameKind::Heavy,
         RequestKind::Read(ReadKind::GetChildren | ReadKind::GetChildren2) => FrameKind::Heavy,
         RequestKind::Read(ReadKind::Exists | ReadKind::GetData | ReadKind::GetAcl)
         | RequestKind::Check
-        | RequestKind::Multi
-        | RequestKind::AddWatch => FrameKind::Local,
+        | RequestKind::AddWatch
+        | RequestKind::CheckWatches
+        | RequestKind::RemoveWatches
+        | RequestKind::WhoAmI
+        | RequestKind::Sasl => FrameKind::Local,
     }
 }
 
@@ -102,5 +116,6 @@ fn request_at(dialect: Dialect, bytes: &[u8]) -> Option<RequestKind>
 pub(crate) fn kind_of_frame(dialect: Dialect, frame: &[u8]) -> FrameKind
     ensures { result ≡ kind_of_frame dialect frame.now }
 {
-    kind_of_request(request_at(dialect, after_int(frame)), frame.len())
+    let kind = request_at(dialect, after_int(frame));
+    kind_of_request(dialect, kind, frame.len())
 }

@@ -1,15 +1,18 @@
 -- The effect of a transaction doesn't depend on the sessions, except for their timeouts.
-use Rattle.std.proofs.Common.{◌≡◌, pos, List, [], ◌∷◌, ◌++◌, take, Bool, true, false, if◌then◌else◌, refl, ap, sym, ◌∙◌}
+use Rattle.std.proofs.Common.{◌≡◌, pos, List, [], ◌∷◌, ◌++◌, take, Bool, true, false, Option, if◌then◌else◌, refl, ap, sym, ◌∙◌}
 use Rattle.std.specs.FinMap as finmap
 use Rattle.ephemerals.specs.Orders.{sorted_names}
 use Rattle.txn_codec.specs.declared.txn.TxnHeader.{TxnHeader}
 use Rattle.txn_codec.specs.declared.txn.Operation.{Operation}
+use Rattle.txn_codec.specs.declared.txn.Operation.TheVariants as op
 use Rattle.txn_codec.specs.declared.txn.Txn.{Txn}
 use Rattle.txn_codec.specs.declared.txn.Body.{Body}
 use Rattle.txn_codec.specs.declared.txn.Body.TheVariants as body
+use Rattle.jute.specs.declared.stat.Stat.{Stat}
+use Rattle.data_tree.specs.declared.outcome.PartResult.{PartResult}
 use Rattle.data_tree.specs.State.{State, SessionTimeouts}
 use Rattle.txn_codec.specs.Row.{has_error}
-use Rattle.data_tree.specs.Meaning.{Change, after_change, after_changes, Effect, effect_of, set_acl_at, TxnEffect, of_effect, of_operation, of_parts, of_failed, first_error, delete_operations, ended_paths, state_without_session, effect_of_txn, effect_of_body}
+use Rattle.data_tree.specs.Meaning.{Change, after_change, after_changes, Effect, effect_of, set_acl_at, TxnEffect, of_effect, of_operation, of_parts, stat_after, of_failed, first_error, delete_operations, ended_paths, state_without_session, effect_of_txn, effect_of_body}
 use Rattle.data_tree.specs.Meaning.Change.{Put, Remove, Own, Disown, Mend}
 use Rattle.data_tree.specs.Refused.{IsPartlyDone, IsLeftByRefused}
 
@@ -39,34 +42,48 @@ apart_effect x effect s =
     ap (λ u. let m : TxnEffect = record { state = u; err = effect.err; parts = []; triggers = effect.triggers } in m)
     (apart_changes x s effect.changes)
 
+abbrev result : Effect → Option Stat → PartResult
+result effect stat = record { err = effect.err; stat = stat }
+
 -- One part before others.
-before : Effect → TxnEffect → TxnEffect
-before effect rest = record {
+before : Effect → Option Stat → TxnEffect → TxnEffect
+before effect stat rest = record {
   state = rest.state;
-  err = first_error (effect.err ∷ rest.parts);
-  parts = effect.err ∷ rest.parts;
+  err = first_error (result effect stat ∷ rest.parts);
+  parts = result effect stat ∷ rest.parts;
   triggers = effect.triggers ++ rest.triggers;
 }
 
 before_is : (h : TxnHeader) (o : Operation) (os : List Operation) (s : State)
-    → of_parts h (o ∷ os) s ≡ before (effect_of h o s.nodes) (of_parts h os (of_operation h o s).state)
+    → of_parts h (o ∷ os) s ≡ before (effect_of h o s.nodes) (stat_after o (of_operation h o s).state)
+    (of_parts h os (of_operation h o s).state)
 unfolding before
 before_is h o os s = refl
 
-apart_before : (x : SessionTimeouts) (effect : Effect) (rest : TxnEffect)
-    → before effect (meant_with x rest) ≡ meant_with x (before effect rest)
+apart_before : (x : SessionTimeouts) (effect : Effect) (stat : Option Stat) (rest : TxnEffect)
+    → before effect stat (meant_with x rest) ≡ meant_with x (before effect stat rest)
 unfolding before
-apart_before x effect rest = refl
+apart_before x effect stat rest = refl
+
+-- Stats are of nodes.
+apart_stat : (x : SessionTimeouts) (o : Operation) (s : State) → stat_after o (with_sessions x s) ≡ stat_after o s
+apart_stat x (op.Create c) s = refl
+apart_stat x (op.Delete path) s = refl
+apart_stat x (op.SetData d) s = refl
+apart_stat x (op.Check c) s = refl
+apart_stat x (op.Error error) s = refl
 
 apart_parts : (x : SessionTimeouts) (h : TxnHeader) (os : List Operation) (s : State)
     → of_parts h os (with_sessions x s) ≡ meant_with x (of_parts h os s)
 apart_parts x h [] s = refl
 apart_parts x h (o ∷ os) s =
     before_is h o os (with_sessions x s)
-    ∙ ap (λ u. before (effect_of h o s.nodes) (of_parts h os u))
+    ∙ ap (λ u. before (effect_of h o s.nodes) (stat_after o u) (of_parts h os u))
     (apart_changes x s (effect_of h o s.nodes).changes)
-    ∙ ap (before (effect_of h o s.nodes)) (apart_parts x h os (of_operation h o s).state)
-    ∙ apart_before x (effect_of h o s.nodes) (of_parts h os (of_operation h o s).state)
+    ∙ (λ i. before (effect_of h o s.nodes) (apart_stat x o (of_operation h o s).state i)
+    (apart_parts x h os (of_operation h o s).state i))
+    ∙ apart_before x (effect_of h o s.nodes) (stat_after o (of_operation h o s).state)
+    (of_parts h os (of_operation h o s).state)
     ∙ ap (meant_with x) (sym (before_is h o os s))
 
 apart_multi : (x : SessionTimeouts) (h : TxnHeader) (os : List Operation) (s : State) (b : Bool)

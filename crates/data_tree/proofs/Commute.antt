@@ -12,11 +12,15 @@ use Rattle.node_map.specs.Updates.{owner_of}
 use Rattle.node_map.specs.declared.node.Node.{Node}
 use Rattle.data_tree.specs.State.{State, Nodes}
 use Rattle.txn_codec.specs.Row.{has_error, footprint_of_operation, footprint_of_parts, session_change}
-use Rattle.data_tree.specs.Meaning.{Effect, effect_of, create_under, create_taken, create_new, Change, mended_list, delete_missing, delete_at, set_data_at, set_acl_at, TxnEffect, answer_of, of_effect, of_operation, of_set_acl, of_parts, of_failed, first_error, effect_of_txn, effect_of_body, after_changes, of_create_session, of_close_session, delete_operations, ended_paths, state_without_session}
+use Rattle.data_tree.specs.Meaning.{Effect, effect_of, create_under, create_taken, create_new, Change, mended_list, delete_missing, delete_at, set_data_at, set_acl_at, TxnEffect, answer_of, of_effect, of_operation, of_set_acl, of_parts, stat_after, of_failed, first_error, effect_of_txn, effect_of_body, after_changes, of_create_session, of_close_session, delete_operations, ended_paths, state_without_session}
 use Rattle.data_tree.specs.Meaning.Change.{Put, Own, Disown}
 use Rattle.data_tree.specs.Footprint.{has_path, IsSameCell, AreSameAt, AreApart, footprint, KeepsToCells}
 use Rattle.data_tree.specs.Commuting.{IsConfined, IsConfinedTo, TransactionsKeepToTheirFootprints, TransactionsSetTheirTimeouts, DisjointTransactionsCommute, with_timeout_of, with_timeouts}
 use Rattle.data_tree.specs.declared.outcome.Outcome.{Outcome}
+use Rattle.data_tree.specs.declared.outcome.PartResult.{PartResult}
+use Rattle.jute.specs.declared.stat.Stat.{Stat}
+use Rattle.node_map.specs.Stats.{stat_of}
+use Rattle.std.specs.Option.{option_map}
 use Rattle.txn_codec.specs.declared.txn.TxnHeader.{TxnHeader}
 use Rattle.txn_codec.specs.declared.txn.Create.{Create}
 use Rattle.txn_codec.specs.declared.txn.SetData.{SetData}
@@ -127,7 +131,7 @@ effect-confined ps effect within local = record {
         (local s t same) (after_changes-local s t (effect s).changes q (same q at));
   };
   answer =
-      λ s t same. ap (λ e. let a : Outcome = record { err = e.err; parts = []; triggers = e.triggers } in a)
+      λ s t same. ap (λ e. let a : Outcome = record { results = record { err = e.err; parts = [] }; triggers = e.triggers } in a)
       (local s t same);
 }
 
@@ -216,16 +220,32 @@ wider ps qs f sub c s t same q at = by (has_path ps q) refl
     by true e = c.local s t (λ p h. same p (sub p h)) q e
     by false e = same_cell_trans (c.frame s q e) (same_cell_trans (same q at) (same_cell_sym (c.frame t q e)))
 
-joined : Outcome → Outcome → Outcome
-joined first rest = record {
-  err = first_error (first.err ∷ rest.parts);
-  parts = first.err ∷ rest.parts;
+-- A part reads its node again for its Stat.
+stat-local : (o : Operation) (s t : State) → AreSameAt (footprint_of_operation o) s t → stat_after o s ≡ stat_after o t
+stat-local (op.Create c) s t same =
+    ap (λ (node : Option Node). if c.asks_stat then option_map stat_of node else None)
+    (same c.path (touches_first c.path (parent_of c.path ∷ []))).node
+stat-local (op.Delete p) s t same = refl
+stat-local (op.SetData b) s t same = ap (option_map stat_of) (same b.path (touches_first b.path [])).node
+stat-local (op.Check p) s t same = refl
+stat-local (op.Error e) s t same = refl
+
+abbrev result : Outcome → Option Stat → PartResult
+result first stat = record { err = first.results.err; stat = stat }
+
+joined : Outcome → Option Stat → Outcome → Outcome
+joined first stat rest = record {
+  results = record {
+    err = first_error (result first stat ∷ rest.results.parts);
+    parts = result first stat ∷ rest.results.parts;
+  };
   triggers = first.triggers ++ rest.triggers;
 }
 
 joined_is : (h : TxnHeader) (o : Operation) (os : List Operation) (s : State)
     → answer_of (of_parts h (o ∷ os) s)
-    ≡ joined (answer_of (of_operation h o s)) (answer_of (of_parts h os (of_operation h o s).state))
+    ≡ joined (answer_of (of_operation h o s)) (stat_after o (of_operation h o s).state)
+    (answer_of (of_parts h os (of_operation h o s).state))
 unfolding joined
 joined_is h o os s = refl
 
@@ -260,6 +280,8 @@ parts-confined h (o ∷ os) =
       };
       answer = λ s t same. joined_is h o os s
           ∙ (λ i. joined (first.answer s t (λ q at. same q (in_first q at)) i)
+          (stat-local o (of_operation h o s).state (of_operation h o t).state
+          (first.state.local s t (λ q at. same q (in_first q at))) i)
           (rest.answer (of_operation h o s).state (of_operation h o t).state
           (λ q at. after_first s t same q (in_rest q at)) i))
           ∙ sym (joined_is h o os t);

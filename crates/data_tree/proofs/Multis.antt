@@ -1,5 +1,5 @@
 -- One more part of a multi, and one more delete of a closeSession.
-use Rattle.std.proofs.Common.{◌≡◌, ℤ, ℕ, ◌+◌, ◌<◌, ◌≤◌, pos, List, [], ◌∷◌, ◌++◌, true, false, Option, Some, None, is_some, map, ◌||◌, length, take, drop, get_or, refl, sym, ap, ◌∙◌, if◌then◌else◌, append_assoc, add-one, drop-cons}
+use Rattle.std.proofs.Common.{◌≡◌, ℤ, ℕ, ◌+◌, ◌<◌, ◌≤◌, pos, List, [], ◌∷◌, ◌++◌, true, false, Option, Some, None, is_some, map, length, take, drop, get_or, refl, sym, ap, ◌∙◌, if◌then◌else◌, append_assoc, add-one, drop-cons}
 use Rattle.std.proofs.Math.Seq.{take-suc}
 use Rattle.std.specs.Option.{unwrap_or}
 use Rattle.std.specs.Ordering.{int_eq}
@@ -10,19 +10,21 @@ use Rattle.txn_codec.specs.declared.txn.Operation.TheVariants as op
 use Rattle.data_tree.specs.State.{State}
 use Rattle.jute.specs.declared.codes.TheConstants.{RUNTIME_INCONSISTENCY}
 use Rattle.txn_codec.specs.Row.{error_of}
-use Rattle.data_tree.specs.Meaning.{of_parts, of_operation, delete_operations, first_error, errors_of_failed, error_in_failed, answer_of}
+use Rattle.data_tree.specs.Meaning.{of_parts, of_operation, delete_operations, first_error, without_stat, stat_after, results_of_failed, result_in_failed, answer_of}
 use Rattle.data_tree.specs.Refused.{IsAfterFront}
 use Rattle.data_tree.specs.declared.outcome.Trigger.{Trigger}
 use Rattle.data_tree.specs.declared.outcome.Outcome.{Outcome}
+use Rattle.data_tree.specs.declared.outcome.PartResult.{PartResult}
+use Rattle.jute.specs.declared.stat.Stat.{Stat}
 use Rattle.std.proofs.Math.ListN.{drop_of_length-le}
 use Rattle.data_tree.proofs.Lists.{nothing_more}
 
 -- What was done so far and what is to come give the whole.
-pub record IsMidway (header : TxnHeader) (parts : List Operation) (i : ℕ) (old now : State) (errors : List ℤ)
+pub record IsMidway (header : TxnHeader) (parts : List Operation) (i : ℕ) (old now : State) (results : List PartResult)
     (triggers : List Trigger) : Type 0 where
   pub front : now ≡ (of_parts header (take i parts) old).state
   pub state : (of_parts header (drop i parts) now).state ≡ (of_parts header parts old).state
-  pub errors_are : errors ++ (of_parts header (drop i parts) now).parts ≡ (of_parts header parts old).parts
+  pub results_are : results ++ (of_parts header (drop i parts) now).parts ≡ (of_parts header parts old).parts
   pub triggers_are : triggers ++ (of_parts header (drop i parts) now).triggers ≡ (of_parts header parts old).triggers
 
 -- The same for deletes, of which these are left.
@@ -47,13 +49,17 @@ front_is : {A : Type 0} (xs : List A) (i : ℕ) (x : A) → i < length xs → x 
     → take (i + 1) xs ≡ take i xs ++ x ∷ []
 front_is xs i x lt is = ap (λ k. take k xs) (add-one i) ∙ take-suc xs i x lt ∙ (λ j. take i xs ++ sym is j ∷ [])
 
-pub midway_step : (h : TxnHeader) (ps : List Operation) (i : ℕ) (old now new : State) (errors errors' : List ℤ)
-    (error : ℤ) (triggers triggers' : List Trigger) (x : Operation)
-    → i < length ps → x ≡ get_or ps i x → IsMidway h ps i old now errors triggers
-    → new ≡ (of_operation h x now).state → error ≡ (of_operation h x now).err → errors' ≡ errors ++ error ∷ []
+abbrev pub part_result : ℤ → Option Stat → PartResult
+part_result err stat = record { err = err; stat = stat }
+
+pub midway_step : (h : TxnHeader) (ps : List Operation) (i : ℕ) (old now new : State)
+    (results results' : List PartResult) (err : ℤ) (stat : Option Stat) (triggers triggers' : List Trigger) (x : Operation)
+    → i < length ps → x ≡ get_or ps i x → IsMidway h ps i old now results triggers
+    → new ≡ (of_operation h x now).state → err ≡ (of_operation h x now).err → stat ≡ stat_after x new
+    → results' ≡ results ++ part_result err stat ∷ []
     → triggers' ≡ triggers ++ (of_operation h x now).triggers
-    → IsMidway h ps (i + 1) old new errors' triggers'
-midway_step h ps i old now new errors errors' error triggers triggers' x lt is m n e es ts =
+    → IsMidway h ps (i + 1) old new results' triggers'
+midway_step h ps i old now new results results' err stat triggers triggers' x lt is m n e st rs ts =
     let split : drop i ps ≡ x ∷ drop (i + 1) ps = left_is ps i x lt is in
     record {
       front = n
@@ -63,12 +69,14 @@ midway_step h ps i old now new errors errors' error triggers triggers' x lt is m
       state = ap (λ s. (of_parts h (drop (i + 1) ps) s).state) n
           ∙ ap (λ xs. (of_parts h xs now).state) (sym split)
           ∙ m.state;
-      errors_are =
-          (λ j. (es ∙ ap (λ z. errors ++ z ∷ []) e) j ++ (of_parts h (drop (i + 1) ps) (n j)).parts)
-          ∙ append_assoc errors ((of_operation h x now).err ∷ [])
+      results_are =
+          (λ j. (rs ∙ (λ k. results ++ part_result (e k) ((st ∙ ap (stat_after x) n) k) ∷ [])) j
+          ++ (of_parts h (drop (i + 1) ps) (n j)).parts)
+          ∙ append_assoc results
+          (part_result (of_operation h x now).err (stat_after x (of_operation h x now).state) ∷ [])
           (of_parts h (drop (i + 1) ps) (of_operation h x now).state).parts
-          ∙ ap (λ xs. errors ++ (of_parts h xs now).parts) (sym split)
-          ∙ m.errors_are;
+          ∙ ap (λ xs. results ++ (of_parts h xs now).parts) (sym split)
+          ∙ m.results_are;
       triggers_are =
           (λ j. ts j ++ (of_parts h (drop (i + 1) ps) (n j)).triggers)
           ∙ append_assoc triggers (of_operation h x now).triggers
@@ -91,26 +99,23 @@ pub error-of_parts : (h : TxnHeader) (ps : List Operation) (s : State)
 error-of_parts h [] s = refl
 error-of_parts h (p ∷ ps) s = refl
 
+abbrev pub outcome : ℤ → List PartResult → List Trigger → Outcome
+outcome err parts triggers = record { results = record { err = err; parts = parts }; triggers = triggers }
+
 -- All parts are done.
-pub midway_done : (h : TxnHeader) (ps : List Operation) (i : ℕ) (old now : State) (errors : List ℤ)
-    (triggers : List Trigger) → length ps ≤ i → IsMidway h ps i old now errors triggers
-    → (let o : Outcome = record { err = first_error errors; parts = errors; triggers = triggers } in o)
-    ≡ answer_of (of_parts h ps old)
-midway_done h ps i old now errors triggers past m =
-    let errors_are : errors ≡ (of_parts h ps old).parts =
-    nothing_more errors (of_parts h (drop i ps) now).parts
+pub midway_done : (h : TxnHeader) (ps : List Operation) (i : ℕ) (old now : State) (results : List PartResult)
+    (triggers : List Trigger) → length ps ≤ i → IsMidway h ps i old now results triggers
+    → outcome (first_error results) results triggers ≡ answer_of (of_parts h ps old)
+midway_done h ps i old now results triggers past m =
+    let results_are : results ≡ (of_parts h ps old).parts =
+    nothing_more results (of_parts h (drop i ps) now).parts
     (ap (λ xs. (of_parts h xs now).parts) (drop_of_length-le ps past))
-    ∙ m.errors_are in
+    ∙ m.results_are in
     let triggers_are : triggers ≡ (of_parts h ps old).triggers =
     nothing_more triggers (of_parts h (drop i ps) now).triggers
     (ap (λ xs. (of_parts h xs now).triggers) (drop_of_length-le ps past))
     ∙ m.triggers_are in
-    λ i. record {
-      err = (ap first_error errors_are ∙ sym (error-of_parts h ps old)) i;
-      parts = errors_are i;
-      triggers =
-          triggers_are i;
-    }
+    λ i. outcome ((ap first_error results_are ∙ sym (error-of_parts h ps old)) i) (results_are i) (triggers_are i)
 
 pub closing_step : (h : TxnHeader) (paths left left' : Names) (path : Bytes) (old now new : State)
     (before triggers triggers' : List Trigger)
@@ -130,54 +135,56 @@ closing_step h paths left left' path old now new before triggers triggers' first
       ∙ m.triggers_are;
 }
 
--- ---- the errors of parts
+-- ---- what comes of parts
 
--- The errors of the parts after one, where this is the error of each part that isn't an error part.
-abbrev pub errors_behind : ℤ → List Operation → List ℤ
-errors_behind otherwise [] = []
-errors_behind otherwise (o ∷ os) =
-    unwrap_or (error_of o) otherwise
-    ∷ errors_behind (if is_some (error_of o) then RUNTIME_INCONSISTENCY else otherwise) os
+-- What comes of the parts after one, where this is the error of each part that isn't an error part.
+abbrev pub results_behind : ℤ → List Operation → List PartResult
+results_behind otherwise [] = []
+results_behind otherwise (o ∷ os) =
+    without_stat (unwrap_or (error_of o) otherwise)
+    ∷ results_behind (if is_some (error_of o) then RUNTIME_INCONSISTENCY else otherwise) os
 
-all_failed : (os : List Operation) → errors_behind RUNTIME_INCONSISTENCY os ≡ map error_in_failed os
+all_failed : (os : List Operation) → results_behind RUNTIME_INCONSISTENCY os ≡ map result_in_failed os
 all_failed [] = refl
 all_failed (o ∷ os) = by (all_failed os) (error_of o)
   where
-    by : errors_behind RUNTIME_INCONSISTENCY os ≡ map error_in_failed os → (e : Option ℤ)
-        → unwrap_or e RUNTIME_INCONSISTENCY
-        ∷ errors_behind (if is_some e then RUNTIME_INCONSISTENCY else RUNTIME_INCONSISTENCY) os
-        ≡ unwrap_or e RUNTIME_INCONSISTENCY ∷ map error_in_failed os
-    by rest None = ap (λ es. RUNTIME_INCONSISTENCY ∷ es) rest
-    by rest (Some e) = ap (λ es. e ∷ es) rest
+    by : results_behind RUNTIME_INCONSISTENCY os ≡ map result_in_failed os → (e : Option ℤ)
+        → without_stat (unwrap_or e RUNTIME_INCONSISTENCY)
+        ∷ results_behind (if is_some e then RUNTIME_INCONSISTENCY else RUNTIME_INCONSISTENCY) os
+        ≡ without_stat (unwrap_or e RUNTIME_INCONSISTENCY) ∷ map result_in_failed os
+    by rest None = ap (λ rs. without_stat RUNTIME_INCONSISTENCY ∷ rs) rest
+    by rest (Some e) = ap (λ rs. without_stat e ∷ rs) rest
 
--- From the start on these are the errors of a failed multi.
-pub errors_from_start : (os : List Operation) → errors_behind (pos 0) os ≡ errors_of_failed os
-errors_from_start [] = refl
-errors_from_start (o ∷ os) = by (errors_from_start os) (error_of o)
+-- From the start on these are the results of a failed multi.
+pub results_from_start : (os : List Operation) → results_behind (pos 0) os ≡ results_of_failed os
+results_from_start [] = refl
+results_from_start (o ∷ os) = by (results_from_start os) (error_of o)
   where
-    by : errors_behind (pos 0) os ≡ errors_of_failed os → (e : Option ℤ)
-        → unwrap_or e (pos 0) ∷ errors_behind (if is_some e then RUNTIME_INCONSISTENCY else pos 0) os
-        ≡ (if is_some e then unwrap_or e RUNTIME_INCONSISTENCY ∷ map error_in_failed os else pos 0
-        ∷ errors_of_failed os)
-    by rest None = ap (λ es. pos 0 ∷ es) rest
-    by rest (Some e) = ap (λ es. e ∷ es) (all_failed os)
+    by : results_behind (pos 0) os ≡ results_of_failed os → (e : Option ℤ)
+        → without_stat (unwrap_or e (pos 0)) ∷ results_behind (if is_some e then RUNTIME_INCONSISTENCY else pos 0) os
+        ≡ (if is_some e then without_stat (unwrap_or e RUNTIME_INCONSISTENCY) ∷ map result_in_failed os
+        else without_stat (pos 0) ∷ results_of_failed os)
+    by rest None = ap (λ rs. without_stat (pos 0) ∷ rs) rest
+    by rest (Some e) = ap (λ rs. without_stat e ∷ rs) (all_failed os)
 
 pub failed_step : (ps rest : List Operation) (x : Operation) (otherwise : ℤ) (found : Option ℤ)
-    (errors errors' all : List ℤ) → ps ≡ x ∷ rest → found ≡ error_of x
-    → errors ++ errors_behind otherwise ps ≡ all → errors' ≡ errors ++ unwrap_or found otherwise ∷ []
-    → errors' ++ errors_behind (if is_some found then RUNTIME_INCONSISTENCY else otherwise) rest ≡ all
-failed_step ps rest x otherwise found errors errors' all is e m es =
-    (λ j. es j ++ errors_behind (if is_some (e j) then RUNTIME_INCONSISTENCY else otherwise) rest)
-    ∙ ap (λ (o : Option ℤ). (errors ++ unwrap_or o otherwise ∷ [])
-    ++ errors_behind (if is_some (error_of x) then RUNTIME_INCONSISTENCY else otherwise) rest) e
-    ∙ append_assoc errors (unwrap_or (error_of x) otherwise ∷ [])
-    (errors_behind (if is_some (error_of x) then RUNTIME_INCONSISTENCY else otherwise) rest)
-    ∙ ap (λ xs. errors ++ errors_behind otherwise xs) (sym is)
+    (results results' all : List PartResult) → ps ≡ x ∷ rest → found ≡ error_of x
+    → results ++ results_behind otherwise ps ≡ all
+    → results' ≡ results ++ without_stat (unwrap_or found otherwise) ∷ []
+    → results' ++ results_behind (if is_some found then RUNTIME_INCONSISTENCY else otherwise) rest ≡ all
+failed_step ps rest x otherwise found results results' all is e m rs =
+    (λ j. rs j ++ results_behind (if is_some (e j) then RUNTIME_INCONSISTENCY else otherwise) rest)
+    ∙ ap (λ (o : Option ℤ). (results ++ without_stat (unwrap_or o otherwise) ∷ [])
+    ++ results_behind (if is_some (error_of x) then RUNTIME_INCONSISTENCY else otherwise) rest) e
+    ∙ append_assoc results (without_stat (unwrap_or (error_of x) otherwise) ∷ [])
+    (results_behind (if is_some (error_of x) then RUNTIME_INCONSISTENCY else otherwise) rest)
+    ∙ ap (λ xs. results ++ results_behind otherwise xs) (sym is)
     ∙ m
 
-pub first_error-found : (es rest : List ℤ) (e : ℤ) → es ≡ e ∷ rest → int_eq e (pos 0) ≡ false → first_error es ≡ e
-first_error-found es rest e is found = ap first_error is ∙ ap (λ b. if b then first_error rest else e) found
+pub first_error-found : (rs rest : List PartResult) (r : PartResult) → rs ≡ r ∷ rest → int_eq r.err (pos 0) ≡ false
+    → first_error rs ≡ r.err
+first_error-found rs rest r is found = ap first_error is ∙ ap (λ b. if b then first_error rest else r.err) found
 
-pub first_error-passed : (es rest : List ℤ) (e : ℤ) → es ≡ e ∷ rest → int_eq e (pos 0) ≡ true
-    → first_error es ≡ first_error rest
-first_error-passed es rest e is passed = ap first_error is ∙ ap (λ b. if b then first_error rest else e) passed
+pub first_error-passed : (rs rest : List PartResult) (r : PartResult) → rs ≡ r ∷ rest → int_eq r.err (pos 0) ≡ true
+    → first_error rs ≡ first_error rest
+first_error-passed rs rest r is passed = ap first_error is ∙ ap (λ b. if b then first_error rest else r.err) passed

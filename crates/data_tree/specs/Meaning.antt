@@ -1,6 +1,6 @@
 -- The effect of a transaction on the state, and its outcome (ZooKeeper Programmer's Guide).
 use Rattle.std.specs.Prelude.{ℤ, pos, List, [], ◌∷◌, ◌++◌, if◌then◌else◌, Option, Some, None, is_some, map, int_lt, codes}
-use Rattle.std.specs.Option.{unwrap_or}
+use Rattle.std.specs.Option.{unwrap_or, option_map}
 use Rattle.std.specs.Ordering.{int_eq}
 use Rattle.std.specs.FinMap as finmap
 use Rattle.std.specs.FinSet as set
@@ -8,6 +8,7 @@ use Rattle.ephemerals.specs.Orders.{Bytes, Names, sorted_names}
 use Rattle.ephemerals.specs.Pairs.{paths_of_session, without_session}
 use Rattle.jute.specs.declared.codes.TheConstants.{NO_NODE, NODE_EXISTS, RUNTIME_INCONSISTENCY}
 use Rattle.jute.specs.declared.owned.Acl.{Acl}
+use Rattle.jute.specs.declared.stat.Stat.{Stat}
 use Rattle.settings.specs.declared.dialect.Dialect.{Dialect}
 use Rattle.settings.specs.declared.dialect.Dialect.TheVariants.{Zk34, Zk38}
 use Rattle.paths_and_acls.specs.Acls.{acl_or_open}
@@ -24,9 +25,11 @@ use Rattle.txn_codec.specs.declared.txn.Body.{Body}
 use Rattle.txn_codec.specs.declared.txn.Body.TheVariants as body
 use Rattle.node_map.specs.declared.node.Node.{Node}
 use Rattle.node_map.specs.Updates.{next_cversion, owner_of, new_node, with_data, with_acl, with_missing_acl, preset_node, update_node}
+use Rattle.node_map.specs.Stats.{stat_of}
 use Rattle.node_map.specs.Children.{stat_with_child, without_child, without_missing_child}
 use Rattle.data_tree.specs.State.{State, Nodes}
 use Rattle.data_tree.specs.declared.outcome.Outcome.{Outcome}
+use Rattle.data_tree.specs.declared.outcome.PartResult.{PartResult}
 use Rattle.data_tree.specs.declared.outcome.Trigger.{Trigger}
 use Rattle.data_tree.specs.declared.outcome.Trigger.TheVariants.{Created, Deleted, DataChanged, ChildrenChanged}
 
@@ -164,11 +167,11 @@ abbrev pub set_acl_at : SetAcl → Option Node → Effect
 set_acl_at body None = no_change NO_NODE
 set_acl_at body (Some node) = record { err = pos 0; changes = Put body.path (with_acl body node) ∷ []; triggers = [] }
 
--- The state after a transaction, its error, the errors of its parts, and its triggers.
+-- The state after a transaction, its error, what comes of its parts, and its triggers.
 pub record TxnEffect : Type 0 where
   pub state : State
   pub err : ℤ
-  pub parts : List ℤ
+  pub parts : List PartResult
   pub triggers : List Trigger
 
 abbrev pub of_effect : Effect → State → TxnEffect
@@ -182,30 +185,43 @@ abbrev pub of_set_acl : SetAcl → State → TxnEffect
 of_set_acl body s = of_effect (set_acl_at body (finmap.get s.nodes body.path)) s
 
 -- The first error that isn't 0, or 0 if there is none.
-abbrev pub first_error : List ℤ → ℤ
+abbrev pub first_error : List PartResult → ℤ
 first_error [] = pos 0
-first_error (e ∷ es) = if int_eq e (pos 0) then first_error es else e
+first_error (r ∷ rs) = if int_eq r.err (pos 0) then first_error rs else r.err
+
+abbrev pub without_stat : ℤ → PartResult
+without_stat error = record { err = error; stat = None }
 
 -- An error part has its own error, any other part -2.
-abbrev pub error_in_failed : Operation → ℤ
-error_in_failed o = unwrap_or (error_of o) RUNTIME_INCONSISTENCY
+abbrev pub result_in_failed : Operation → PartResult
+result_in_failed o = without_stat (unwrap_or (error_of o) RUNTIME_INCONSISTENCY)
 
--- The errors of a multi that has an error part: 0 before the first one.
-abbrev pub errors_of_failed : List Operation → List ℤ
-errors_of_failed [] = []
-errors_of_failed (o ∷ os) = if is_some (error_of o) then map error_in_failed (o ∷ os) else pos 0 ∷ errors_of_failed os
+-- What comes of the parts of a multi that has an error part: the error is 0 before the first one.
+abbrev pub results_of_failed : List Operation → List PartResult
+results_of_failed [] = []
+results_of_failed (o ∷ os) =
+    if is_some (error_of o) then map result_in_failed (o ∷ os) else without_stat (pos 0) ∷ results_of_failed os
 
 -- The outcome of a multi that has an error part.
 abbrev pub failed_outcome : List Operation → Outcome
 failed_outcome parts =
-    let errors = errors_of_failed parts in
-    record { err = first_error errors; parts = errors; triggers = [] }
+    let results = results_of_failed parts in
+    record { results = record { err = first_error results; parts = results }; triggers = [] }
 
 -- Nothing is applied.
 abbrev pub of_failed : List Operation → State → TxnEffect
 of_failed parts s =
     let answer = failed_outcome parts in
-    record { state = s; err = answer.err; parts = answer.parts; triggers = answer.triggers }
+    record { state = s; err = answer.results.err; parts = answer.results.parts; triggers = answer.triggers }
+
+-- The Stat that the reply to a part shows, in the state right after it: that of a setData's node, and that of a new
+-- node whose create asks for it.
+abbrev pub stat_after : Operation → State → Option Stat
+stat_after (op.Create c) s = if c.asks_stat then option_map stat_of (finmap.get s.nodes c.path) else None
+stat_after (op.Delete path) s = None
+stat_after (op.SetData d) s = option_map stat_of (finmap.get s.nodes d.path)
+stat_after (op.Check c) s = None
+stat_after (op.Error error) s = None
 
 -- The parts in order. A part that fails doesn't stop those after it.
 abbrev pub of_parts : TxnHeader → List Operation → State → TxnEffect
@@ -213,10 +229,11 @@ of_parts header [] s = record { state = s; err = pos 0; parts = []; triggers = [
 of_parts header (o ∷ os) s =
     let first = of_operation header o s in
     let rest = of_parts header os first.state in
+    let result : PartResult = record { err = first.err; stat = stat_after o first.state } in
     record {
       state = rest.state;
-      err = first_error (first.err ∷ rest.parts);
-      parts = first.err ∷ rest.parts;
+      err = first_error (result ∷ rest.parts);
+      parts = result ∷ rest.parts;
       triggers = first.triggers ++ rest.triggers;
     }
 
@@ -269,7 +286,7 @@ abbrev pub effect_of_txn : State → Txn → TxnEffect
 effect_of_txn s txn = effect_of_body txn.header txn.body s
 
 abbrev pub answer_of : TxnEffect → Outcome
-answer_of m = record { err = m.err; parts = m.parts; triggers = m.triggers }
+answer_of m = record { results = record { err = m.err; parts = m.parts }; triggers = m.triggers }
 
 -- The transactions one after the other.
 abbrev pub state_after : State → List Txn → State

@@ -5,7 +5,7 @@ ghost use Rattle.data_tree.specs.Cells.{cells_at, without_cells, with_cells, eff
 ghost use Rattle.data_tree.specs.Meaning.{answer_of};
 ghost use Rattle.data_tree.specs.Refused.{IsLeftByRefused};
 
-use crate::outcome::Outcome;
+use crate::outcome::{Outcome, TxnResults};
 use crate::tree::Tree;
 use ephemerals::TextSet;
 use std::alloc::Global;
@@ -38,11 +38,13 @@ impl Model for Cells {
 
 // The outcome of a createSession.
 fn no_outcome(alloc: Global) -> Outcome
-    ensures { result ≡ record { err = pos 0; parts = []; triggers = [] } }
+    ensures { result ≡ record { results = record { err = pos 0; parts = [] }; triggers = [] } }
 {
     Outcome {
-        err: 0,
-        parts: Listed::from_vec(Vec::new(alloc)),
+        results: TxnResults {
+            err: 0,
+            parts: Listed::from_vec(Vec::new(alloc)),
+        },
         triggers: Listed::from_vec(Vec::new(alloc)),
     }
 }

@@ -11,7 +11,7 @@
 //! ```text
 //! let mut tree = Tree::fresh(alloc)?;
 //! let outcome = tree.apply(alloc, &decode_txn(alloc, bytes)?)?;
-//! outcome.err                          // the first error code, or 0
+//! outcome.results.err                  // the first error code, or 0
 //! outcome.triggers                     // the triggers for watchers, in order
 //! tree.node("/a"), tree.stat("/a")     // the node, and its Stat
 //! let mut cells = tree.take_cells(alloc, &paths)?;
@@ -29,6 +29,6 @@ mod tree;
 
 pub use cells::Cells;
 pub use node_map::Node;
-pub use outcome::{Outcome, Trigger};
+pub use outcome::{Outcome, PartResult, Trigger, TxnResults};
 pub use sessions::Timeouts;
 pub use tree::Tree;

@@ -1,21 +1,21 @@
-//! The errors of a multi's parts.
+//! What comes of a multi's parts.
 
 ghost use Rattle.std.specs.Prelude.{◌≡◌, IfOk};
-ghost use Rattle.data_tree.specs.Meaning.{first_error, errors_of_failed, failed_outcome};
+ghost use Rattle.data_tree.specs.Meaning.{first_error, results_of_failed, failed_outcome};
 
-use crate::outcome::Outcome;
+use crate::outcome::{Outcome, PartResult, TxnResults};
 use jute::codes::RUNTIME_INCONSISTENCY;
 use std::alloc::Global;
 use txn_codec::Operation;
 use values::{Listed, NoMemory};
 
 /// The first error that isn't 0, or 0 if there is none.
-pub(crate) fn first_error(errors: &[i32]) -> i32
-    ensures { result ≡ first_error errors.now }
+pub(crate) fn first_error(results: &[PartResult]) -> i32
+    ensures { result ≡ first_error results.now }
 {
-    for error in errors {
-        if *error != 0 {
-            return *error;
+    for part in results {
+        if part.err != 0 {
+            return part.err;
         }
     }
     0
@@ -26,19 +26,24 @@ pub(crate) fn failed_outcome(alloc: Global, parts: &[Operation]) -> Result<Outco
     ensures { IfOk result (λ o. o ≡ failed_outcome parts.now) }
 {
     let mut otherwise = 0;
-    let mut errors = Vec::new(alloc);
+    let mut results = Vec::new(alloc);
     for part in parts {
         match part.error() {
-            None => errors.push(otherwise)?,
-            Some(error) => {
-                errors.push(error)?;
+            None => results.push(PartResult {
+                err: otherwise,
+                stat: None,
+            })?,
+            Some(err) => {
+                results.push(PartResult { err, stat: None })?;
                 otherwise = RUNTIME_INCONSISTENCY;
             }
         }
     }
     Ok(Outcome {
-        err: first_error(errors.as_slice()),
-        parts: Listed::from_vec(errors),
+        results: TxnResults {
+            err: first_error(results.as_slice()),
+            parts: Listed::from_vec(results),
+        },
         triggers: Listed::from_vec(Vec::new(alloc)),
     })
 }

@@ -2,6 +2,7 @@
 
 ghost use Rattle.std.specs.Prelude.{◌≡◌, ◌∷◌, ◌++◌, [], OnOk};
 
+use jute::Stat;
 use std::alloc::Global;
 use values::{Listed, NoMemory, Text};
 
@@ -18,13 +19,28 @@ pub enum Trigger {
     ChildrenChanged(Text),
 }
 
+/// What comes of a part of a multi.
+#[derive(Clone, Copy, Debug)]
+pub struct PartResult {
+    /// ZooKeeper's error code, or 0.
+    pub err: i32,
+    /// The Stat of its node right after it, before later parts: of a setData, and of a create that asks for it.
+    pub stat: Option<Stat>,
+}
+
+/// What comes of a transaction for the client that asked for it.
+#[derive(Debug, Drop)]
+pub struct TxnResults {
+    /// ZooKeeper's error code of the first error, or 0.
+    pub err: i32,
+    /// What comes of each part of a multi, in order. Any other transaction has no parts.
+    pub parts: Listed<PartResult>,
+}
+
 /// The outcome of a transaction.
 #[derive(Debug, Drop)]
 pub struct Outcome {
-    /// ZooKeeper's error code of the first error, or 0.
-    pub err: i32,
-    /// The error of each part of a multi, in order. Any other transaction has no parts.
-    pub parts: Listed<i32>,
+    pub results: TxnResults,
     /// The triggers for watchers, in order.
     pub triggers: Listed<Trigger>,
 }

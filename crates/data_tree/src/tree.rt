@@ -13,7 +13,7 @@ ghost use Rattle.data_tree.specs.Inner.Placing.{with_new_node_placed};
 ghost use Rattle.data_tree.specs.Inner.Mending.{with_mended, with_missing};
 ghost use Rattle.data_tree.specs.Whole.{IsWhole};
 ghost use Rattle.txn_codec.specs.Row.{has_error};
-ghost use Rattle.data_tree.specs.Meaning.{of_operation, of_set_acl, of_create_session, of_close_session, of_parts, of_multi, with_names, delete_operations, effect_of_txn, answer_of, fresh_state};
+ghost use Rattle.data_tree.specs.Meaning.{of_operation, of_set_acl, of_create_session, of_close_session, of_parts, stat_after, of_multi, with_names, delete_operations, effect_of_txn, answer_of, fresh_state};
 ghost use Rattle.data_tree.specs.Cells.{cells_at, without_cells, with_cells};
 ghost use Rattle.data_tree.specs.Refused.{IsAfterFront};
 ghost use Rattle.data_tree.specs.Refused.{IsPartlyDone, IsLeftByRefused};
@@ -21,7 +21,9 @@ ghost use Rattle.data_tree.specs.Inner.Doing.{DoesEffect};
 ghost use Rattle.ephemerals.specs.Orders.{sorted_names};
 
 use crate::multi::{failed_outcome, first_error};
-use crate::outcome::{Outcome, Trigger, fire_data_changed, fire_with_parent};
+use crate::outcome::{
+    Outcome, PartResult, Trigger, TxnResults, fire_data_changed, fire_with_parent,
+};
 use crate::sessions::Timeouts;
 use ephemerals::{Ephemerals, TextSet};
 use jute::Stat;
@@ -343,6 +345,22 @@ impl Tree {
         }
     }
 
+    // The Stat that the reply to a part shows, right after the part.
+    fn stat_after(&self, part: &Operation) -> Option<Stat>
+        ensures { result ≡ stat_after part.now self.now }
+    {
+        match part {
+            Operation::Create(create) => {
+                if create.asks_stat {
+                    return self.stat(create.path.as_str());
+                }
+                return None;
+            }
+            Operation::SetData(body) => self.stat(body.path.as_str()),
+            Operation::Delete(_) | Operation::Check(_) | Operation::Error(_) => return None,
+        }
+    }
+
     // Applies the parts of a multi in order.
     fn operate_all(
         &mut self,
@@ -354,15 +372,18 @@ impl Tree {
         ensures answer { IfOk result (λ o. o ≡ answer_of (of_parts header.now parts.now self.old)) }
         ensures err { OnErr result (IsAfterFront header.now parts.now self.old self.new) }
     {
-        let mut errors = Vec::new(alloc);
+        let mut results = Vec::new(alloc);
         let mut triggers = Vec::new(alloc);
         for part in parts {
-            let error = self.operate(alloc, header, part, &mut triggers)?;
-            errors.push(error)?;
+            let err = self.operate(alloc, header, part, &mut triggers)?;
+            let stat = self.stat_after(part);
+            results.push(PartResult { err, stat })?;
         }
         Ok(Outcome {
-            err: first_error(errors.as_slice()),
-            parts: Listed::from_vec(errors),
+            results: TxnResults {
+                err: first_error(results.as_slice()),
+                parts: Listed::from_vec(results),
+            },
             triggers: Listed::from_vec(triggers),
         })
     }
@@ -430,8 +451,10 @@ impl Tree {
             }
         };
         Ok(Outcome {
-            err,
-            parts: Listed::from_vec(Vec::new(alloc)),
+            results: TxnResults {
+                err,
+                parts: Listed::from_vec(Vec::new(alloc)),
+            },
             triggers: Listed::from_vec(triggers),
         })
     }

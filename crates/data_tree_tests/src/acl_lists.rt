@@ -5,12 +5,12 @@ use jute::{Acl, Id};
 use paths_and_acls::AclList;
 use std::alloc::{AllocError, Global};
 use std::test::Fail;
-use values::{Listed, Text};
+use values::{Blob, Listed};
 
 // An entry that grants every client these permissions.
 fn entry_of(alloc: Global, perms: i32) -> Result<Acl, Fail> {
-    let scheme = Text::new(alloc, "world")?;
-    let id = Text::new(alloc, "anyone")?;
+    let scheme = Blob::new(alloc, b"world")?;
+    let id = Blob::new(alloc, b"anyone")?;
     Ok(Acl {
         perms,
         id: Id { scheme, id },

@@ -66,7 +66,7 @@ fn made(alloc: Global) -> Result<Tree, Fail> {
 fn answer(alloc: Global, cells: &mut Cells, txn: &Txn) -> Result<String, Fail> {
     let outcome = cells.apply(alloc, txn)?;
     let triggers = outcome.triggers.as_slice().len();
-    Ok(format!(in alloc; "{} {triggers};", outcome.err)?)
+    Ok(format!(in alloc; "{} {triggers};", outcome.results.err)?)
 }
 
 // Session 7 creates /q, and /e gets new data; a session begins; a node that isn't in the cells isn't found.

@@ -1,6 +1,6 @@
 //! The outcomes of transactions, one after the other.
 
-use data_tree::{Outcome, Tree, Trigger};
+use data_tree::{Outcome, PartResult, Tree, Trigger};
 use std::alloc::Global;
 use std::test::Fail;
 use txn_codec::{Txn, decode_txn};
@@ -23,6 +23,9 @@ const FAILED_MULTI: &[u8; 89] =
 // A multi: a create of /e, which exists, and null data for /e.
 const MULTI: &[u8; 85] =
     b"\0\0\0\0\0\0\0\x07\0\0\0\x01\0\0\0\0\0\0\0\x06\0\0\0\0\0\0\x03\xe8\0\0\0\x0e\0\0\0\x02\0\0\0\x01\0\0\0\x13\0\0\0\x02/e\xff\xff\xff\xff\xff\xff\xff\xff\0\0\0\0\x01\0\0\0\x05\0\0\0\x0e\0\0\0\x02/e\xff\xff\xff\xff\0\0\0\x01";
+// A multi: null data for /e, version 1, and then a delete of /e.
+const SET_AND_DELETE: &[u8; 72] =
+    b"\0\0\0\0\0\0\0\x07\0\0\0\x02\0\0\0\0\0\0\0\x02\0\0\0\0\0\0\x03\xe8\0\0\0\x0e\0\0\0\x02\0\0\0\x05\0\0\0\x0e\0\0\0\x02/e\xff\xff\xff\xff\0\0\0\x01\0\0\0\x02\0\0\0\x06\0\0\0\x02/e";
 // The open list for /d, aversion 4.
 const SET_ACL: &[u8; 46] =
     b"\0\0\0\0\0\0\0\x07\0\0\0\x01\0\0\0\0\0\0\0\x07\0\0\0\0\0\0\x03\xe8\0\0\0\x07\0\0\0\x02/d\xff\xff\xff\xff\0\0\0\x04";
@@ -41,10 +44,24 @@ fn sign_of(trigger: &Trigger) -> (&'static str, &str) {
 }
 
 // The errors of the parts.
-fn errors_of(alloc: Global, parts: &[i32]) -> Result<String, Fail> {
+fn errors_of(alloc: Global, parts: &[PartResult]) -> Result<String, Fail> {
     let mut text = String::new(alloc);
     for part in parts {
-        text.push_str(format!(in alloc; " {part}")?.as_str())?;
+        text.push_str(format!(in alloc; " {}", part.err)?.as_str())?;
+    }
+    Ok(text)
+}
+
+// The version and the mzxid of each part's Stat, or a dash.
+fn stats_of(alloc: Global, parts: &[PartResult]) -> Result<String, Fail> {
+    let mut text = String::new(alloc);
+    for part in parts {
+        match &part.stat {
+            None => text.push_str(" -")?,
+            Some(stat) => {
+                text.push_str(format!(in alloc; " {}@{}", stat.version, stat.mzxid)?.as_str())?;
+            }
+        }
     }
     Ok(text)
 }
@@ -62,9 +79,9 @@ fn signs_of(alloc: Global, triggers: &[Trigger]) -> Result<String, Fail> {
 
 /// The error, the parts' errors, and the triggers.
 pub fn text_of(alloc: Global, outcome: &Outcome) -> Result<String, Fail> {
-    let errors = errors_of(alloc, outcome.parts.as_slice())?;
+    let errors = errors_of(alloc, outcome.results.parts.as_slice())?;
     let signs = signs_of(alloc, outcome.triggers.as_slice())?;
-    Ok(format!(in alloc; "{}{errors}{signs}", outcome.err)?)
+    Ok(format!(in alloc; "{}{errors}{signs}", outcome.results.err)?)
 }
 
 // The transaction that the bytes spell.
@@ -127,5 +144,24 @@ fn the_others_are_answered(rt: HostRuntime) -> Result<(), Fail> {
     let (all, numbers) = answers_and_node(rt.alloc(), &texts, "/m")?;
     assert_eq!(rt; all.as_str(), wanted);
     assert_eq!(rt; numbers, None);
+    Ok(())
+}
+
+// The Stats of the parts of a multi that sets data of /e and then deletes it, and whether /e is still there.
+fn set_and_deleted(alloc: Global) -> Result<(String, bool), Fail> {
+    let mut tree = fresh(alloc)?;
+    answer(alloc, &mut tree, CREATE_E)?;
+    let txn = txn_of(alloc, SET_AND_DELETE)?;
+    let outcome = tree.apply(alloc, &txn)?;
+    let stats = stats_of(alloc, outcome.results.parts.as_slice())?;
+    Ok((stats, tree.node("/e").is_some()))
+}
+
+/// A part's Stat is that of its node right after the part, although the next part deletes the node.
+#[test]
+fn parts_have_their_stats(rt: HostRuntime) -> Result<(), Fail> {
+    let (stats, is_there) = set_and_deleted(rt.alloc())?;
+    assert_eq!(rt; stats.as_str(), " 1@2 -");
+    assert!(rt; !is_there);
     Ok(())
 }

@@ -2,7 +2,7 @@
 use Rattle.std.specs.Prelude.{◌≡◌, ℕ, suc, ℤ, pos, negsuc, List, [], ◌∷◌, Option, None, Some, is_some, Bool, true, false, ◌&&◌, ◌||◌, not, drop, if◌then◌else◌}
 use Rattle.std.specs.Ordering.{int_eq}
 use Rattle.forwarding.specs.declared.request.WriteKind.{WriteKind}
-use Rattle.forwarding.specs.declared.request.WriteKind.TheVariants.{Create, Create2, CreateContainer, CreateTtl, Delete, DeleteContainer, SetData, SetAcl, Reconfig, CloseSession}
+use Rattle.forwarding.specs.declared.request.WriteKind.TheVariants.{Create, Create2, CreateContainer, CreateTtl, Delete, DeleteContainer, SetData, SetAcl, Multi, Reconfig, CloseSession}
 use Rattle.forwarding.specs.declared.request.ConnectKind.{ConnectKind}
 use Rattle.forwarding.specs.declared.request.ConnectKind.TheVariants.{New, Claimed}
 use Rattle.forwarding.specs.declared.request.PendingConnect.{PendingConnect}
@@ -28,6 +28,7 @@ write_number Create = pos 1
 write_number Delete = pos 2
 write_number SetData = pos 5
 write_number SetAcl = pos 7
+write_number Multi = pos 14
 write_number Create2 = pos 15
 write_number Reconfig = pos 16
 write_number CreateContainer = pos 19

@@ -7,7 +7,7 @@ use Rattle.std.specs.FinMap as finmap
 use Rattle.std.specs.FinSet as set
 use Rattle.session_map.specs.SessionMap.{ConnectionBySession, connection_by_session_code}
 use Rattle.forwarding.specs.declared.request.WriteKind.{WriteKind}
-use Rattle.forwarding.specs.declared.request.WriteKind.TheVariants.{Create, Create2, CreateContainer, CreateTtl, Delete, DeleteContainer, SetData, SetAcl, Reconfig, CloseSession}
+use Rattle.forwarding.specs.declared.request.WriteKind.TheVariants.{Create, Create2, CreateContainer, CreateTtl, Delete, DeleteContainer, SetData, SetAcl, Multi, Reconfig, CloseSession}
 use Rattle.forwarding.specs.declared.request.ConnectKind.{ConnectKind}
 use Rattle.forwarding.specs.declared.request.ConnectKind.TheVariants.{New, Claimed}
 use Rattle.forwarding.specs.declared.request.PendingConnect.{PendingConnect}
@@ -44,7 +44,7 @@ pending_table_of queues syncs connects touched =
 
 abbrev pub write_kinds : List WriteKind
 write_kinds =
-    Create ∷ Delete ∷ SetData ∷ SetAcl ∷ Create2 ∷ Reconfig ∷ CreateContainer ∷ DeleteContainer ∷ CreateTtl
+    Create ∷ Delete ∷ SetData ∷ SetAcl ∷ Multi ∷ Create2 ∷ Reconfig ∷ CreateContainer ∷ DeleteContainer ∷ CreateTtl
     ∷ CloseSession ∷ []
 
 -- The one of these kinds that has the number.
@@ -57,6 +57,7 @@ write_kinds_apart Create = refl
 write_kinds_apart Delete = refl
 write_kinds_apart SetData = refl
 write_kinds_apart SetAcl = refl
+write_kinds_apart Multi = refl
 write_kinds_apart Create2 = refl
 write_kinds_apart Reconfig = refl
 write_kinds_apart CreateContainer = refl

@@ -17,6 +17,8 @@ pub enum WriteKind {
     Delete,
     SetData,
     SetAcl,
+    /// Several operations, of which all are done or none.
+    Multi,
     /// A create that is answered with the Stat.
     Create2,
     Reconfig,
@@ -37,6 +39,7 @@ impl WriteKind {
             WriteKind::Delete => 2,
             WriteKind::SetData => 5,
             WriteKind::SetAcl => 7,
+            WriteKind::Multi => 14,
             WriteKind::Create2 => 15,
             WriteKind::Reconfig => 16,
             WriteKind::CreateContainer => 19,

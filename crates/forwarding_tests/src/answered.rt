@@ -141,6 +141,7 @@ fn each_kind_has_its_number(rt: HostRuntime) -> Result<(), Fail> {
         (WriteKind::Delete, 2),
         (WriteKind::SetData, 5),
         (WriteKind::SetAcl, 7),
+        (WriteKind::Multi, 14),
         (WriteKind::Create2, 15),
         (WriteKind::Reconfig, 16),
         (WriteKind::CreateContainer, 19),

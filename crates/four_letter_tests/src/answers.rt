@@ -3,7 +3,7 @@
 use crate::{answered, listed, spelled_again, tells_of_watches};
 use std::alloc::Global;
 use std::test::Fail;
-use watch_manager::Watches;
+use watch_manager::{WatchMode, Watches};
 
 // Connection 1 watches /a in all three tables, connection 2 its data, and connection 3 the children of the root, and /b
 // lastingly.
@@ -13,8 +13,8 @@ fn watching(alloc: Global) -> Result<Watches, Fail> {
     watches.set_data(alloc, 2, "/a")?;
     watches.set_data(alloc, 1, "/a")?;
     watches.set_child(alloc, 3, "/")?;
-    watches.set_persistent(alloc, 3, "/b", false)?;
-    watches.set_persistent(alloc, 1, "/a", true)?;
+    watches.set_lasting(alloc, 3, "/b", WatchMode::Persistent)?;
+    watches.set_lasting(alloc, 1, "/a", WatchMode::Recursive)?;
     Ok(watches)
 }
 

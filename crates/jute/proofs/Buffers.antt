@@ -1,14 +1,14 @@
 -- Counts, buffers and texts.
-use Rattle.std.proofs.Common.{◌≡◌, ℕ, zero, suc, ◌^◌, ◌<◌, ◌≤◌, false, ltb, leb, List, [], ◌++◌, length, take, drop, Option, Some, None, Ok, Err, refl, sym, ap, subst, ◌∙◌, append_assoc, arith, inl, inr}
+use Rattle.std.proofs.Common.{◌≡◌, ℕ, zero, suc, ◌^◌, ◌<◌, ◌≤◌, Bool, true, false, ltb, leb, List, [], ◌++◌, length, take, drop, Option, Some, None, Ok, Err, refl, sym, ap, subst, ◌∙◌, append_assoc, arith, inl, inr}
 use Rattle.std.specs.Prelude.{ℤ, pos, negsuc}
 use Rattle.std.specs.Int.{w32}
-use Rattle.std.specs.Str.{is_utf8}
 use Rattle.std.proofs.lemmas.Bool.{ltb-true, ltb-false, lt-ltb, le-ltb, leb-true, le-leb}
 use Rattle.std.proofs.lemmas.Str.{IsUtf8-nil, is_utf8-from_IsUtf8}
 use Rattle.std.proofs.lemmas.List.{take_at, drop_at, take-append-drop, take-append-le, length-append, length-take}
 use Rattle.values.specs.declared.fault.Fault.{Fault}
 use Rattle.values.specs.declared.fault.Fault.TheVariants.{Short, BadLength, BadText}
-use Rattle.jute.specs.Format.{number_bytes, int, null_bytes, with_count, length_or_null, length_number, count_format, bytes_at, LacksBytes, buffer, buffer_at, buffer_limit, SpellsBuffer, FitsBuffer, WritableBuffer, buffer_bytes, text_format, text_of, text_or_empty}
+use Rattle.jute.specs.Format.{number_bytes, int, null_bytes, with_count, length_or_null, length_number, count_format, bytes_at, LacksBytes, buffer, buffer_at, buffer_limit, SpellsBuffer, FitsBuffer, WritableBuffer, buffer_bytes, text_by, text_in, text_format, name_in, text_or_empty}
+use Rattle.jute.specs.Texts.{between_surrogates, is_generalized_utf8, is_text}
 use Rattle.jute.specs.Laws.{IsBytes, TakesSpelling, NamesFaults, IsSound}
 use Rattle.jute.specs.Pieces.{IsStable, LeavesAtMost, LeavesFewer}
 use Rattle.jute.proofs.Steps.{IsBytes-drop, same_length, bind_ok, guard_ok, guard_ended, ok_is, guard_err, bind_err, not_refused, behind_read, then_stands, then_leaves, within, cut_stands, cut_leaves, then_eats}
@@ -199,19 +199,32 @@ buffer_sound = record {
 
 -- ---- texts
 
-text_back : (b v : Option (List ℕ)) → text_of b ≡ Ok v → Some v ≡ Some b
-text_back None v e = let same : None ≡ v = cc in ap (λ (x : Option (List ℕ)). Some x) (sym same)
-text_back (Some t) v e =
-    let g = guard_ended (is_utf8 t) BadText (Some t) v e in
+text_back : (test : List ℕ → Bool) (b v : Option (List ℕ)) → text_by test b ≡ Ok v → Some v ≡ Some b
+text_back test None v e = let same : None ≡ v = cc in ap (λ (x : Option (List ℕ)). Some x) (sym same)
+text_back test (Some t) v e =
+    let g = guard_ended (test t) BadText (Some t) v e in
     ap (λ (x : Option (List ℕ)). Some x) (sym g.1)
 
-pub text_sound : IsSound text_format
-text_sound = judged_sound text_of (λ t. Some t) buffer text_back buffer_sound
+pub text_in_sound : (surrogates : Bool) → IsSound (text_in surrogates)
+text_in_sound surrogates =
+    judged_sound (text_by (is_text surrogates)) (λ t. Some t) buffer (text_back (is_text surrogates)) buffer_sound
 
 null_length : length (with_count 0 []) ≤ length null_bytes
 unfolding number_bytes
 null_length = omega arith
 
+empty_is_text : (surrogates : Bool) → is_text surrogates [] ≡ true
+unfolding is_generalized_utf8 between_surrogates
+empty_is_text false = is_utf8-from_IsUtf8 [] IsUtf8-nil
+empty_is_text true = rw (is_utf8-from_IsUtf8 [] IsUtf8-nil) refl
+
+pub name_in_sound : (surrogates : Bool) → IsSound (name_in surrogates)
+name_in_sound surrogates =
+    or_null_sound (text_in surrogates) (λ h. (rw (empty_is_text surrogates) refl, omega arith)) null_length
+    (text_in_sound surrogates)
+
+pub text_sound : IsSound text_format
+text_sound = text_in_sound false
+
 pub name_sound : IsSound text_or_empty
-name_sound = or_null_sound text_format (λ h. (rw (is_utf8-from_IsUtf8 [] IsUtf8-nil) refl, omega arith)) null_length
-    text_sound
+name_sound = name_in_sound false

@@ -5,7 +5,7 @@ ghost use Rattle.jute.specs.Codes.{open_acl};
 
 use crate::owned::{Acl, Id};
 use std::alloc::Global;
-use values::{Listed, NoMemory, Text};
+use values::{Blob, Listed, NoMemory};
 
 /// The error of each part of a multi after the one that failed.
 pub const RUNTIME_INCONSISTENCY: i32 = -2;
@@ -35,8 +35,8 @@ pub const ALL: i32 = 31;
 pub fn open_list(alloc: Global) -> Result<Listed<Acl>, NoMemory>
     ensures { IfOk result (λ acl. acl ≡ open_acl) }
 {
-    let scheme = Text::new(alloc, "world")?;
-    let id = Text::new(alloc, "anyone")?;
+    let scheme = Blob::new(alloc, b"world")?;
+    let id = Blob::new(alloc, b"anyone")?;
     let mut list = Vec::new(alloc);
     list.push(Acl {
         perms: ALL,

@@ -22,14 +22,16 @@ mod owned;
 mod reader;
 mod record;
 mod stat;
+mod text;
 mod writer;
 
 pub use frame::{put_frame, read_frame};
 pub use message::{ReplyHeader, RequestHeader};
-pub use owned::{Acl, Id, blob_len, put_blob, read_blob};
+pub use owned::{Acl, Id, blob_len, put_blob, read_acls, read_blob};
 pub use reader::{BUFFER_LIMIT, COUNT_LIMIT, Reader};
-pub use record::{ReadRecord, read_name, read_vector};
+pub use record::{ReadRecord, read_name, read_name_in, read_vector};
 pub use stat::{Stat, StatPersisted};
+pub use text::{is_generalized_utf8, is_text};
 pub use writer::{
     WriteRecord, items_len, put_bool, put_bytes, put_int, put_items, put_long, put_string,
     put_vector, vector_len,

@@ -3,11 +3,11 @@
 ghost use Rattle.std.specs.Prelude.{◌≡◌, List, ℕ, Result};
 ghost use Rattle.values.specs.declared.fault.Fault.{Fault as TheFault};
 ghost use Rattle.jute.specs.Reads.{ReadsOwned};
-ghost use Rattle.jute.specs.Format.{text_or_empty, read_n, vector_at, ReadsValue};
+ghost use Rattle.jute.specs.Format.{name_in, text_or_empty, read_n, vector_at, ReadsValue};
 
 use crate::reader::Reader;
 use std::alloc::Global;
-use values::{Fault, Listed, ReadError, Str};
+use values::{Bytes, Fault, Listed, ReadError, Str};
 
 /// A value that is read from the front of bytes. Its faults are those of its fields, in the order of the fields. A
 /// refused read leaves the place unchanged.
@@ -52,6 +52,14 @@ pub fn read_vector<'a, T: ReadRecord<'a>>(
     let items = read_items(alloc, count, &mut ahead)?;
     *reader = ahead;
     Ok(Some(Listed::from_vec(items)))
+}
+
+/// Reads a ustring, in which surrogates may stand or not, as bytes; null is read as empty.
+#[tactic(auto, unfolding(crate::specs::Format::judged_at))]
+pub fn read_name_in<'a>(surrogates: bool, reader: &mut Reader<'a>) -> Result<Bytes<'a>, Fault>
+    ensures { ReadsValue (name_in surrogates) (λ t. t) result reader.old reader.new }
+{
+    Ok(Bytes::new(reader.read_text(surrogates)?.unwrap_or(&[])))
 }
 
 /// Reads a ustring; null is read as empty.

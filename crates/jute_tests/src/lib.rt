@@ -9,6 +9,8 @@ mod packet_rows;
 #[cfg(test)]
 mod record_rows;
 #[cfg(test)]
+mod text_rows;
+#[cfg(test)]
 mod value_rows;
 
 ghost use Rattle.std.specs.Prelude.{◌<◌, ◌^◌, length};

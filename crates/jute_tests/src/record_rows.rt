@@ -8,7 +8,7 @@ use jute::{
 };
 use std::alloc::Global;
 use std::test::Fail;
-use values::{Listed, NoMemory, ReadError, Text};
+use values::{Blob, Listed, NoMemory, ReadError};
 
 /// The frame of the reply to getData: header, data and Stat of a node that was created with two bytes.
 const REPLY: [u8; 94] = *b"\x00\x00\x00\x5a\
@@ -201,8 +201,8 @@ fn is_open(alloc: Global, acls: &Option<Listed<Acl>>) -> Result<bool, NoMemory> 
         return Ok(false);
     }
     let id = Id {
-        scheme: Text::new(alloc, "world")?,
-        id: Text::new(alloc, "anyone")?,
+        scheme: Blob::new(alloc, b"world")?,
+        id: Blob::new(alloc, b"anyone")?,
     };
     Ok(acls.as_slice()[0] == Acl { perms: 31, id })
 }
@@ -224,7 +224,7 @@ fn acls_are_read(rt: HostRuntime) -> Result<(), Fail> {
 }
 
 // The list of the open entry.
-#[tactic(auto, unfolding(jute::specs::Owned::acl_format, jute::specs::Owned::id_format))]
+#[tactic(auto, unfolding(jute::specs::Owned::acl_in, jute::specs::Owned::id_in))]
 fn acls_written(alloc: Global) -> Result<Vec<u8>, NoMemory> {
     let mut out = Vec::new(alloc);
     put_vector(&mut out, &Some(open_list(alloc)?))?;
@@ -240,14 +240,14 @@ fn acls_are_written(rt: HostRuntime) -> Result<(), Fail> {
 // Whether an id is read whose texts are empty.
 fn is_empty_id(alloc: Global, bytes: &[u8]) -> Result<bool, ReadError> {
     let id = Id::read(alloc, &mut Reader::new(bytes))?;
-    Ok(id.scheme.as_str() == "" && id.id.as_str() == "")
+    Ok(id.scheme.as_slice().is_empty() && id.id.as_slice().is_empty())
 }
 
-#[tactic(auto, unfolding(jute::specs::Owned::id_format))]
+#[tactic(auto, unfolding(jute::specs::Owned::id_in))]
 fn empty_id_written(alloc: Global) -> Result<Vec<u8>, NoMemory> {
     let id = Id {
-        scheme: Text::new(alloc, "")?,
-        id: Text::new(alloc, "")?,
+        scheme: Blob::new(alloc, b"")?,
+        id: Blob::new(alloc, b"")?,
     };
     let mut out = Vec::new(alloc);
     id.write(&mut out)?;

@@ -4,6 +4,7 @@ use Rattle.std.specs.Prelude.{is_some}
 use Rattle.std.specs.Option.{option_map_or}
 use mathlib.Core.Bool.{true≢false}
 use Rattle.txn_codec.specs.declared.txn.Txn.{Txn}
+use Rattle.data_tree.specs.declared.outcome.TxnResults.{TxnResults}
 use Rattle.txn_codec.specs.declared.row.SessionChange.{SessionChange}
 use Rattle.txn_codec.specs.declared.row.SessionChange.TheVariants as changes
 use Rattle.txn_codec.specs.Row.{session_change}
@@ -62,14 +63,14 @@ none_left n limit k w above =
 
 -- ---- a transaction
 
-module _ (w : World) (place : ℕ) (err : ℤ) (t : Txn) (at : Some t ≡ slice_get w.replica.learner.log place)
+module _ (w : World) (place : ℕ) (results : TxnResults) (t : Txn) (at : Some t ≡ slice_get w.replica.learner.log place)
     (due : Due) (is : due ≡ due_in_log w place) where
   -- The transaction is answered as it is due.
   pub due_is : due ≡ answer_due w.clients t
   due_is = is ∙ ap (due_of w.clients) (sym at)
 
-  pub of_due : answer_applied_txn w place err ≡ give_answer w t err due
-  of_due = ap (answer_optional_txn w err) (sym at) ∙ ap (give_answer w t err) (sym due_is)
+  pub of_due : answer_applied_txn w place results ≡ give_answer w t results due
+  of_due = ap (answer_optional_txn w results) (sym at) ∙ ap (give_answer w t results) (sym due_is)
 
 -- Of a reply that is due, the write is the oldest, at its place.
 pub reply_is : (c : Clients) (t : Txn) (n : ℕ) (write : AnsweredWrite) → Reply n write ≡ answer_due c t
@@ -118,26 +119,26 @@ reply_is c t n write e = by (session_change t.body) e
     by changes.Ends e = ended (connection_with c t.header.client_id) e
     by changes.Nothing e = replied (connection_of c.sessions t.header.client_id) e
 
-module _ (w : World) (place : ℕ) (err : ℤ) (t : Txn) (at : Some t ≡ slice_get w.replica.learner.log place) (n : ℕ)
+module _ (w : World) (place : ℕ) (results : TxnResults) (t : Txn) (at : Some t ≡ slice_get w.replica.learner.log place) (n : ℕ)
     (write : AnsweredWrite) (is : Reply n write ≡ due_in_log w place) where
   abbrev found : OldestWriteIsAt (queue_of w.clients.pending n) write.place
       × (after_answer (queue_of w.clients.pending n) t.header.cxid (txn_number t)
       ≡ without_oldest_write (queue_of w.clients.pending n))
   found = found_is (queue_of w.clients.pending n) t.header.cxid (txn_number t) write
-      (reply_is w.clients t n write (due_is w place err t at (Reply n write) is))
+      (reply_is w.clients t n write (due_is w place results t at (Reply n write) is))
 
   pub write_is_at : OldestWriteIsAt (queue_of w.clients.pending n) write.place
   write_is_at = found.0
 
   -- The write is refused since the session has moved.
-  pub moved_write : has_moved w err ≡ true → answer_applied_txn w place err ≡ close_client n w
+  pub moved_write : has_moved w results ≡ true → answer_applied_txn w place results ≡ close_client n w
   moved_write moved =
-      of_due w place err t at (Reply n write) is
-      ∙ ap (λ (b : Bool). if b then close_client n w else send_write_reply n w t err write.kind) moved
+      of_due w place results t at (Reply n write) is
+      ∙ ap (λ (b : Bool). if b then close_client n w else send_write_reply n w t results write.kind) moved
 
   -- The write is answered, and then what waited only for it.
-  pub one_write : has_moved w err ≡ false → (seen : Look) → seen ≡ write_look w.replica.tree write.kind t.body err
-      → answer_applied_txn w place err ≡ and_then
+  pub one_write : has_moved w results ≡ false → (seen : Look) → seen ≡ write_look w.replica.tree write.kind t.body results
+      → answer_applied_txn w place results ≡ and_then
       (send_or_close n (with_pending w (remove_write w.clients.pending n))
       (reply_frame t.header.cxid t.header.zxid seen)) (answer_front n)
   one_write here seen looks =
@@ -145,7 +146,7 @@ module _ (w : World) (place : ℕ) (err : ℤ) (t : Txn) (at : Some t ≡ slice_
       λ (q : RequestQueue) (l : Look). and_then
       (send_or_close n (with_pending w (put_queue w.clients.pending n q))
       (reply_frame t.header.cxid t.header.zxid l)) (answer_front n) in
-      of_due w place err t at (Reply n write) is
-      ∙ ap (λ (b : Bool). if b then close_client n w else send_write_reply n w t err write.kind) here
+      of_due w place results t at (Reply n write) is
+      ∙ ap (λ (b : Bool). if b then close_client n w else send_write_reply n w t results write.kind) here
       ∙ ap (answered (after_answer (queue_of w.clients.pending n) t.header.cxid (txn_number t))) (sym looks)
       ∙ ap (λ (q : RequestQueue). answered q seen) found.1

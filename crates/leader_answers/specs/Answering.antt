@@ -10,6 +10,7 @@ use Rattle.txn_codec.specs.declared.row.SessionChange.{SessionChange}
 use Rattle.txn_codec.specs.declared.row.SessionChange.TheVariants as changes
 use Rattle.txn_codec.specs.Row.{session_change}
 use Rattle.txn_codec.specs.Kinds.{code_of, body_kind}
+use Rattle.data_tree.specs.declared.outcome.TxnResults.{TxnResults}
 use Rattle.quorum_packet.specs.declared.packet.QuorumPacket.{QuorumPacket}
 use Rattle.learner_sync.specs.Answers.{ping_reply, session_rows}
 use Rattle.sessions.specs.Sessions.{connection_of, ConnectResult, close_connection, give_session}
@@ -120,19 +121,20 @@ lets_answer c t = is_due (answer_due c t)
 -- ---- a write
 
 -- The leader refuses the write, since another server has the session now.
-abbrev pub has_moved : World → ℤ → Bool
-has_moved w err = (reads_of w.settings.dialect).moved_sessions && int_eq err SESSION_MOVED
+abbrev pub has_moved : World → TxnResults → Bool
+has_moved w results = (reads_of w.settings.dialect).moved_sessions && int_eq results.err SESSION_MOVED
 
 -- The reply has the zxid of the transaction. The requests that waited only for this write are answered after it.
-abbrev pub send_write_reply : ℕ → World → Txn → ℤ → WriteKind → StepResult World
-send_write_reply n w t err kind =
+abbrev pub send_write_reply : ℕ → World → Txn → TxnResults → WriteKind → StepResult World
+send_write_reply n w t results kind =
     let v = with_pending w (answer_write w.clients.pending n t.header.cxid (txn_number t)).after in
-    let seen = write_look w.replica.tree kind t.body err in
+    let seen = write_look w.replica.tree kind t.body results in
     and_then (send_or_close n v (reply_frame t.header.cxid t.header.zxid seen)) (answer_front n)
 
 -- Where the session has moved there is no reply, and the connection closes.
-abbrev pub answer_write_as : ℕ → World → Txn → ℤ → WriteKind → StepResult World
-answer_write_as n w t err kind = if has_moved w err then close_client n w else send_write_reply n w t err kind
+abbrev pub answer_write_as : ℕ → World → Txn → TxnResults → WriteKind → StepResult World
+answer_write_as n w t results kind =
+    if has_moved w results then close_client n w else send_write_reply n w t results kind
 
 -- ---- a session that was created
 
@@ -189,15 +191,15 @@ close_ended n w zxid (Some xid) = send_last n w (reply_frame xid zxid (without_b
 
 -- ---- a transaction
 
-abbrev pub give_answer : World → Txn → ℤ → Due → StepResult World
-give_answer w t err Nothing = no_output w
-give_answer w t err (Admission n) = admit_client n w
-give_answer w t err (Ending n) = close_ended n w t.header.zxid (pending_close w.clients.pending n)
-give_answer w t err (Reply n write) = answer_write_as n w t err write.kind
+abbrev pub give_answer : World → Txn → TxnResults → Due → StepResult World
+give_answer w t results Nothing = no_output w
+give_answer w t results (Admission n) = admit_client n w
+give_answer w t results (Ending n) = close_ended n w t.header.zxid (pending_close w.clients.pending n)
+give_answer w t results (Reply n write) = answer_write_as n w t results write.kind
 
--- A transaction that was applied, with this error, answers the client that it concerns.
-abbrev pub answer_txn : World → Txn → ℤ → StepResult World
-answer_txn w t err = give_answer w t err (answer_due w.clients t)
+-- A transaction that was applied, with these results, answers the client that it concerns.
+abbrev pub answer_txn : World → Txn → TxnResults → StepResult World
+answer_txn w t results = give_answer w t results (answer_due w.clients t)
 
 -- What the transaction brings, if there is one.
 abbrev pub due_of : Clients → Option Txn → Due
@@ -208,13 +210,13 @@ due_of c (Some t) = answer_due c t
 abbrev pub due_in_log : World → ℕ → Due
 due_in_log w place = due_of w.clients (slice_get w.replica.learner.log place)
 
-abbrev pub answer_optional_txn : World → ℤ → Option Txn → StepResult World
-answer_optional_txn w err None = no_output w
-answer_optional_txn w err (Some t) = answer_txn w t err
+abbrev pub answer_optional_txn : World → TxnResults → Option Txn → StepResult World
+answer_optional_txn w results None = no_output w
+answer_optional_txn w results (Some t) = answer_txn w t results
 
--- The transaction at this place of the log was applied, with this error.
-abbrev pub answer_applied_txn : World → ℕ → ℤ → StepResult World
-answer_applied_txn w place err = answer_optional_txn w err (slice_get w.replica.learner.log place)
+-- The transaction at this place of the log was applied, with these results.
+abbrev pub answer_applied_txn : World → ℕ → TxnResults → StepResult World
+answer_applied_txn w place results = answer_optional_txn w results (slice_get w.replica.learner.log place)
 
 -- ---- a sync
 

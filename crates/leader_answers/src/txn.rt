@@ -10,6 +10,7 @@ use crate::admitting::admit_client;
 use crate::due::{Due, answer_due};
 use crate::ending::close_ended;
 use crate::writing::{answer_write, has_moved, reply_to_write};
+use data_tree::TxnResults;
 use std::alloc::Global;
 use txn_codec::Txn;
 use values::NoMemory;
@@ -33,8 +34,7 @@ pub fn due_in_log(world: &World, place: usize) -> Due
     }
 }
 
-/// The transaction at this place of the log was applied, with ZooKeeper's error code of it, 0 for success, and brings
-/// `due`. If it admits a client, ends the session of one or was made of a write that waits here, that client is
+/// The transaction at this place of the log was applied, with these results, and brings `due`. If it admits a client, ends the session of one or was made of a write that waits here, that client is
 /// answered, and so are its later requests up to the next that waits for the leader. A write that the leader refuses since
 /// the session has moved to another server closes its connection.
 ///
@@ -44,10 +44,10 @@ pub fn answer_applied_txn(
     stage: &mut Stage,
     place: usize,
     due: Due,
-    error: i32,
+    results: &TxnResults,
 ) -> Result<(), NoMemory>
     requires { due ≡ due_in_log stage.old.after place }
-    ensures { MakesStep result stage.old (λ w. answer_applied_txn w place error) stage.new }
+    ensures { MakesStep result stage.old (λ w. answer_applied_txn w place results.now) stage.new }
 {
     let Some(txn) = txn_at(&stage.world, place) else {
         return Ok(());
@@ -60,11 +60,11 @@ pub fn answer_applied_txn(
             close_ended(alloc, number, stage, header.zxid)
         }
         Due::Reply(number, write) => {
-            if has_moved(&stage.world, error) {
+            if has_moved(&stage.world, results) {
                 return stage.close_client(number);
             }
             let header = txn.header;
-            let seen = reply_to_write(alloc, &stage.world, write.kind, txn, error)?;
+            let seen = reply_to_write(alloc, &stage.world, write.kind, txn, results)?;
             answer_write(alloc, number, stage, write.place, header, seen)
         }
     }

@@ -12,6 +12,7 @@ ghost use Rattle.world.specs.Results.{MakesStep};
 
 use crate::ready::answer_front;
 use client_records::codes::SESSION_MOVED;
+use data_tree::TxnResults;
 use forwarding::WriteKind;
 use read_processor::Look;
 use std::alloc::Global;
@@ -29,10 +30,10 @@ fn remove_write(number: u64, world: &mut World, place: usize)
 }
 
 /// Whether the leader has refused a write, since another server has the session by now.
-pub(crate) fn has_moved(world: &World, error: i32) -> bool
-    ensures { result ≡ has_moved world.now error }
+pub(crate) fn has_moved(world: &World, results: &TxnResults) -> bool
+    ensures { result ≡ has_moved world.now results.now }
 {
-    world.settings.dialect.reads().moved_sessions && error == SESSION_MOVED
+    world.settings.dialect.reads().moved_sessions && results.err == SESSION_MOVED
 }
 
 /// What the reply to the transaction's write shows.
@@ -41,11 +42,11 @@ pub(crate) fn reply_to_write(
     world: &World,
     kind: WriteKind,
     txn: &Txn,
-    error: i32,
+    results: &TxnResults,
 ) -> Result<Look, NoMemory>
-    ensures { IfOk result (λ seen. seen ≡ write_look world.now.replica.tree kind txn.now.body error) }
+    ensures { IfOk result (λ seen. seen ≡ write_look world.now.replica.tree kind txn.now.body results.now) }
 {
-    write_look(alloc, world.replica.tree(), kind, &txn.body, error)
+    write_look(alloc, world.replica.tree(), kind, &txn.body, results)
 }
 
 /// Answers the oldest write of a connection, which stands at this place and which the transaction of this header

@@ -1,14 +1,14 @@
 -- The worked steps, by evaluation.
 use Rattle.std.proofs.Common.{refl}
 use Rattle.jute.specs.Format.{number_bytes}
-use Rattle.jute.specs.Owned.{id_format}
+use Rattle.jute.specs.Owned.{id_in}
 use Rattle.quorum_packet.specs.Kinds.{kind_of}
 use Rattle.quorum_packet.specs.Packet.{packet_format}
 use Rattle.learner_sync.specs.Records.{learner_info}
 use Rattle.learner_sync.specs.Rows.{WorkedRows}
 
 pub worked_rows : WorkedRows
-unfolding kind_of learner_info number_bytes id_format packet_format
+unfolding kind_of learner_info number_bytes id_in packet_format
 worked_rows = record {
   introduced = refl;
   same_epoch = refl;

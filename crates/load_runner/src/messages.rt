@@ -71,7 +71,7 @@ pub fn watched_path(alloc: Global, connection: u64, watch: u32) -> Result<Path>
 }
 
 /// A create of a node that every client may change.
-#[tactic(auto, unfolding(jute::specs::Owned::acl_format, jute::specs::Owned::id_format))]
+#[tactic(auto, unfolding(jute::specs::Owned::acl_in, jute::specs::Owned::id_in))]
 pub fn create(alloc: Global, path: Path, content: &[u8]) -> Result<Body>
     requires { length path ≤ PATH_LIMIT }
     ensures { IfOk result body_format.Writable }

@@ -17,7 +17,7 @@ use Rattle.forwarding.specs.Pending.{nothing_pending, queue_in, queue_of, settle
 use Rattle.replica.specs.Taking.{ItemEffect}
 use Rattle.watch_manager.specs.Pairs.{watch_cmp}
 use Rattle.watch_manager.specs.Watches.{fire}
-use Rattle.watch_manager.specs.Laws.{AllPass, AllLastingPass}
+use Rattle.watch_manager.specs.Laws.{AllPass}
 use Rattle.world.specs.declared.world.Settings.{Settings}
 use Rattle.world.specs.World.{OpenConnection, World}
 use Rattle.world.specs.Steps.{no_output}
@@ -78,6 +78,7 @@ module _ (laws : LowerLaws) where
     closes = λ w a. tt;
     sends = λ w bytes. tt;
     watches = λ w watch a. tt;
+    unwatches = λ w kind path a. tt;
     auths = λ w scheme bytes a. tt;
   }
 
@@ -165,7 +166,7 @@ module _ (laws : LowerLaws) where
         (session_settings_of settings.server_id settings.timeouts (passwords_of settings.dialect settings.secret)
         settings.first_counter) fits begins;
     joined = λ n has. absurd (true≢false (sym has ∙ ap is_some (finmap.get-empty nat_cmp n)));
-    watching = (none, none, none_lasting);
+    watching = (none, none, (none, none));
     pending = laws.queued.starts;
     waiting = none_waits (λ n. is_open n (no_clients settings));
     connecting = no_connect (no_clients settings).sessions;
@@ -173,9 +174,6 @@ module _ (laws : LowerLaws) where
     where
       none : AllPass (λ n. is_open n (no_clients settings)) set.empty
       none path n has = absurd (true≢false (sym has ∙ set.contains-empty watch_cmp (path, n)))
-
-      none_lasting : AllLastingPass (λ n. is_open n (no_clients settings)) finmap.empty
-      none_lasting path n has = absurd (true≢false (sym has ∙ ap is_some (finmap.get-empty watch_cmp (path, n))))
 
   -- The first connection opens, is named a session, and has it then.
   primed_agrees : (settings : Settings) → IsTrue (is_server_id settings.server_id)

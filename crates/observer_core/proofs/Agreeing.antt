@@ -23,6 +23,7 @@ use Rattle.forwarding.specs.Agreement.{PendingAgrees}
 use Rattle.forwarding.specs.Laws.{PendingAgreementIsKept}
 use Rattle.watch_manager.specs.Pairs.{same_connection}
 use Rattle.watch_manager.specs.Watching.{WatchTables}
+use Rattle.watch_manager.specs.Kinds.{without_watch}
 use Rattle.watch_manager.specs.Laws.{WatchersPass, OnlyWatchersAreTold, DroppedWatchesNothing}
 use Rattle.world.specs.World.{OpenConnection, Clients, World}
 use Rattle.world.specs.Clients.{is_open, with_connection, without_client, without_clients}
@@ -32,7 +33,7 @@ use Rattle.observer_core.specs.Agreement.{ClientsAgree, OneSessionEach}
 use Rattle.forwarding.proofs.Dropping.{none_waits as none_waits_then}
 use Rattle.observer_core.proofs.Walking.{IsOpen, HasNone, NoConnect, IsWith, IsGround, given, with_connect}
 use Rattle.observer_core.proofs.Answered.{unqueued, waits_busy}
-use Rattle.observer_core.proofs.Passing.{KeysPass, inserted_passes, removed_passes, closed_passes, one_closed_passes, auth_passes, given_passes, auth_none, closed_none, given_none, fewer_without, put_passes, settled_passes, watchers_pass, watched_passes}
+use Rattle.observer_core.proofs.Passing.{KeysPass, inserted_passes, removed_passes, closed_passes, one_closed_passes, auth_passes, given_passes, auth_none, closed_none, given_none, fewer_without, put_passes, settled_passes, watchers_pass, watched_passes, unwatched_passes}
 
 abbrev pub Agreeing : World → Type 0
 Agreeing w = ClientsAgree w.clients
@@ -327,6 +328,9 @@ module _ (laws : LowerLaws) where
       watches = λ w watch here a.
           watches_agree w (with_watch n w.clients.watches watch)
           (watched_passes (λ m. is_open m w.clients) n (here tt) w.clients.watches watch a.watching) a;
+      unwatches = λ w kind path a.
+          watches_agree w (without_watch kind n path w.clients.watches)
+          (unwatched_passes (λ m. is_open m w.clients) kind n path w.clients.watches a.watching) a;
       auths = λ w scheme bytes here a. auth_agrees w scheme bytes (here tt) a;
       touches = touched_agrees;
       opens = λ w k a. opened_agrees n k w.clients a;

@@ -5,6 +5,7 @@ use Rattle.std.proofs.lemmas.Bool.{cond_both}
 use Rattle.std.specs.FinMap as finmap
 use mathlib.Core.Bool.{true≢false}
 use Rattle.values.specs.declared.fault.Fault.{Fault}
+use Rattle.data_tree.specs.declared.outcome.TxnResults.{TxnResults}
 use Rattle.txn_codec.specs.declared.txn.Txn.{Txn}
 use Rattle.quorum_packet.specs.declared.packet.QuorumPacket.{QuorumPacket}
 use Rattle.client_frames.specs.declared.call.Call.{Call}
@@ -225,23 +226,23 @@ module _ (n : ℕ) (Strict : Type 0) (A : World → Type 0) (Q : Steps) (ground 
     pub front_makes : (w : World) → A w → Makes A Q w (answer_front n w)
     front_makes w a = up_to_makes pending_limit w a
 
-    replied_makes : (w : World) (t : Txn) (err : ℤ) (kind : WriteKind) → A w
-        → Makes A Q w (send_write_reply n w t err kind)
-    replied_makes w t err kind a =
+    replied_makes : (w : World) (t : Txn) (results : TxnResults) (kind : WriteKind) → A w
+        → Makes A Q w (send_write_reply n w t results kind)
+    replied_makes w t results kind a =
         let xid = t.header.cxid in
         let v = with_pending w (answer_write w.clients.pending n xid (txn_number t)).after in
-        let frame = reply_frame xid t.header.zxid (write_look w.replica.tree kind t.body err) in
+        let frame = reply_frame xid t.header.zxid (write_look w.replica.tree kind t.body results) in
         then_makes n Strict A Q ground r w (no_output v)
         (λ u. and_then (send_or_close n u frame) (answer_front n))
         (record { keeps = more.answers w xid (txn_number t) a; is = s.answers w xid (txn_number t) a })
         (λ b. then_makes n Strict A Q ground r v (send_or_close n v frame) (answer_front n)
         (send_makes n Strict A Q ground r v frame b) (front_makes (send_or_close n v frame).after))
 
-    pub write_makes : (w : World) (t : Txn) (err : ℤ) (kind : WriteKind) → A w
-        → Makes A Q w (answer_write_as n w t err kind)
-    write_makes w t err kind a =
-        cond_both (has_moved w err) _ _ (Makes A Q w) (λ _. close_makes n Strict A Q ground r w a)
-        (λ _. replied_makes w t err kind a)
+    pub write_makes : (w : World) (t : Txn) (results : TxnResults) (kind : WriteKind) → A w
+        → Makes A Q w (answer_write_as n w t results kind)
+    write_makes w t results kind a =
+        cond_both (has_moved w results) _ _ (Makes A Q w) (λ _. close_makes n Strict A Q ground r w a)
+        (λ _. replied_makes w t results kind a)
 
 -- ---- what the leader's news answer
 
@@ -268,20 +269,20 @@ module _ (Strict : Type 0) (A : World → Type 0) (Q : Steps) (s : HoldsOfAll St
       admit_makes n Strict A Q (s.ground n) (s.replies n) (λ session. Unit {0}) (s.calls n) (λ w session. Unit {0})
       (s.connects n).gives (s.answer_ground n) (s.answers n).drops w (λ connect e. (tt, tt)) a
 
-  due_makes : (w : World) (t : Txn) (err : ℤ) (due : Due) → A w → Makes A Q w (give_answer w t err due)
-  due_makes w t err dues.Nothing a = nothing_makes w a
-  due_makes w t err (dues.Admission n) a = due_admits w n a
-  due_makes w t err (dues.Ending n) a =
+  due_makes : (w : World) (t : Txn) (results : TxnResults) (due : Due) → A w → Makes A Q w (give_answer w t results due)
+  due_makes w t results dues.Nothing a = nothing_makes w a
+  due_makes w t results (dues.Admission n) a = due_admits w n a
+  due_makes w t results (dues.Ending n) a =
       ended_makes n Strict A Q (s.ground n) (s.replies n) w t.header.zxid (pending_close w.clients.pending n) a
-  due_makes w t err (dues.Reply n write) a =
-      write_makes n Strict A Q (s.ground n) (s.replies n) (s.answer_ground n) (s.answers n) w t err write.kind a
+  due_makes w t results (dues.Reply n write) a =
+      write_makes n Strict A Q (s.ground n) (s.replies n) (s.answer_ground n) (s.answers n) w t results write.kind a
 
-  pub txn_makes : (w : World) (t : Txn) (err : ℤ) → A w → Makes A Q w (answer_txn w t err)
-  txn_makes w t err a = due_makes w t err (answer_due w.clients t) a
+  pub txn_makes : (w : World) (t : Txn) (results : TxnResults) → A w → Makes A Q w (answer_txn w t results)
+  txn_makes w t results a = due_makes w t results (answer_due w.clients t) a
 
-  optional_makes : (w : World) (err : ℤ) (o : Option Txn) → A w → Makes A Q w (answer_optional_txn w err o)
-  optional_makes w err None a = nothing_makes w a
-  optional_makes w err (Some t) a = txn_makes w t err a
+  optional_makes : (w : World) (results : TxnResults) (o : Option Txn) → A w → Makes A Q w (answer_optional_txn w results o)
+  optional_makes w results None a = nothing_makes w a
+  optional_makes w results (Some t) a = txn_makes w t results a
 
   sync_makes : (w : World) → A w → Makes A Q w (answer_sync w)
   sync_makes w a = then_makes 0 Strict A Q (s.ground 0) (s.replies 0) w (no_output v) (λ u. answer_settled u settled)
@@ -309,7 +310,7 @@ module _ (Strict : Type 0) (A : World → Type 0) (Q : Steps) (s : HoldsOfAll St
   news_make None w a = nothing_makes w a
   news_make (Some (news.Ping ping)) w a =
       record { keeps = s.tells_ground w (timeout_in w) a; is = s.tells w ping a }
-  news_make (Some (news.Applied place err)) w a = optional_makes w err (slice_get w.replica.learner.log place) a
+  news_make (Some (news.Applied place results)) w a = optional_makes w results (slice_get w.replica.learner.log place) a
   news_make (Some news.SyncSettled) w a = sync_makes w a
   news_make (Some (news.Revalidated session lives)) w a =
       claim_makes w (awaiting w.clients.pending session Claimed) lives a

@@ -11,6 +11,10 @@ use Rattle.sessions.specs.Sessions.{ids_of, connection_of, ConnectResult, give_s
 use Rattle.sessions.specs.Agreement.{OtherConnectionsStay}
 use Rattle.sessions.specs.declared.request.SessionResponse.{SessionResponse}
 use Rattle.watch_manager.specs.Watching.{WatchTables}
+use Rattle.watch_manager.specs.Kinds.{without_watch}
+use Rattle.watch_manager.specs.declared.kind.WatchKind.{WatchKind}
+use Rattle.watch_manager.specs.declared.kind.WatchKind.TheVariants as kinds
+use Rattle.watch_manager.specs.declared.mode.WatchMode.TheVariants.{Persistent, Recursive}
 use Rattle.watch_manager.specs.Laws.{OthersKeepWatches}
 use Rattle.forwarding.specs.declared.request.PendingConnect.{PendingConnect}
 use Rattle.forwarding.specs.State.{PendingTable}
@@ -26,7 +30,7 @@ use Rattle.world.specs.Steps.{StepResult, no_output, and_then}
 use Rattle.world.specs.Clients.{idle_connection, is_open, with_connection, without_client}
 use Rattle.world.specs.Sending.{close_client, with_watches, with_sessions, close_client_if_some, with_pending}
 use Rattle.client_service.specs.Serve.{with_watch, touched_as, send_connect_response, ask_about_session, forward_frame, serve_as, with_waiting_bytes, wait_if_heard, open_client, end_client}
-use Rattle.observer_core.specs.Apart.{HasOrAsks, ConcernsOnly, IsUntouched, IsApart}
+use Rattle.observer_core.specs.Apart.{HasOrAsks, ConcernsOnly, HasSameWatches, IsUntouched, IsApart}
 use Rattle.world.proofs.NatMaps.{get-kept, get-beside}
 use Rattle.observer_core.proofs.Walking.{HoldsOfReplies, HoldsOfCalls, given, with_connect, new_connect, claiming, asked_for, serve_as_makes, greet_makes}
 use Rattle.observer_core.proofs.Answered.{unqueued, HoldsOfAnswers}
@@ -53,13 +57,19 @@ module _ {A : Type 0} (P : A → Type 0) where
 waits_on : (k : ℕ) (p : PendingTable) → Stays k p p
 waits_on k p = record { queue = refl; places = refl }
 
+same_watches : (k : ℕ) (w : WatchTables) → HasSameWatches k w w
+same_watches k w = record {
+  data_watches = λ path. refl;
+  child = λ path. refl;
+  persistent = λ path. refl;
+  recursive = λ path. refl;
+}
+
 untouched : (k : ℕ) (c : Clients) → IsUntouched k c c
 untouched k c = record {
   rest = refl;
   session = refl;
-  data_watches = λ path. refl;
-  child = λ path. refl;
-  lasting = λ path. refl;
+  watches = same_watches k c.watches;
   waits = waits_on k c.pending;
 }
 
@@ -67,9 +77,12 @@ untouched_on : (k : ℕ) (c d e : Clients) → IsUntouched k c d → IsUntouched
 untouched_on k c d e first second = record {
   rest = second.rest ∙ first.rest;
   session = second.session ∙ first.session;
-  data_watches = λ path. second.data_watches path ∙ first.data_watches path;
-  child = λ path. second.child path ∙ first.child path;
-  lasting = λ path. second.lasting path ∙ first.lasting path;
+  watches = record {
+    data_watches = λ path. second.watches.data_watches path ∙ first.watches.data_watches path;
+    child = λ path. second.watches.child path ∙ first.watches.child path;
+    persistent = λ path. second.watches.persistent path ∙ first.watches.persistent path;
+    recursive = λ path. second.watches.recursive path ∙ first.watches.recursive path;
+  };
   waits = record {
     queue = second.waits.queue ∙ first.waits.queue;
     places = second.waits.places ∙ first.waits.places;
@@ -81,9 +94,7 @@ pub waits_alone : (k : ℕ) (w : World) (p : PendingTable) → Stays k w.clients
 waits_alone k w p waits = record {
   rest = refl;
   session = refl;
-  data_watches = λ path. refl;
-  child = λ path. refl;
-  lasting = λ path. refl;
+  watches = same_watches k w.clients.watches;
   waits = waits;
 }
 
@@ -93,9 +104,7 @@ connection_alone n w connection k other =
     record {
       rest = get-beside w.clients.connections n k connection other;
       session = refl;
-      data_watches = λ path. refl;
-      child = λ path. refl;
-      lasting = λ path. refl;
+      watches = same_watches k w.clients.watches;
       waits = waits_on k w.clients.pending;
     }
 
@@ -104,9 +113,12 @@ without_alone : (stay : OtherConnectionsStay) (keep_watches : OthersKeepWatches)
 without_alone stay keep_watches queues n c k other = record {
   rest = get-kept c.connections n k other;
   session = stay.closes c.sessions n k other;
-  data_watches = λ path. keep_watches.drops c.watches.data_watches n path k other;
-  child = λ path. keep_watches.drops c.watches.child n path k other;
-  lasting = λ path. keep_watches.drops_lasting c.watches.lasting n path k other;
+  watches = record {
+    data_watches = λ path. keep_watches.drops c.watches.data_watches n path k other;
+    child = λ path. keep_watches.drops c.watches.child n path k other;
+    persistent = λ path. keep_watches.drops c.watches.lasting.persistent n path k other;
+    recursive = λ path. keep_watches.drops c.watches.lasting.recursive n path k other;
+  };
   waits = queues.drops c.pending n k other;
 }
 
@@ -145,28 +157,84 @@ module _ (own : ℤ → Type 0) (left : ℕ → Type 0) where
 
     -- ---- watches
 
-    abbrev SameWatches : ℕ → WatchTables → WatchTables → Type 0
-    SameWatches k before after = (path : List ℕ)
-        → (set.contains after.data_watches (path, k) ≡ set.contains before.data_watches (path, k))
-        × (set.contains after.child (path, k) ≡ set.contains before.child (path, k))
-        × (finmap.get after.lasting (path, k) ≡ finmap.get before.lasting (path, k))
+    watched_same : (n k : ℕ) → k ≢ n → (w : WatchTables) (watch : Watch) → HasSameWatches k w (with_watch n w watch)
+    watched_same n k other w (tables.Data p) = record {
+      data_watches = λ path. keep_watches.sets w.data_watches p n path k other;
+      child = λ path. refl;
+      persistent = λ path. refl;
+      recursive = λ path. refl;
+    }
+    watched_same n k other w (tables.Child p) = record {
+      data_watches = λ path. refl;
+      child = λ path. keep_watches.sets w.child p n path k other;
+      persistent = λ path. refl;
+      recursive = λ path. refl;
+    }
+    watched_same n k other w (tables.Lasting p Persistent) = record {
+      data_watches = λ path. refl;
+      child = λ path. refl;
+      persistent = λ path. keep_watches.sets w.lasting.persistent p n path k other;
+      recursive = λ path. refl;
+    }
+    watched_same n k other w (tables.Lasting p Recursive) = record {
+      data_watches = λ path. refl;
+      child = λ path. refl;
+      persistent = λ path. refl;
+      recursive = λ path. keep_watches.sets w.lasting.recursive p n path k other;
+    }
+    watched_same n k other w (tables.LastingAlone p Persistent) = record {
+      data_watches = λ path. refl;
+      child = λ path. refl;
+      persistent = λ path. keep_watches.sets w.lasting.persistent p n path k other;
+      recursive = λ path. keep_watches.removes w.lasting.recursive p n path k other;
+    }
+    watched_same n k other w (tables.LastingAlone p Recursive) = record {
+      data_watches = λ path. refl;
+      child = λ path. refl;
+      persistent = λ path. keep_watches.removes w.lasting.persistent p n path k other;
+      recursive = λ path. keep_watches.sets w.lasting.recursive p n path k other;
+    }
 
-    watched_same : (n k : ℕ) → k ≢ n → (w : WatchTables) (watch : Watch) → SameWatches k w (with_watch n w watch)
-    watched_same n k other w (tables.Data p) path = (keep_watches.sets w.data_watches p n path k other, refl, refl)
-    watched_same n k other w (tables.Child p) path =
-        (refl, keep_watches.sets w.child p n path k other, refl)
-    watched_same n k other w (tables.Lasting p mode) path =
-        (refl, refl, keep_watches.sets_lasting w.lasting p n mode path k other)
+    unwatched_same : (n k : ℕ) → k ≢ n → (w : WatchTables) (kind : WatchKind) (p : List ℕ)
+        → HasSameWatches k w (without_watch kind n p w)
+    unwatched_same n k other w kinds.Child p = record {
+      data_watches = λ path. refl;
+      child = λ path. keep_watches.removes w.child p n path k other;
+      persistent = λ path. refl;
+      recursive = λ path. refl;
+    }
+    unwatched_same n k other w kinds.Data p = record {
+      data_watches = λ path. keep_watches.removes w.data_watches p n path k other;
+      child = λ path. refl;
+      persistent = λ path. refl;
+      recursive = λ path. refl;
+    }
+    unwatched_same n k other w kinds.Persistent p = record {
+      data_watches = λ path. refl;
+      child = λ path. refl;
+      persistent = λ path. keep_watches.removes w.lasting.persistent p n path k other;
+      recursive = λ path. refl;
+    }
+    unwatched_same n k other w kinds.Recursive p = record {
+      data_watches = λ path. refl;
+      child = λ path. refl;
+      persistent = λ path. refl;
+      recursive = λ path. keep_watches.removes w.lasting.recursive p n path k other;
+    }
+    unwatched_same n k other w kinds.Any p = record {
+      data_watches = λ path. keep_watches.removes w.data_watches p n path k other;
+      child = λ path. keep_watches.removes w.child p n path k other;
+      persistent = λ path. keep_watches.removes w.lasting.persistent p n path k other;
+      recursive = λ path. keep_watches.removes w.lasting.recursive p n path k other;
+    }
 
     watching_apart : (n : ℕ) (w : World) (watches : WatchTables)
-        → ((k : ℕ) → k ≢ n → SameWatches k w.clients.watches watches)
+        → ((k : ℕ) → k ≢ n → HasSameWatches k w.clients.watches watches)
         → IsApart n own left w (no_output (with_watches w watches))
     watching_apart n w watches same = changes n w (with_watches w watches).clients (λ k other. record {
       rest = refl;
       session = refl;
-      data_watches = λ path. (same k other path).0;
-      child = λ path. (same k other path).1;
-      lasting = λ path. (same k other path).2;
+      watches = same k other;
       waits = waits_on k w.clients.pending;
     })
 
@@ -178,9 +246,7 @@ module _ (own : ℤ → Type 0) (left : ℕ → Type 0) where
     sessions_apart n w s same = changes n w (with_sessions w s).clients (λ k other. record {
       rest = refl;
       session = same k other;
-      data_watches = λ path. refl;
-      child = λ path. refl;
-      lasting = λ path. refl;
+      watches = same_watches k w.clients.watches;
       waits = waits_on k w.clients.pending;
     })
 
@@ -211,6 +277,9 @@ module _ (own : ℤ → Type 0) (left : ℕ → Type 0) where
       watches = λ w watch a.
           watching_apart n w (with_watch n w.clients.watches watch)
           (λ k other. watched_same n k other w.clients.watches watch);
+      unwatches = λ w kind path a.
+          watching_apart n w (without_watch kind n path w.clients.watches)
+          (λ k other. unwatched_same n k other w.clients.watches kind path);
       auths = λ w scheme bytes a.
           sessions_apart n w (add_auth w.clients.sessions n scheme bytes).after
           (λ k other. stay.auths w.clients.sessions n scheme bytes k other);
@@ -257,9 +326,7 @@ module _ (own : ℤ → Type 0) (left : ℕ → Type 0) where
       drops = λ w a. changes n w (unqueued n w).clients (λ k other. record {
         rest = refl;
         session = stay.closes w.clients.sessions n k other;
-        data_watches = λ path. refl;
-        child = λ path. refl;
-        lasting = λ path. refl;
+        watches = same_watches k w.clients.watches;
         waits = queues.drops w.clients.pending n k other;
       });
     }
@@ -297,9 +364,7 @@ module _ (own : ℤ → Type 0) (left : ℕ → Type 0) where
         alone k other older = record {
           rest = refl;
           session = stay.admits w.clients.sessions n session time_out k other older;
-          data_watches = λ path. refl;
-          child = λ path. refl;
-          lasting = λ path. refl;
+          watches = same_watches k w.clients.watches;
           waits = waits_on k w.clients.pending;
         }
 

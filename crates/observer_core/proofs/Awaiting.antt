@@ -8,6 +8,7 @@ use Rattle.std.proofs.lemmas.Map.Lookups.{exact_unsigned}
 use Rattle.std.proofs.lemmas.Map.Views.{tells_apart}
 use Rattle.std.specs.FinMap as finmap
 use mathlib.Core.Bool.{true≢false}
+use Rattle.data_tree.specs.declared.outcome.TxnResults.{TxnResults}
 use Rattle.txn_codec.specs.declared.txn.Txn.{Txn}
 use Rattle.replica.specs.declared.item_outcome.LeaderNews.{LeaderNews}
 use Rattle.replica.specs.declared.item_outcome.LeaderNews.TheVariants as news
@@ -91,6 +92,7 @@ replies_less n = record {
   closes = λ w a. dropped_less w.clients.pending n;
   sends = λ w bytes. same_less w;
   watches = λ w watch a. same_less w;
+  unwatches = λ w kind path a. same_less w;
   auths = λ w scheme bytes a. same_less w;
 }
 
@@ -217,6 +219,7 @@ replies_await n = record {
   closes = λ w agrees a. less_awaits w (record w { clients = without_client n w.clients }) (dropped_less w.clients.pending n) a;
   sends = λ w bytes a. a;
   watches = λ w watch agrees a. a;
+  unwatches = λ w kind path agrees a. a;
   auths = λ w scheme bytes agrees a. a;
 }
 
@@ -295,13 +298,13 @@ module _ (laws : LowerLaws) (waits : (s : PendingTable) (n : ℕ) → (take_read
       → length (queue_of w.clients.pending n) ≤ pending_limit → OnlyLeaderIsAwaited (answer_front n w).after
   front_awaits n w others within = up_to_awaits n pending_limit w others within
 
-  replied_awaits : (n : ℕ) (w : World) (t : Txn) (err : ℤ) (kind : WriteKind) → Agreeing w → OnlyLeaderIsAwaited w
-      → OnlyLeaderIsAwaited (send_write_reply n w t err kind).after
-  replied_awaits n w t err kind agrees a =
+  replied_awaits : (n : ℕ) (w : World) (t : Txn) (results : TxnResults) (kind : WriteKind) → Agreeing w → OnlyLeaderIsAwaited w
+      → OnlyLeaderIsAwaited (send_write_reply n w t results kind).after
+  replied_awaits n w t results kind agrees a =
       let p = w.clients.pending in
       let xid = t.header.cxid in
       let v = with_pending w (answer_write p n xid (txn_number t)).after in
-      let frame = reply_frame xid t.header.zxid (write_look w.replica.tree kind t.body err) in
+      let frame = reply_frame xid t.header.zxid (write_look w.replica.tree kind t.body results) in
       let sent = (send_or_close n v frame).after in
       let less = send_less n v frame in
       let others : OthersAwait n v.clients.pending =
@@ -310,12 +313,12 @@ module _ (laws : LowerLaws) (waits : (s : PendingTable) (n : ℕ) → (take_read
       (less_length v sent n pending_limit less
       ((laws.queued.answers p n xid (txn_number t) agrees.pending).queues n).within_limit)
 
-  write_awaits : (n : ℕ) (w : World) (t : Txn) (err : ℤ) (kind : WriteKind) → Agreeing w → OnlyLeaderIsAwaited w
-      → OnlyLeaderIsAwaited (answer_write_as n w t err kind).after
-  write_awaits n w t err kind agrees a =
-      cond_both (has_moved w err) _ _ (λ (h : StepResult World). OnlyLeaderIsAwaited h.after)
+  write_awaits : (n : ℕ) (w : World) (t : Txn) (results : TxnResults) (kind : WriteKind) → Agreeing w → OnlyLeaderIsAwaited w
+      → OnlyLeaderIsAwaited (answer_write_as n w t results kind).after
+  write_awaits n w t results kind agrees a =
+      cond_both (has_moved w results) _ _ (λ (h : StepResult World). OnlyLeaderIsAwaited h.after)
       (λ _. less_awaits w (close_client n w).after (dropped_less w.clients.pending n) a)
-      (λ _. replied_awaits n w t err kind agrees a)
+      (λ _. replied_awaits n w t results kind agrees a)
 
   -- Where a connection is admitted, its connect is taken out with all that waited after it.
   admit_awaits : (n : ℕ) (w : World) → Agreeing w → OnlyLeaderIsAwaited w
@@ -325,19 +328,19 @@ module _ (laws : LowerLaws) (waits : (s : PendingTable) (n : ℕ) → (take_read
       (λ session. Unit {0}) (calls_await n) (λ w session. Unit {0}) (connects_await n).gives (agreeing_answers laws n)
       (λ v agrees a. less_awaits v (unqueued n v) (dropped_less v.clients.pending n) a) w (λ connect e. (tt, tt)) agrees).is a
 
-  due_awaits : (w : World) (t : Txn) (err : ℤ) (due : Due) → Agreeing w → OnlyLeaderIsAwaited w
-      → OnlyLeaderIsAwaited (give_answer w t err due).after
-  due_awaits w t err dues.Nothing agrees a = a
-  due_awaits w t err (dues.Admission n) agrees a = admit_awaits n w agrees a
-  due_awaits w t err (dues.Ending n) agrees a =
+  due_awaits : (w : World) (t : Txn) (results : TxnResults) (due : Due) → Agreeing w → OnlyLeaderIsAwaited w
+      → OnlyLeaderIsAwaited (give_answer w t results due).after
+  due_awaits w t results dues.Nothing agrees a = a
+  due_awaits w t results (dues.Admission n) agrees a = admit_awaits n w agrees a
+  due_awaits w t results (dues.Ending n) agrees a =
       (ended_makes n (Unit {0}) Agreeing KeepsAwaiting (agreeing_ground laws n) (replies_await n) w t.header.zxid
       (pending_close w.clients.pending n) agrees).is a
-  due_awaits w t err (dues.Reply n write) agrees a = write_awaits n w t err write.kind agrees a
+  due_awaits w t results (dues.Reply n write) agrees a = write_awaits n w t results write.kind agrees a
 
-  optional_awaits : (w : World) (err : ℤ) (o : Option Txn) → Agreeing w → OnlyLeaderIsAwaited w
-      → OnlyLeaderIsAwaited (answer_optional_txn w err o).after
-  optional_awaits w err None agrees a = a
-  optional_awaits w err (Some t) agrees a = due_awaits w t err (answer_due w.clients t) agrees a
+  optional_awaits : (w : World) (results : TxnResults) (o : Option Txn) → Agreeing w → OnlyLeaderIsAwaited w
+      → OnlyLeaderIsAwaited (answer_optional_txn w results o).after
+  optional_awaits w results None agrees a = a
+  optional_awaits w results (Some t) agrees a = due_awaits w t results (answer_due w.clients t) agrees a
 
   claim_awaits : (w : World) (o : Option ℕ) (lives : Bool) → Agreeing w → OnlyLeaderIsAwaited w
       → OnlyLeaderIsAwaited (answer_claim w o lives).after
@@ -362,8 +365,8 @@ module _ (laws : LowerLaws) (waits : (s : PendingTable) (n : ℕ) → (take_read
       → OnlyLeaderIsAwaited (answer_news o w).after
   news_awaits None w agrees a = a
   news_awaits (Some (news.Ping ping)) w agrees a = a
-  news_awaits (Some (news.Applied place err)) w agrees a =
-      optional_awaits w err (slice_get w.replica.learner.log place) agrees a
+  news_awaits (Some (news.Applied place results)) w agrees a =
+      optional_awaits w results (slice_get w.replica.learner.log place) agrees a
   news_awaits (Some (news.Revalidated session lives)) w agrees a =
       claim_awaits w (awaiting w.clients.pending session Claimed) lives agrees a
   news_awaits (Some news.SyncSettled) w agrees a =

@@ -12,6 +12,7 @@ use Rattle.values.specs.Gains.{Gains, Puts}
 use Rattle.values.proofs.Gaining.{gains_first}
 use Rattle.jute.specs.Format.{◌>>=◌}
 use Rattle.jute.specs.Stream.{Items, with_first}
+use Rattle.data_tree.specs.declared.outcome.TxnResults.{TxnResults}
 use Rattle.txn_codec.specs.declared.txn.Txn.{Txn}
 use Rattle.data_tree.specs.State.{State}
 use Rattle.data_tree.specs.Meaning.{effect_of_txn, answer_of, state_after, outcomes_of_txns}
@@ -198,10 +199,10 @@ last_applied w txns t =
     ∙ ap (λ (h : StepResult World). Some (answer_of (effect_of_txn h.after.replica.tree t))) (sym (in_turn w txns))
 
 -- A transaction that concerns no client has no answer.
-pub no_answer : (w : World) (t : Txn) (err : ℤ) → lets_answer w.clients t ≡ false → answer_txn w t err ≡ no_output w
-no_answer w t err none = by (answer_due w.clients t) none
+pub no_answer : (w : World) (t : Txn) (results : TxnResults) → lets_answer w.clients t ≡ false → answer_txn w t results ≡ no_output w
+no_answer w t results none = by (answer_due w.clients t) none
   where
-    by : (due : Due) → is_due due ≡ false → give_answer w t err due ≡ no_output w
+    by : (due : Due) → is_due due ≡ false → give_answer w t results due ≡ no_output w
     by Nothing e = refl
     by (Admission n) e = absurd (true≢false e)
     by (Ending n) e = absurd (true≢false e)
@@ -235,7 +236,7 @@ module _ (loading : Loading) (l : Learner) (i : Item) where
   -- The news of the item, once those that wait are applied.
   abbrev news_of : World → Option Txn → Option LeaderNews
   news_of u None = None
-  news_of u (Some t) = Some (news.Applied (length l.log - 1) (answer_of (effect_of_txn u.replica.tree t)).err)
+  news_of u (Some t) = Some (news.Applied (length l.log - 1) (answer_of (effect_of_txn u.replica.tree t)).results)
 
   abbrev applied_to : World → Option Txn → StepResult World
   applied_to u gained = apply_in_turn (with_learner_in u l) (optional_txn gained)
@@ -297,9 +298,9 @@ module _ (loading : Loading) (l : Learner) (i : Item) where
   unanswered log u None is none = refl
   unanswered log u (Some t) is none =
       let h = applied_to u (Some t) in
-      let err = (answer_of (effect_of_txn u.replica.tree t)).err in
+      let results = (answer_of (effect_of_txn u.replica.tree t)).results in
       ap (prepend_outputs h.outputs)
-      (ap (answer_optional_txn h.after err) (ap last_txn is ∙ last-push log t) ∙ no_answer h.after t err none)
+      (ap (answer_optional_txn h.after results) (ap last_txn is ∙ last-push log t) ∙ no_answer h.after t results none)
       ∙ ap (λ (os : List Output). record { outputs = os; after = h.after }) (append-nil h.outputs)
 
   -- It may be taken after those that wait, and wait with them.
@@ -330,8 +331,8 @@ module _ (loading : Loading) (l : Learner) (i : Item) where
       let outcome = answer_of (effect_of_txn owed.after.replica.tree t) in
       let place = length l.log - 1 in
       taken_after pending w (Some t) d others
-      ∙ ap go (behind_behind owed.outputs more.outputs (answer_applied_txn more.after place outcome.err)
-      ∙ ap (λ (h : StepResult World). and_then h (λ (v : World). answer_applied_txn v place outcome.err))
+      ∙ ap go (behind_behind owed.outputs more.outputs (answer_applied_txn more.after place outcome.results)
+      ∙ ap (λ (h : StepResult World). and_then h (λ (v : World). answer_applied_txn v place outcome.results))
       (applied_on pending w (Some t) d)
       ∙ ap (λ (o : Option Outcome). and_then (apply_in_turn (with_learner_in w l) (pending ++ t ∷ []))
       (answer_outcome place o)) (sym (last_applied w pending t)))

@@ -70,6 +70,7 @@ replies_stay n = record {
   closes = λ w a. close_stay n w;
   sends = λ w bytes. as_it_was w;
   watches = λ w watch a. as_it_was w;
+  unwatches = λ w kind path a. as_it_was w;
   auths = λ w scheme bytes a. as_it_was w;
 }
 

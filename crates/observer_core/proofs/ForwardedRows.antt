@@ -9,7 +9,7 @@ use Rattle.std.proofs.lemmas.Str.{is_utf8-from_IsUtf8}
 use Rattle.values.specs.Hex.{hex_bytes}
 use Rattle.jute.specs.Format.{judged_at, buffer_at, vector_at, read_n, number_bytes}
 use Rattle.jute.specs.Frame.{frame_at}
-use Rattle.jute.specs.Owned.{id_format, acl_format}
+use Rattle.jute.specs.Owned.{id_in, acl_in}
 use Rattle.jute.specs.Records.{request_header, reply_header}
 use Rattle.jute.specs.declared.owned.Id.{Id}
 use Rattle.jute.specs.Stream.{Items, items_within, items_in, place_at}
@@ -29,6 +29,7 @@ use Rattle.quorum_packet.specs.Items.{items_shown_at}
 use Rattle.settings.specs.Dialects.{reads_of}
 use Rattle.settings.specs.declared.dialect.Dialect.{Dialect}
 use Rattle.settings.specs.declared.dialect.Dialect.TheVariants.{Zk34}
+use Rattle.data_tree.specs.declared.outcome.TxnResults.{TxnResults}
 use Rattle.txn_codec.specs.declared.txn.TxnHeader.{TxnHeader}
 use Rattle.txn_codec.specs.declared.txn.Body.TheVariants as bodies
 use Rattle.txn_codec.specs.declared.txn.Operation.{Operation}
@@ -166,7 +167,7 @@ abbrev error_txn : Txn
 error_txn = record { header = header; body = bodies.Single (operations.Error (negsuc 109)) }
 
 create_fits : txn_format.Fits create_txn
-unfolding acl_format id_format
+unfolding acl_in id_in
 create_fits =
     let path = text_fits (codes "/a") path_is_text (omega arith) in
     let world = text_fits (codes "world") world_is_text (omega arith) in
@@ -199,17 +200,17 @@ create_fits =
 error_fits : txn_format.Fits error_txn
 error_fits = ((refl, search rules), ((refl, search rules), (refl, (refl, search rules))))
 
-create_found : items_shown_at (place_at Packets inform_of_forwarded)
+create_found : items_shown_at (place_at (Packets Zk34) inform_of_forwarded)
     ≡ one_packet (packet_of (pos 4294967297) (txn_format.written create_txn))
-unfolding items_within packet_format judged_at buffer_at vector_at read_n number_bytes acl_format id_format
+unfolding items_within packet_format judged_at buffer_at vector_at read_n number_bytes acl_in id_in
 create_found = refl
 
-error_found : items_shown_at (place_at Packets inform_of_error)
+error_found : items_shown_at (place_at (Packets Zk34) inform_of_error)
     ≡ one_packet (packet_of (pos 4294967297) (txn_format.written error_txn))
 unfolding items_within packet_format judged_at buffer_at vector_at read_n number_bytes
 error_found = refl
 
-create_error : (settings : Settings) → (answer_of (effect_of_txn (start settings) create_txn)).err ≡ pos 0
+create_error : (settings : Settings) → (answer_of (effect_of_txn (start settings) create_txn)).results.err ≡ pos 0
 create_error settings =
     let s = start settings in
     ap (λ (o : Option Node). (of_effect (create_under header create_body o) s).err) root_there
@@ -237,7 +238,7 @@ kind_read dialect = refl
 call_read : (dialect : Dialect) → call_in dialect frame ≡ Ok (record { xid = pos 4; body = Forward writes.Create })
 call_read dialect =
     ap (call_after_header dialect) header_read
-    ∙ ap (λ k. Ok (record { xid = pos 4; body = call_body k frame_body })) (kind_read dialect)
+    ∙ ap (λ k. Ok (record { xid = pos 4; body = call_body dialect k frame_body })) (kind_read dialect)
 
 request_written : packet_format.written (request_of first_id frame []) ≡ request_of_create
 unfolding packet_format number_bytes
@@ -281,17 +282,17 @@ module _ (settings : Settings) (stay : SessionsStay settings) (three : IsThird s
   abbrev left : PendingTable
   left = (answer_write (create_waits settings) 1 (pos 4) (txn_number t)).after
 
-  answered : (err : ℤ)
+  answered : (results : TxnResults)
       → found_write (queue_of (create_waits settings) 1) (pos 4) (txn_number t)
       ≡ Some (record { place = 0; kind = writes.Create })
       → after_answer (queue_of (create_waits settings) 1) (pos 4) (txn_number t) ≡ []
-      → reply_frame (pos 4) (pos 4294967297) (write_look applied.replica.tree writes.Create t.body err) ≡ Some reply
-      → answer_applied_txn applied 0 err ≡ replying reply (with_pending applied (take_ready left 1).after)
-  answered err answers none replies =
-      ap (λ (o : Option ℕ). give_answer applied t err (reply_of applied.clients t o)) (connected settings three)
-      ∙ ap (λ (write : Option AnsweredWrite). give_answer applied t err (reply_as 1 write)) answers
-      ∙ ap (λ (moves : Bool). cond (moves && int_eq err SESSION_MOVED) (close_client 1 applied)
-      (send_write_reply 1 applied t err writes.Create)) stay
+      → reply_frame (pos 4) (pos 4294967297) (write_look applied.replica.tree writes.Create t.body results) ≡ Some reply
+      → answer_applied_txn applied 0 results ≡ replying reply (with_pending applied (take_ready left 1).after)
+  answered results answers none replies =
+      ap (λ (o : Option ℕ). give_answer applied t results (reply_of applied.clients t o)) (connected settings three)
+      ∙ ap (λ (write : Option AnsweredWrite). give_answer applied t results (reply_as 1 write)) answers
+      ∙ ap (λ (moves : Bool). cond (moves && int_eq results.err SESSION_MOVED) (close_client 1 applied)
+      (send_write_reply 1 applied t results writes.Create)) stay
       ∙ ap (λ (f : Option (List ℕ)). and_then (send_or_close 1 (with_pending applied left) f) (answer_front 1)) replies
       ∙ ap (prepend_outputs (ToClient 1 reply ∷ [])) (front_over (with_pending applied left) 1023 empty)
     where
@@ -301,8 +302,8 @@ module _ (settings : Settings) (stay : SessionsStay settings) (three : IsThird s
           ∙ ap queue_in (get-removed (create_waits settings).queues 1)
 
   txn_comes : (again : ReadAgain) (nobody : NobodyTold) (bytes : List ℕ) → txn_format.Fits t
-      → items_shown_at (place_at Packets bytes) ≡ one_packet (packet_of (pos 4294967297) (txn_format.written t))
-      → answer_applied_txn applied 0 (answer_of (effect_of_txn (start settings) t)).err
+      → items_shown_at (place_at (Packets Zk34) bytes) ≡ one_packet (packet_of (pos 4294967297) (txn_format.written t))
+      → answer_applied_txn applied 0 (answer_of (effect_of_txn (start settings) t)).results
       ≡ replying reply (with_pending applied (take_ready left 1).after)
       → play_event (waiting_machine settings (create_waits settings)) (LeaderBytes bytes)
       ≡ (record {
@@ -313,7 +314,7 @@ module _ (settings : Settings) (stay : SessionsStay settings) (three : IsThird s
       let w = waiting_world settings (create_waits settings) in
       inform_comes again settings (pos 0) [] (start settings) w.clients bytes (pos 4294967297) t fits found
       ∙ ap (λ (f : FireResult).
-      one_delivered w (told_by applied (answer_of (effect_of_txn (start settings) t)).err f))
+      one_delivered w (told_by applied (answer_of (effect_of_txn (start settings) t)).results f))
       (nobody (effect_of_txn (start settings) t).triggers)
       ∙ ap (λ (h : StepResult World). one_delivered w (told [] h)) replies
 
@@ -333,16 +334,17 @@ pub create_answered : (again : ReadAgain) (nobody : NobodyTold) (settings : Sett
     → (play (earlier_machine settings) (ClientBytes 1 framed_create ∷ LeaderBytes inform_of_forwarded ∷ [])).outputs
     ≡ ToLeader request_of_create ∷ ToClient 1 reply_of_forwarded ∷ []
 create_answered again nobody settings stay three =
-    let err = (answer_of (effect_of_txn (start settings) create_txn)).err in
+    let results = (answer_of (effect_of_txn (start settings) create_txn)).results in
     let tree = (effect_of_txn (start settings) create_txn).state in
     both_come settings framed_create inform_of_forwarded request_of_create reply_of_forwarded (create_waits settings) _
     (create_comes settings three)
     (txn_comes settings stay three (operations.Create create_body) reply_of_forwarded again nobody inform_of_forwarded
     create_fits create_found
-    (answered settings stay three (operations.Create create_body) reply_of_forwarded err
+    (answered settings stay three (operations.Create create_body) reply_of_forwarded results
     (ap (λ (q : RequestQueue). found_write q (pos 4) (txn_number create_txn)) (queue_is 1 waiting_write))
     (ap (λ (q : RequestQueue). after_answer q (pos 4) (txn_number create_txn)) (queue_is 1 waiting_write))
-    (ap (λ (e : ℤ). reply_frame (pos 4) (pos 4294967297) (write_look tree writes.Create create_txn.body e))
+    (ap (λ (e : ℤ). reply_frame (pos 4) (pos 4294967297)
+    (write_look tree writes.Create create_txn.body (record { err = e; parts = [] })))
     (create_error settings) ∙ create_replied)))
 
 pub error_answered : (again : ReadAgain) (nobody : NobodyTold) (settings : Settings) → SessionsStay settings
@@ -354,7 +356,7 @@ error_answered again nobody settings stay three =
     (create_comes settings three)
     (txn_comes settings stay three (operations.Error (negsuc 109)) reply_of_error again nobody inform_of_error
     error_fits error_found
-    (answered settings stay three (operations.Error (negsuc 109)) reply_of_error (negsuc 109)
+    (answered settings stay three (operations.Error (negsuc 109)) reply_of_error (record { err = negsuc 109; parts = [] })
     (ap (λ (q : RequestQueue). found_write q (pos 4) (txn_number error_txn)) (queue_is 1 waiting_write))
     (ap (λ (q : RequestQueue). after_answer q (pos 4) (txn_number error_txn)) (queue_is 1 waiting_write))
     error_replied))
@@ -386,7 +388,7 @@ path_read = rw (is_utf8-from_IsUtf8 (codes "/a") path_is_text)
 sync_read : (dialect : Dialect) → call_in dialect a_sync ≡ Ok (record { xid = pos 5; body = Sync (codes "/a") })
 sync_read dialect =
     ap (call_after_header dialect) sync_header
-    ∙ ap (λ k. Ok (record { xid = pos 5; body = call_body k sync_body })) (sync_kind dialect)
+    ∙ ap (λ k. Ok (record { xid = pos 5; body = call_body dialect k sync_body })) (sync_kind dialect)
     ∙ ap (λ r. Ok (record { xid = pos 5; body = sync_of (value_if_read r) })) path_read
 
 sync_written : packet_format.written (request_of first_id a_sync []) ≡ request_of_sync
@@ -411,7 +413,7 @@ sync_comes settings three =
 abbrev leaders_sync : QuorumPacket
 leaders_sync = record { kind = pos 7; zxid = pos 0; bytes = None; authinfo = None }
 
-packet_found : items_shown_at (place_at Packets sync_packet) ≡ one_packet leaders_sync
+packet_found : items_shown_at (place_at (Packets Zk34) sync_packet) ≡ one_packet leaders_sync
 unfolding items_within packet_format judged_at buffer_at vector_at read_n number_bytes
 packet_found = refl
 
@@ -421,7 +423,7 @@ sync_replied = refl
 
 -- One packet comes.
 pub one_item_comes : (w : World) (bytes : List ℕ) (p : QuorumPacket)
-    → items_shown_at (place_at Packets bytes) ≡ one_packet p
+    → items_shown_at (place_at (Packets Zk34) bytes) ≡ one_packet p
     → take_leader_bytes part_reader (Some beginning) w bytes ≡ one_delivered w (item_step (led w) (item.Packet p))
 one_item_comes w bytes p found =
     ap (λ (i : Items Phase Item). let h =

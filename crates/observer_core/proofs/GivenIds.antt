@@ -218,6 +218,7 @@ replies_later n = record {
   closes = λ w a. closed_later n w;
   sends = λ w bytes. unchanged w w refl refl refl;
   watches = λ w watch a. unchanged w _ refl refl refl;
+  unwatches = λ w kind path a. unchanged w _ refl refl refl;
   auths = λ w scheme bytes a.
       let s = (add_auth w.clients.sessions n scheme bytes).after in
       same_later w (with_sessions w s) refl (auth_ids w.clients.sessions n scheme bytes) (λ m connect e. e);
@@ -282,6 +283,7 @@ all_grow = record {
     closes = λ w a. closed_grow n w;
     sends = λ w bytes. nothing_grows w w refl refl;
     watches = λ w watch a. nothing_grows w _ refl refl;
+    unwatches = λ w kind path a. nothing_grows w _ refl refl;
     auths = λ w scheme bytes a. same_grow w _ refl (auth_ids w.clients.sessions n scheme bytes);
   };
   calls = λ n. record {

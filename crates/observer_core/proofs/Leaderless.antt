@@ -316,6 +316,7 @@ replies_leave n = record {
   closes = λ w a. (refl, tt);
   sends = λ w bytes. (refl, tt);
   watches = λ w watch a. tt;
+  unwatches = λ w kind path a. tt;
   auths = λ w scheme bytes a. tt;
 }
 

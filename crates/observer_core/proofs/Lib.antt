@@ -3,6 +3,7 @@ pub mod Batches
 pub mod Waiting
 pub mod Playing
 pub mod Keeping
+pub mod Idle
 pub mod Walking
 pub mod Answered
 pub mod Plain

@@ -17,6 +17,7 @@ use Rattle.settings.specs.declared.dialect.Dialect.{Dialect}
 use Rattle.settings.specs.declared.dialect.Reads.{Reads}
 use Rattle.jute.specs.Format.{long, boolean, pair_of, ◌>>=◌}
 use Rattle.jute.specs.declared.owned.Id.{Id}
+use Rattle.data_tree.specs.declared.outcome.TxnResults.{TxnResults}
 use Rattle.txn_codec.specs.declared.txn.Txn.{Txn}
 use Rattle.txn_codec.specs.declared.txn.TxnHeader.{TxnHeader}
 use Rattle.txn_codec.specs.declared.txn.Operation.{Operation}
@@ -24,7 +25,7 @@ use Rattle.txn_codec.specs.declared.txn.Body.{Body}
 use Rattle.txn_codec.specs.declared.txn.Body.TheVariants as bodies
 use Rattle.data_tree.specs.State.{State, SessionTimeouts}
 use Rattle.txn_codec.specs.Row.{has_error, session_change}
-use Rattle.data_tree.specs.Meaning.{Change, Put, Remove, Own, Disown, Mend, after_change, after_changes, effect_of, of_failed, of_parts, of_multi, of_close_session, effect_of_body, effect_of_txn, set_acl_at, delete_operations, ended_paths, state_without_session, fresh_state}
+use Rattle.data_tree.specs.Meaning.{Change, Put, Remove, Own, Disown, Mend, after_change, after_changes, effect_of, of_failed, of_parts, of_multi, of_close_session, effect_of_body, effect_of_txn, set_acl_at, delete_operations, ended_paths, state_without_session, fresh_state, answer_of}
 use Rattle.ephemerals.specs.Orders.{Bytes, sorted_names}
 use Rattle.snapshot_codec.specs.Made.{Loading, with_loaded}
 use Rattle.snapshot_codec.specs.declared.part.ImagePart.{ImagePart}
@@ -120,23 +121,23 @@ SessionsStay r = (reads_of r.learner.dialect).moved_sessions ≡ false
 -- The item leaves the tree, no transaction was applied, and where sessions stay none was confirmed.
 record LeavesTree (r : Replica) (t : ItemEffect) : Type 0 where
   tree : t.replica.tree ≡ r.tree
-  none : (place : ℕ) (err : ℤ) → t.news ≢ Some (news.Applied place err)
+  none : (place : ℕ) (results : TxnResults) → t.news ≢ Some (news.Applied place results)
   unclaimed : SessionsStay r → (session : ℤ) (lives : Bool) → t.news ≢ Some (news.Revalidated session lives)
 
 -- A transaction of the log was applied.
 record AppliesTxn (r : Replica) (t : ItemEffect) : Type 0 where
   txn : Txn
   place : ℕ
-  err : ℤ
+  results : TxnResults
   tree : t.replica.tree ≡ (effect_of_txn r.tree txn).state
-  told : t.news ≡ Some (news.Applied place err)
+  told : t.news ≡ Some (news.Applied place results)
   at : slice_get t.replica.learner.log place ≡ Some txn
 
 -- What is told, as a number.
 abbrev news_place : Option LeaderNews → ℕ
 news_place None = 0
 news_place (Some (news.Ping p)) = 1
-news_place (Some (news.Applied place err)) = 2
+news_place (Some (news.Applied place results)) = 2
 news_place (Some news.SyncSettled) = 3
 news_place (Some (news.Revalidated session lives)) = 4
 
@@ -190,7 +191,7 @@ module _ (loading : Loading) (r : Replica) where
       by o e = subst (λ (o : Option Txn). Serves r (Ok (apply_to_tree t o))) (sym e) (inr (record {
         txn = txn;
         place = length (with_applied l txn).log - 1;
-        err = (effect_of_txn r.tree txn).err;
+        results = (answer_of (effect_of_txn r.tree txn)).results;
         tree = refl;
         told = refl;
         at = last-push l.log txn;
@@ -214,7 +215,7 @@ module _ (loading : Loading) (r : Replica) where
   untold : (t : ItemEffect) → t.replica.tree ≡ r.tree → t.news ≡ None → LeavesTree r t
   untold t same is = record {
     tree = same;
-    none = λ place err e. true≢false (sym (ap is_some (sym is ∙ e)));
+    none = λ place results e. true≢false (sym (ap is_some (sym is ∙ e)));
     unclaimed = λ stay session lives e. true≢false (sym (ap is_some (sym is ∙ e)));
   }
 
@@ -232,7 +233,7 @@ module _ (loading : Loading) (r : Replica) where
           let told = Some (news.Revalidated answer.0.0 answer.0.1) in
           inl (record {
             tree = refl;
-            none = λ place err e. apart_news told (Some (news.Applied place err)) (λ x. omega arith) e;
+            none = λ place results e. apart_news told (Some (news.Applied place results)) (λ x. omega arith) e;
             unclaimed = λ stay session lives e. true≢false (sym move ∙ stay);
           })
       by (Err e) = tt
@@ -245,14 +246,14 @@ module _ (loading : Loading) (r : Replica) where
       let told = Some (news.Ping p) in
       inl (record {
         tree = refl;
-        none = λ place err e. apart_news told (Some (news.Applied place err)) (λ x. omega arith) e;
+        none = λ place results e. apart_news told (Some (news.Applied place results)) (λ x. omega arith) e;
         unclaimed = λ stay session lives e. apart_news told (Some (news.Revalidated session lives)) (λ x. omega arith) e;
       })
   message_serves l message.Sync move =
       let told = Some news.SyncSettled in
       inl (record {
         tree = refl;
-        none = λ place err e. apart_news told (Some (news.Applied place err)) (λ x. omega arith) e;
+        none = λ place results e. apart_news told (Some (news.Applied place results)) (λ x. omega arith) e;
         unclaimed = λ stay session lives e. apart_news told (Some (news.Revalidated session lives)) (λ x. omega arith) e;
       })
   message_serves l (message.Revalidated bytes) move = revalidated l bytes (move bytes refl)
@@ -379,6 +380,7 @@ replies_live n = record {
   closes = λ w a live m session e. live m session (closed_fewer w.clients.sessions n m session e);
   sends = λ w bytes live. live;
   watches = λ w watch a live. live;
+  unwatches = λ w kind path a live. live;
   auths = λ w scheme bytes a live m session e.
       live m session (auth_fewer w.clients.sessions n scheme bytes m session e);
 }
@@ -454,30 +456,30 @@ module _ (stays : ServingStays) (dialects : DialectStays) (laws : LowerLaws) whe
       f : (c : PendingConnect) × ((waiting_connect (queue_of w.clients.pending n) ≡ Some c) × (c.session ≡ session))
       f = a.pending.in_front session n e
 
-  replied_live : (w : World) (t : Txn) (err : ℤ) (o : Option ℕ) → Agreeing w → AllSessionsLive w
-      → AllSessionsLive (give_answer w t err (reply_of w.clients t o)).after
-  replied_live w t err None a live = live
-  replied_live w t err (Some n) a live =
+  replied_live : (w : World) (t : Txn) (results : TxnResults) (o : Option ℕ) → Agreeing w → AllSessionsLive w
+      → AllSessionsLive (give_answer w t results (reply_of w.clients t o)).after
+  replied_live w t results None a live = live
+  replied_live w t results (Some n) a live =
       by (found_write (queue_of w.clients.pending n) t.header.cxid (txn_number t))
     where
-      by : (o : Option AnsweredWrite) → AllSessionsLive (give_answer w t err (reply_as n o)).after
+      by : (o : Option AnsweredWrite) → AllSessionsLive (give_answer w t results (reply_as n o)).after
       by None = live
       by (Some write) =
           (write_makes n (Unit {0}) Agreeing KeepsLive (agreeing_ground laws n) (replies_live n)
-          (agreeing_answers laws n) (answers_live n) w t err write.kind a).is live
+          (agreeing_answers laws n) (answers_live n) w t results write.kind a).is live
 
   -- Only the session that has ended doesn't live.
   abbrev OthersLive : World → ℤ → Type 0
   OthersLive w session = (n : ℕ) (other : ℤ) → session_of_connection w.clients.sessions n ≡ Some other
       → other ≢ session → is_live other w ≡ true
 
-  ended_live : (w : World) (t : Txn) (err : ℤ) (o : Option ℕ)
+  ended_live : (w : World) (t : Txn) (results : TxnResults) (o : Option ℕ)
       → connection_with w.clients t.header.client_id ≡ o → Agreeing w → OthersLive w t.header.client_id
-      → AllSessionsLive (give_answer w t err (ending_of o)).after
-  ended_live w t err None e a others m session has =
+      → AllSessionsLive (give_answer w t results (ending_of o)).after
+  ended_live w t results None e a others m session has =
       others m session has (λ same. true≢false (sym (ap is_some (owned_with w.clients m session a has))
       ∙ ap (λ (x : ℤ). is_some (connection_with w.clients x)) same ∙ ap is_some e))
-  ended_live w t err (Some n) e a others m session has =
+  ended_live w t results (Some n) e a others m session has =
       ap (λ (r : Replica). finmap.contains_key r.tree.sessions session)
       (ended_same n w t.header.zxid (pending_close w.clients.pending n))
       ∙ others m session had.0
@@ -500,10 +502,10 @@ module _ (stays : ServingStays) (dialects : DialectStays) (laws : LowerLaws) whe
   LiveBefore w sessions = (n : ℕ) (session : ℤ) → session_of_connection w.clients.sessions n ≡ Some session
       → finmap.contains_key sessions session ≡ true
 
-  txn_lives : (w : World) (before : State) (t : Txn) (err : ℤ)
+  txn_lives : (w : World) (before : State) (t : Txn) (results : TxnResults)
       → w.replica.tree ≡ (effect_of_txn before t).state → Agreeing w → LiveBefore w before.sessions
-      → AllSessionsLive (answer_txn w t err).after
-  txn_lives w before t err tree a live = by t.body (ap (λ (s : State). s.sessions) tree)
+      → AllSessionsLive (answer_txn w t results).after
+  txn_lives w before t results tree a live = by t.body (ap (λ (s : State). s.sessions) tree)
     where
       session : ℤ
       session = t.header.client_id
@@ -513,7 +515,7 @@ module _ (stays : ServingStays) (dialects : DialectStays) (laws : LowerLaws) whe
 
       created : (time_out : ℤ) → w.replica.tree.sessions ≡ finmap.insert before.sessions session time_out
           → (o : Option ℕ) → awaiting w.clients.pending session New ≡ o
-          → AllSessionsLive (give_answer w t err (admission_of o)).after
+          → AllSessionsLive (give_answer w t results (admission_of o)).after
       created time_out is o e = admitted o e
         where
           live_in : (x : ℤ) → finmap.contains_key before.sessions x ≡ true → is_live x w ≡ true
@@ -533,7 +535,7 @@ module _ (stays : ServingStays) (dialects : DialectStays) (laws : LowerLaws) whe
           all_live n x e = live_in x (live n x e)
 
           admitted : (o : Option ℕ) → awaiting w.clients.pending session New ≡ o
-              → AllSessionsLive (give_answer w t err (admission_of o)).after
+              → AllSessionsLive (give_answer w t results (admission_of o)).after
           admitted None e = all_live
           admitted (Some n) e =
               admit_lives n w session (awaits_it w.clients.pending session New n e) new_lives a all_live
@@ -546,20 +548,20 @@ module _ (stays : ServingStays) (dialects : DialectStays) (laws : LowerLaws) whe
           (λ same. absurd (other (tells_apart exact_signed x session same))) (λ _. live n x e)
 
       by : (b : Body) → w.replica.tree.sessions ≡ (effect_of_body t.header b before).state.sessions
-          → AllSessionsLive (give_answer w t err (due_by w.clients t (session_change b))).after
+          → AllSessionsLive (give_answer w t results (due_by w.clients t (session_change b))).after
       by (bodies.CreateSession time_out) is =
           created time_out is (awaiting w.clients.pending session New) refl
       by (bodies.CloseSession listed) is =
-          ended_live w t err (connection_with w.clients session) refl a
+          ended_live w t results (connection_with w.clients session) refl a
           (closed (is ∙ close_leaves t.header listed before))
       by (bodies.Single operation) is =
-          replied_live w t err (connection_of w.clients.sessions session) a
+          replied_live w t results (connection_of w.clients.sessions session) a
           (same_live (is ∙ changes_leave before (effect_of t.header operation before.nodes).changes))
       by (bodies.SetAcl body) is =
-          replied_live w t err (connection_of w.clients.sessions session) a
+          replied_live w t results (connection_of w.clients.sessions session) a
           (same_live (is ∙ changes_leave before (set_acl_at body (finmap.get before.nodes body.path)).changes))
       by (bodies.Multi parts) is =
-          replied_live w t err (connection_of w.clients.sessions session) a
+          replied_live w t results (connection_of w.clients.sessions session) a
           (same_live (is ∙ multi_leaves t.header parts before))
 
   settled_live : (w : World) (o : Settled) → Agreeing w → AllSessionsLive w → AllSessionsLive (answer_settled w o).after
@@ -570,12 +572,12 @@ module _ (stays : ServingStays) (dialects : DialectStays) (laws : LowerLaws) whe
       (answers_live n) w a).is live
 
   -- No transaction was applied, and no session confirmed.
-  news_live : (o : Option LeaderNews) (w : World) → ((place : ℕ) (err : ℤ) → o ≢ Some (news.Applied place err))
+  news_live : (o : Option LeaderNews) (w : World) → ((place : ℕ) (results : TxnResults) → o ≢ Some (news.Applied place results))
       → ((session : ℤ) (lives : Bool) → o ≢ Some (news.Revalidated session lives)) → Agreeing w
       → AllSessionsLive w → AllSessionsLive (answer_news o w).after
   news_live None w none unclaimed a live = live
   news_live (Some (news.Ping ping)) w none unclaimed a live = live
-  news_live (Some (news.Applied place err)) w none unclaimed a live = absurd (none place err refl)
+  news_live (Some (news.Applied place results)) w none unclaimed a live = absurd (none place results refl)
   news_live (Some (news.Revalidated session lives)) w none unclaimed a live = absurd (unclaimed session lives refl)
   news_live (Some news.SyncSettled) w none unclaimed a live =
       let s = settle_sync w.clients.pending in
@@ -612,8 +614,8 @@ module _ (stays : ServingStays) (dialects : DialectStays) (laws : LowerLaws) whe
           ∙ h.1 stay n session has)
       serves (inr applies) =
           subst (λ (o : Option LeaderNews). AllSessionsLive (answer_news o v).after) (sym applies.told)
-          (subst (λ (o : Option Txn). AllSessionsLive (answer_optional_txn v applies.err o).after) (sym applies.at)
-          (txn_lives v w.replica.tree applies.txn applies.err applies.tree told (h.1 stay)))
+          (subst (λ (o : Option Txn). AllSessionsLive (answer_optional_txn v applies.results o).after) (sym applies.at)
+          (txn_lives v w.replica.tree applies.txn applies.results applies.tree told (h.1 stay)))
 
       by : (b : Bool) → is_serving w.replica ≡ b → AllSessionsLive (send_effect w t).after
       by true s = serves (subst (Serves w.replica) e (item_serves loading w.replica i s))

@@ -1,6 +1,6 @@
 -- A predicate of connection numbers that holds for all keys of a map, and for all connections with a session, a watch
 -- or a request that waits.
-use Rattle.std.proofs.Common.{◌≡◌, ◌≢◌, ℕ, ℤ, Bool, true, false, cond, ◌||◌, List, [], ◌∷◌, Option, Some, None, refl, sym, ap, subst, ◌∙◌}
+use Rattle.std.proofs.Common.{◌≡◌, ◌≢◌, ℕ, ℤ, Bool, true, false, cond, not, ◌||◌, ◌&&◌, List, [], ◌∷◌, Option, Some, None, refl, sym, ap, subst, ◌∙◌}
 use Rattle.std.specs.Prelude.{is_some}
 use Rattle.std.specs.List.{list_any}
 use Rattle.std.specs.Ordering.{eq_by_cmp, nat_cmp, int_cmp}
@@ -18,9 +18,11 @@ use Rattle.sessions.specs.State.{ConnectedClient, SessionTable}
 use Rattle.sessions.specs.Sessions.{AuthResult, session_response, new_connection, are_within_limits, is_same_id, with_id, connection_of, close_connection, close_as, close_if_some, give_session, show_in, digest_text, auth_by, add_auth}
 use Rattle.watch_manager.specs.Pairs.{WatchPairs, watch_cmp, same_connection}
 use Rattle.watch_manager.specs.Watching.{WatchTables}
-use Rattle.watch_manager.specs.Lasting.{LastingWatches}
-use Rattle.watch_manager.specs.Laws.{AllPass, AllLastingPass, WatchersPass}
-use Rattle.watch_manager.specs.declared.mode.WatchMode.{WatchMode}
+use Rattle.watch_manager.specs.Kinds.{without_watch}
+use Rattle.watch_manager.specs.Laws.{AllPass, WatchersPass}
+use Rattle.watch_manager.specs.declared.kind.WatchKind.{WatchKind}
+use Rattle.watch_manager.specs.declared.kind.WatchKind.TheVariants as kinds
+use Rattle.watch_manager.specs.declared.mode.WatchMode.TheVariants.{Persistent, Recursive}
 use Rattle.watch_manager.proofs.Totals.{watch_total, watch_exact}
 use Rattle.read_processor.specs.declared.watch.Watch.{Watch}
 use Rattle.read_processor.specs.declared.watch.Watch.TheVariants as tables
@@ -212,7 +214,38 @@ pub watchers_pass : (p q : ℕ → Bool) (w : WatchTables) → ((k : ℕ) → p 
 watchers_pass p q w weaker all = (
   λ path k has. weaker k (all.0 path k has),
   λ path k has. weaker k (all.1 path k has),
-  λ path k has. weaker k (all.2 path k has),
+  (
+    λ path k has. weaker k (all.2.0 path k has),
+    λ path k has. weaker k (all.2.1 path k has),
+  ),
+)
+
+unpaired_passes : (test : ℕ → Bool) (n : ℕ) (pairs : WatchPairs) (path : List ℕ) → AllPass test pairs
+    → AllPass test (set.remove pairs (path, n))
+unpaired_passes test n pairs path all at k has =
+    all at k (by (eq_by_cmp watch_cmp (at, k) (path, n)) (set.contains pairs (at, k))
+    (sym (set.contains-remove watch_total pairs (path, n) (at, k)) ∙ has))
+  where
+    by : (removed here : Bool) → (not removed && here) ≡ true → here ≡ true
+    by true here h = absurd (true≢false (sym h))
+    by false here h = h
+
+-- A connection loses watches.
+pub unwatched_passes : (test : ℕ → Bool) (kind : WatchKind) (n : ℕ) (path : List ℕ) (w : WatchTables)
+    → WatchersPass test w → WatchersPass test (without_watch kind n path w)
+unwatched_passes test kinds.Child n path w all = (all.0, unpaired_passes test n w.child path all.1, all.2)
+unwatched_passes test kinds.Data n path w all = (unpaired_passes test n w.data_watches path all.0, all.1, all.2)
+unwatched_passes test kinds.Persistent n path w all =
+    (all.0, all.1, (unpaired_passes test n w.lasting.persistent path all.2.0, all.2.1))
+unwatched_passes test kinds.Recursive n path w all =
+    (all.0, all.1, (all.2.0, unpaired_passes test n w.lasting.recursive path all.2.1))
+unwatched_passes test kinds.Any n path w all = (
+  unpaired_passes test n w.data_watches path all.0,
+  unpaired_passes test n w.child path all.1,
+  (
+    unpaired_passes test n w.lasting.persistent path all.2.0,
+    unpaired_passes test n w.lasting.recursive path all.2.1,
+  ),
 )
 
 module _ (test : ℕ → Bool) (n : ℕ) (here : test n ≡ true) where
@@ -226,16 +259,14 @@ module _ (test : ℕ → Bool) (n : ℕ) (here : test n ≡ true) where
       by true same h = ap (λ (p : List ℕ × ℕ). test p.1) (tells_apart watch_exact (at, k) (path, n) same) ∙ here
       by false other h = all at k h
 
-  lasting_passes : (lasting : LastingWatches) (path : List ℕ) (mode : WatchMode) → AllLastingPass test lasting
-      → AllLastingPass test (finmap.insert lasting (path, n) mode)
-  lasting_passes lasting path mode all at k has =
-      cond_both (eq_by_cmp watch_cmp (at, k) (path, n)) (Some mode) (finmap.get lasting (at, k))
-      (λ o. is_some o ≡ true → test k ≡ true)
-      (λ same h. ap (λ (p : List ℕ × ℕ). test p.1) (tells_apart watch_exact (at, k) (path, n) same) ∙ here)
-      (λ other h. all at k h)
-      (sym (ap is_some (finmap.get-insert watch_total lasting (path, n) mode (at, k))) ∙ has)
-
   pub watched_passes : (w : WatchTables) (watch : Watch) → WatchersPass test w → WatchersPass test (with_watch n w watch)
   watched_passes w (tables.Data path) all = (pair_passes w.data_watches path all.0, all.1, all.2)
   watched_passes w (tables.Child path) all = (all.0, pair_passes w.child path all.1, all.2)
-  watched_passes w (tables.Lasting path mode) all = (all.0, all.1, lasting_passes w.lasting path mode all.2)
+  watched_passes w (tables.Lasting path Persistent) all =
+      (all.0, all.1, (pair_passes w.lasting.persistent path all.2.0, all.2.1))
+  watched_passes w (tables.Lasting path Recursive) all =
+      (all.0, all.1, (all.2.0, pair_passes w.lasting.recursive path all.2.1))
+  watched_passes w (tables.LastingAlone path Persistent) all =
+      (all.0, all.1, (pair_passes w.lasting.persistent path all.2.0, unpaired_passes test n w.lasting.recursive path all.2.1))
+  watched_passes w (tables.LastingAlone path Recursive) all =
+      (all.0, all.1, (unpaired_passes test n w.lasting.persistent path all.2.0, pair_passes w.lasting.recursive path all.2.1))

@@ -11,6 +11,7 @@ pub plain_ground : (n : ℕ) → IsGround n ⊥ Always
 plain_ground n = record {
   closes = λ k w a. tt;
   watches = λ w watch here a. tt;
+  unwatches = λ w kind path a. tt;
   auths = λ w scheme bytes here a. tt;
   touches = λ w session a. tt;
   opens = λ w k a. tt;

@@ -2,6 +2,7 @@
 use Rattle.std.proofs.Common.{◌≡◌, inl, inr, ℕ, ℤ, Bool, Option, Some, None, refl, sym, ap, subst, ◌∙◌, arith}
 use Rattle.std.specs.Option.{unwrap_or, option_or}
 use Rattle.std.proofs.lemmas.Bool.{cond_both}
+use Rattle.data_tree.specs.declared.outcome.TxnResults.{TxnResults}
 use Rattle.txn_codec.specs.declared.txn.Txn.{Txn}
 use Rattle.txn_codec.specs.declared.row.SessionChange.{SessionChange}
 use Rattle.txn_codec.specs.declared.row.SessionChange.TheVariants as changes
@@ -126,23 +127,23 @@ module _ (kept : AgreementIsKept) (stay : OtherConnectionsStay) (keep_watches : 
       by None none e = inr (found_asks c session n a (awaits_it c.pending session Claimed n e))
       by (Some m) has e = inl (owner_has c.sessions session n a.sessions (has ∙ e))
 
-  replies_reach : (w : World) (t : Txn) (err : ℤ) (n : ℕ) (write : AnsweredWrite) → ClientsAgree w.clients
+  replies_reach : (w : World) (t : Txn) (results : TxnResults) (n : ℕ) (write : AnsweredWrite) → ClientsAgree w.clients
       → answer_due w.clients t ≡ dues.Reply n write
-      → (session_of_connection w.clients.sessions n ≡ Some t.header.client_id) × AnswersOnly n w (answer_txn w t err)
-  replies_reach w t err n write a is = (
+      → (session_of_connection w.clients.sessions n ≡ Some t.header.client_id) × AnswersOnly n w (answer_txn w t results)
+  replies_reach w t results n write a is = (
     owner_has w.clients.sessions t.header.client_id n a.sessions ((due_is w.clients t).replies n write is),
-    subst (λ (due : Due). AnswersOnly n w (give_answer w t err due)) (sym is)
+    subst (λ (due : Due). AnswersOnly n w (give_answer w t results due)) (sym is)
         (write_makes n ⊥ Always (IsApart n NoSession Nobody) (plain_ground n)
         (replies_apart NoSession Nobody stay keep_watches queues n) (plain_answer_ground n)
-        (answers_apart NoSession Nobody stay keep_watches queues n) w t err write.kind tt).is,
+        (answers_apart NoSession Nobody stay keep_watches queues n) w t results write.kind tt).is,
   )
 
-  endings_reach : (w : World) (t : Txn) (err : ℤ) (n : ℕ) → ClientsAgree w.clients
+  endings_reach : (w : World) (t : Txn) (results : TxnResults) (n : ℕ) → ClientsAgree w.clients
       → answer_due w.clients t ≡ dues.Ending n
-      → HasOrAsks n w.clients t.header.client_id × AnswersOnly n w (answer_txn w t err)
-  endings_reach w t err n a is = (
+      → HasOrAsks n w.clients t.header.client_id × AnswersOnly n w (answer_txn w t results)
+  endings_reach w t results n a is = (
     has_or_claims w.clients t.header.client_id n a ((due_is w.clients t).ends n is),
-    subst (λ (due : Due). AnswersOnly n w (give_answer w t err due)) (sym is)
+    subst (λ (due : Due). AnswersOnly n w (give_answer w t results due)) (sym is)
         (ended_makes n ⊥ Always (IsApart n NoSession Nobody) (plain_ground n)
         (replies_apart NoSession Nobody stay keep_watches queues n) w t.header.zxid (pending_close w.clients.pending n)
         tt).is,
@@ -186,18 +187,18 @@ module _ (kept : AgreementIsKept) (stay : OtherConnectionsStay) (keep_watches : 
           (owner_has s session j (kept.closes w.clients.sessions n a.sessions)
           (ap (connection_of s) (sym (own connect waits)) ∙ e))
 
-  admissions_reach : (w : World) (t : Txn) (err : ℤ) (n : ℕ) → ClientsAgree w.clients
+  admissions_reach : (w : World) (t : Txn) (results : TxnResults) (n : ℕ) → ClientsAgree w.clients
       → answer_due w.clients t ≡ dues.Admission n
       → WaitsForSession n w.clients t.header.client_id
       × IsApart n (λ session. session ≡ t.header.client_id)
-      (λ k. session_of_connection w.clients.sessions k ≡ Some t.header.client_id) w (answer_txn w t err)
-  admissions_reach w t err n a is =
+      (λ k. session_of_connection w.clients.sessions k ≡ Some t.header.client_id) w (answer_txn w t results)
+  admissions_reach w t results n a is =
       let session = t.header.client_id in
       let found = (due_is w.clients t).admits n is in (
         found_asks w.clients session n a found,
         subst (λ (due : Due). IsApart n (λ own. own ≡ session)
             (λ k. session_of_connection w.clients.sessions k ≡ Some session) w
-            (give_answer w t err due)) (sym is) (admitted_apart w session n a found),
+            (give_answer w t results due)) (sym is) (admitted_apart w session n a found),
       )
 
   -- ---- a session that a client claims
@@ -244,7 +245,7 @@ module _ (kept : AgreementIsKept) (stay : OtherConnectionsStay) (keep_watches : 
     replies = replies_reach;
     endings = endings_reach;
     admissions = admissions_reach;
-    others = λ w t err is. ap (give_answer w t err) is;
+    others = λ w t results is. ap (give_answer w t results) is;
     claims = claims_reach;
     unclaimed = λ w session lives none. ap (λ (o : Option ℕ). answer_claim w o lives) none;
     syncs = syncs_reach;

@@ -4,6 +4,7 @@ use Rattle.std.specs.Prelude.{ℤ, pos, codes, is_some, nat_lt}
 use Rattle.std.specs.List.{AllByRecursion}
 use Rattle.std.specs.Cmp.{nat_cmp_total}
 use mathlib.Core.Bool.{true≢false}
+use Rattle.data_tree.specs.declared.outcome.TxnResults.{TxnResults}
 use Rattle.world.proofs.Steps.{goes_on}
 use Rattle.std.specs.FinMap as finmap
 use Rattle.std.specs.FinSet as set
@@ -17,7 +18,7 @@ use Rattle.values.specs.declared.fault.Fault.TheVariants.{OutOfOrder}
 use Rattle.jute.specs.Format.{◌>>=◌, judged_at, buffer_at, buffer_limit, vector_at, text_format, read_n, number_bytes}
 use Rattle.jute.specs.Codes.{open_acl}
 use Rattle.jute.specs.Frame.{frame_at}
-use Rattle.jute.specs.Owned.{id_format, acl_format}
+use Rattle.jute.specs.Owned.{id_in, acl_in}
 use Rattle.jute.specs.Records.{stat_format, request_header, reply_header}
 use Rattle.client_records.specs.declared.kind.ReadKind.TheVariants.{GetData}
 use Rattle.client_records.specs.declared.kind.RequestKind.TheVariants as kinds
@@ -57,7 +58,7 @@ use Rattle.watch_manager.specs.declared.event.Event.{Event as NodeEvent}
 use Rattle.watch_manager.specs.Pairs.{watch_cmp}
 use Rattle.watch_manager.specs.Watching.{no_watch}
 use Rattle.watch_manager.specs.Watches.{FireResult, fire}
-use Rattle.watch_manager.specs.Laws.{AllPass, AllLastingPass, OnlyWatchersAreTold, NoEventKeepsWatches}
+use Rattle.watch_manager.specs.Laws.{AllPass, OnlyWatchersAreTold, NoEventKeepsWatches}
 use Rattle.read_processor.specs.Watch.{watch_of}
 use Rattle.settings.specs.declared.dialect.Dialect.{Dialect}
 use Rattle.world.specs.declared.world.Settings.{Settings}
@@ -143,7 +144,7 @@ pub text_fits : (t : List ℕ) → IsUtf8 t → length t ≤ buffer_limit → te
 text_fits t is short = (rw (is_utf8-from_IsUtf8 t is) refl, short)
 
 pub create_fits : txn_format.Fits create_txn
-unfolding acl_format id_format
+unfolding acl_in id_in
 create_fits =
     let path = text_fits (codes "/a") path_is_text (omega arith) in
     let world = text_fits (codes "world") world_is_text (omega arith) in
@@ -232,14 +233,14 @@ abbrev pub packet_of : ℤ → List ℕ → QuorumPacket
 packet_of zxid bytes = record { kind = pos 8; zxid = zxid; bytes = Some bytes; authinfo = None }
 
 abbrev pub one_packet : QuorumPacket → Items Phase Item
-one_packet p = record { found = item.Packet p ∷ []; left = place_at Packets [] }
+one_packet p = record { found = item.Packet p ∷ []; left = place_at (Packets Zk34) [] }
 
-pub create_found : items_shown_at (place_at Packets inform_of_create) ≡ one_packet
+pub create_found : items_shown_at (place_at (Packets Zk34) inform_of_create) ≡ one_packet
     (packet_of (pos 4294967297) (txn_format.written create_txn))
-unfolding items_within packet_format judged_at buffer_at vector_at read_n number_bytes acl_format id_format
+unfolding items_within packet_format judged_at buffer_at vector_at read_n number_bytes acl_in id_in
 create_found = refl
 
-set_found : items_shown_at (place_at Packets inform_of_set_data)
+set_found : items_shown_at (place_at (Packets Zk34) inform_of_set_data)
     ≡ one_packet (packet_of (pos 4294967298) (txn_format.written set_txn))
 unfolding items_within packet_format judged_at buffer_at vector_at read_n number_bytes
 set_found = refl
@@ -294,17 +295,17 @@ set_replied : reply_by (pos 4294967298) written_node 0 ≡ Some reply_of_set_dat
 unfolding reply_header get_data_response stat_format number_bytes
 set_replied = refl
 
-abbrev wanted : Request
-wanted = record { kind = GetData; path = Some (codes "/a"); watch = false }
+abbrev wanted : Dialect → Request
+wanted dialect = record { kind = GetData; path = Some (codes "/a"); watch = false; rules = dialect }
 
-abbrev asking : Call
-asking = record { xid = pos 1; body = Local (Read wanted) }
+abbrev asking : Dialect → Call
+asking dialect = record { xid = pos 1; body = Local (Read (wanted dialect)) }
 
-call_read : (dialect : Dialect) → call_in dialect get_frame ≡ Ok asking
+call_read : (dialect : Dialect) → call_in dialect get_frame ≡ Ok (asking dialect)
 call_read dialect =
     ap (call_after_header dialect) header_read
-    ∙ ap (λ k. Ok (record { xid = pos 1; body = call_body k get_body })) (kind_read dialect)
-    ∙ ap (λ r. Ok (record { xid = pos 1; body = Local (read_as (read_with_flag GetData) (value_if_read r)) })) body_read
+    ∙ ap (λ k. Ok (record { xid = pos 1; body = call_body dialect k get_body })) (kind_read dialect)
+    ∙ ap (λ r. Ok (record { xid = pos 1; body = Local (read_as (read_with_flag dialect GetData) (value_if_read r)) })) body_read
 
 -- ---- where no request waits
 
@@ -367,24 +368,24 @@ module _ (header : TxnHeader) (operation : Operation) where
           ap (λ (p : PendingTable). answered n (finmap.get p.queues n)) none
           ∙ ap (answered n) (finmap.get-empty nat_cmp n)
 
-  pub unasked : (w : World) (touched : TouchedSessions) (place : ℕ) (err : ℤ)
+  pub unasked : (w : World) (touched : TouchedSessions) (place : ℕ) (results : TxnResults)
       → w.clients.pending ≡ pending_at touched → slice_get w.replica.learner.log place ≡ Some txn_of
-      → answer_applied_txn w place err ≡ no_output w
-  unasked w touched place err none at =
-      ap (answer_optional_txn w err) at ∙ no_answer w txn_of err (nobody_asked w.clients touched none)
+      → answer_applied_txn w place results ≡ no_output w
+  unasked w touched place results none at =
+      ap (answer_optional_txn w results) at ∙ no_answer w txn_of results (nobody_asked w.clients touched none)
 
 -- ---- the reply to a read
 
 -- A reply is sent, and its watch is set.
 abbrev shown_by : World → Look → StepResult World
-shown_by w seen = send_reply 1 (with_watches w (with_watch_if 1 w.clients.watches (watch_of wanted seen.error)))
+shown_by w seen = send_reply 1 (with_watches w (with_watch_if 1 w.clients.watches (watch_of (wanted w.settings.dialect) seen.error)))
     (pos 1) seen
 
 -- The reply in a world whose tree has the node.
 answered_by : (w : World) (touched : TouchedSessions) (session : ℤ) (n : Node) (frame : List ℕ)
     → session_of_connection w.clients.sessions 1 ≡ Some session
     → ids_of w.clients.sessions 1 ≡ [] → w.clients.pending ≡ pending_at touched
-    → finmap.get w.replica.tree.nodes (codes "/a") ≡ Some n → look_at_node [] wanted (Some n) ≡ shown_look
+    → finmap.get w.replica.tree.nodes (codes "/a") ≡ Some n → look_at_node [] (wanted w.settings.dialect) (Some n) ≡ shown_look
     (shown_body GetData n) → n.children ≡ set.empty
     → reply_by w.replica.learner.last_zxid n 0 ≡ Some frame
     → serve_frame true 1 w get_frame
@@ -393,9 +394,9 @@ answered_by w touched session n frame joined no_ids none there shows childless i
     let v = heard_in_world w touched session in
     served_at w touched session get_frame joined none refl
     ∙ ap (serve_as 1 session v get_frame) (call_read w.settings.dialect)
-    ∙ handled_at v (set.insert touched session) get_frame (pos 1) (Read wanted) refl
-    ∙ ap (λ (ids : List Id). shown_by v (look_at_state w.replica.tree ids wanted)) no_ids
-    ∙ ap (λ (o : Option Node). shown_by v (look_at_node [] wanted o)) there
+    ∙ handled_at v (set.insert touched session) get_frame (pos 1) (Read (wanted w.settings.dialect)) refl
+    ∙ ap (λ (ids : List Id). shown_by v (look_at_state w.replica.tree ids (wanted w.settings.dialect))) no_ids
+    ∙ ap (λ (o : Option Node). shown_by v (look_at_node [] (wanted w.settings.dialect) o)) there
     ∙ ap (shown_by v) shows
     ∙ ap (λ (c : set.FinSet (slice_cmp nat_cmp)). send_or_close 1 v
     (reply_by w.replica.learner.last_zxid n (set.len c)))
@@ -417,10 +418,8 @@ pub unwatched : OnlyWatchersAreTold → NoEventKeepsWatches → NobodyTold
 unwatched only silent triggers =
     let nobody : AllPass (λ (n : ℕ). false) set.empty =
     λ path n there. sym (set.contains-empty watch_cmp (path, n)) ∙ there in
-    let nobody_lasting : AllLastingPass (λ (n : ℕ). false) finmap.empty =
-    λ path n there. sym (ap is_some (finmap.get-empty watch_cmp (path, n))) ∙ there in
     let none = no_event (fire no_watch triggers).events
-    (only (λ (n : ℕ). false) no_watch triggers (nobody, nobody, nobody_lasting)).0 in
+    (only (λ (n : ℕ). false) no_watch triggers (nobody, nobody, (nobody, nobody))).0 in
     λ i. record { events = none i; left = sym (silent no_watch triggers none) i }
 
 -- ---- events
@@ -546,12 +545,12 @@ abbrev pub one_delivered : World → Result (StepResult WorldAndLoading) Fault �
 one_delivered w r =
     let h = delivery_of r (led w) in
     prepend_outputs (h.outputs ++ []) (with_leader_or_fault h.after.left.world
-    (leader_at h.after.left.loading (place_after (place_at Packets []) h.after.fault)))
+    (leader_at h.after.left.loading (place_after (place_at (Packets Zk34) []) h.after.fault)))
 
 pub inform_comes : (again : ReadAgain) (settings : Settings) (last : ℤ) (log : List Txn) (s : State) (clients : Clients)
     (bytes : List ℕ) (zxid : ℤ) (t : Txn) → txn_format.Fits t →
     let w = world_with settings last log s clients in
-    items_shown_at (place_at Packets bytes) ≡ one_packet (packet_of zxid (txn_format.written t))
+    items_shown_at (place_at (Packets Zk34) bytes) ≡ one_packet (packet_of zxid (txn_format.written t))
     → take_leader_bytes part_reader (Some beginning) w bytes ≡ one_delivered w (done w (apply_txn w.replica.learner t))
 inform_comes again settings last log s clients bytes zxid t fits found =
     let w = world_with settings last log s clients in
@@ -574,10 +573,10 @@ abbrev pub told : List Output → StepResult World → Result (StepResult WorldA
 told events answers = Ok (step_with_loading (nothing_loaded Zk34) (prepend_outputs events answers))
 
 -- The events of the last transaction's triggers are sent, and then its client is answered.
-abbrev pub told_by : World → ℤ → FireResult → Result (StepResult WorldAndLoading) Fault
-told_by w err fired =
+abbrev pub told_by : World → TxnResults → FireResult → Result (StepResult WorldAndLoading) Fault
+told_by w results fired =
     told (notices_of fired.events)
-    (answer_applied_txn (with_watches w fired.left) (length w.replica.learner.log - 1) err)
+    (answer_applied_txn (with_watches w fired.left) (length w.replica.learner.log - 1) results)
 
 -- The create takes effect, and the setData after it.
 abbrev pub meant_create : Settings → Clients → World
@@ -588,11 +587,11 @@ abbrev meant_set : Settings → Clients → World
 meant_set settings clients = world_with settings (pos 4294967298) (create_txn ∷ set_txn ∷ [])
     (effect_of_txn (made settings) set_txn).state clients
 
-abbrev pub create_error : Settings → ℤ
-create_error settings = (answer_of (effect_of_txn (start settings) create_txn)).err
+abbrev pub create_results : Settings → TxnResults
+create_results settings = (answer_of (effect_of_txn (start settings) create_txn)).results
 
-abbrev set_error : Settings → ℤ
-set_error settings = (answer_of (effect_of_txn (made settings) set_txn)).err
+abbrev set_results : Settings → TxnResults
+set_results settings = (answer_of (effect_of_txn (made settings) set_txn)).results
 
 pub create_comes : (again : ReadAgain) (nobody : NobodyTold) (settings : Settings) (touched : TouchedSessions)
     (rest : List ℕ)
@@ -601,13 +600,13 @@ pub create_comes : (again : ReadAgain) (nobody : NobodyTold) (settings : Setting
 create_comes again nobody settings touched rest =
     let clients = clients_at settings touched rest in
     let w = world_with settings (pos 0) [] (start settings) clients in
-    let err = create_error settings in
+    let results = create_results settings in
     inform_comes again settings (pos 0) [] (start settings) clients inform_of_create (pos 4294967297) create_txn
     create_fits create_found
-    ∙ ap (λ (f : FireResult). one_delivered w (told_by (meant_create settings clients) err f))
+    ∙ ap (λ (f : FireResult). one_delivered w (told_by (meant_create settings clients) results f))
     (nobody (effect_of_txn (start settings) create_txn).triggers)
     ∙ ap (λ (h : StepResult World). one_delivered w (told [] h))
-    (unasked create_header (operations.Create create_body) (meant_create settings clients) touched 0 err refl refl)
+    (unasked create_header (operations.Create create_body) (meant_create settings clients) touched 0 results refl refl)
     ∙ ap (λ (s : State). no_output (following settings (pos 4294967297) (create_txn ∷ []) s touched rest))
     (made-is settings)
 
@@ -617,13 +616,13 @@ pub set_comes : (again : ReadAgain) (nobody : NobodyTold) (settings : Settings) 
 set_comes again nobody settings touched =
     let clients = clients_at settings touched [] in
     let w = (after_create settings touched []).world in
-    let err = set_error settings in
+    let results = set_results settings in
     inform_comes again settings (pos 4294967297) (create_txn ∷ []) (made settings) clients inform_of_set_data
     (pos 4294967298) set_txn set_fits set_found
-    ∙ ap (λ (f : FireResult). one_delivered w (told_by (meant_set settings clients) err f))
+    ∙ ap (λ (f : FireResult). one_delivered w (told_by (meant_set settings clients) results f))
     (nobody (effect_of_txn (made settings) set_txn).triggers)
     ∙ ap (λ (h : StepResult World). one_delivered w (told [] h))
-    (unasked set_header (operations.SetData set_body) (meant_set settings clients) touched 1 err refl refl)
+    (unasked set_header (operations.SetData set_body) (meant_set settings clients) touched 1 results refl refl)
     ∙ ap (λ (s : State). no_output (following settings (pos 4294967298) (create_txn ∷ set_txn ∷ []) s touched []))
     (written-is settings)
 

@@ -11,6 +11,7 @@ use mathlib.Core.Bool.{true≢false}
 use Rattle.values.specs.declared.fault.Fault.{Fault}
 use Rattle.jute.specs.Stream.{Unread, items_in, place_at}
 use Rattle.snapshot_codec.specs.Made.{Loading}
+use Rattle.data_tree.specs.declared.outcome.TxnResults.{TxnResults}
 use Rattle.txn_codec.specs.declared.txn.Txn.{Txn}
 use Rattle.txn_codec.specs.declared.row.SessionChange.{SessionChange}
 use Rattle.txn_codec.specs.declared.row.SessionChange.TheVariants as changes
@@ -268,11 +269,11 @@ none_due c t a q = by (session_change t.body)
         ∙ ap ending_of (unwanted Claimed)
     by changes.Nothing = ap (reply_of c t) unowned
 
-txn_quiet : (w : World) (err : ℤ) (o : Option Txn) → Agreeing w → IsQuiet w.clients
-    → QuietAfter (answer_optional_txn w err o)
-txn_quiet w err None a q = q
-txn_quiet w err (Some t) a q =
-    subst (λ (due : Due). QuietAfter (give_answer w t err due)) (sym (none_due w.clients t a q)) q
+txn_quiet : (w : World) (results : TxnResults) (o : Option Txn) → Agreeing w → IsQuiet w.clients
+    → QuietAfter (answer_optional_txn w results o)
+txn_quiet w results None a q = q
+txn_quiet w results (Some t) a q =
+    subst (λ (due : Due). QuietAfter (give_answer w t results due)) (sym (none_due w.clients t a q)) q
 
 -- Nothing is in front.
 front_quiet : (n most : ℕ) (w : World) → IsQuiet w.clients → QuietAfter (answer_up_to most n w)
@@ -304,7 +305,7 @@ sync_quiet w (Of n) q = front_quiet n pending_limit w q
 pub news_quiet : (o : Option LeaderNews) (w : World) → Agreeing w → IsQuiet w.clients → QuietAfter (answer_news o w)
 news_quiet None w a q = q
 news_quiet (Some (news.Ping ping)) w a q = record { nobody = q.nobody; nothing = q.nothing }
-news_quiet (Some (news.Applied place err)) w a q = txn_quiet w err (slice_get w.replica.learner.log place) a q
+news_quiet (Some (news.Applied place results)) w a q = txn_quiet w results (slice_get w.replica.learner.log place) a q
 news_quiet (Some (news.Revalidated session lives)) w a q =
     subst (λ (o : Option ℕ). QuietAfter (answer_claim w o lives)) (sym (none_awaits w.clients a q session Claimed)) q
 news_quiet (Some news.SyncSettled) w a q =

@@ -28,6 +28,7 @@ use Rattle.quorum_packet.specs.Packet.{packet_format}
 use Rattle.quorum_packet.specs.Items.{items_shown_at}
 use Rattle.settings.specs.declared.dialect.Dialect.{Dialect}
 use Rattle.settings.specs.declared.dialect.Dialect.TheVariants.{Zk34}
+use Rattle.data_tree.specs.declared.outcome.TxnResults.{TxnResults}
 use Rattle.txn_codec.specs.declared.txn.TxnHeader.{TxnHeader}
 use Rattle.txn_codec.specs.declared.txn.Body.TheVariants as bodies
 use Rattle.txn_codec.specs.declared.txn.Txn.{Txn}
@@ -98,7 +99,7 @@ ping_kind dialect = refl
 ping_read : (dialect : Dialect) → call_in dialect ping_frame ≡ Ok (record { xid = negsuc 1; body = Local Ping })
 ping_read dialect =
     ap (call_after_header dialect) ping_header
-    ∙ ap (λ k. Ok (record { xid = negsuc 1; body = call_body k [] })) (ping_kind dialect)
+    ∙ ap (λ k. Ok (record { xid = negsuc 1; body = call_body dialect k [] })) (ping_kind dialect)
 
 ping_replied : reply_frame PING_XID (pos 0) (without_body OK) ≡ Some reply_of_ping
 unfolding reply_header number_bytes
@@ -121,7 +122,7 @@ ping_comes settings =
 abbrev leaders_ping : QuorumPacket
 leaders_ping = record { kind = pos 5; zxid = pos 4294967298; bytes = None; authinfo = None }
 
-leaders_ping_found : items_shown_at (place_at Packets leader_ping) ≡ one_packet leaders_ping
+leaders_ping_found : items_shown_at (place_at (Packets Zk34) leader_ping) ≡ one_packet leaders_ping
 unfolding items_within packet_format judged_at buffer_at vector_at read_n number_bytes
 leaders_ping_found = refl
 
@@ -450,7 +451,7 @@ session_txn = record { header = session_header; body = bodies.CreateSession (pos
 session_fits : txn_format.Fits session_txn
 session_fits = ((refl, search rules), ((refl, search rules), (refl, search rules)))
 
-session_found : items_shown_at (place_at Packets inform_of_session)
+session_found : items_shown_at (place_at (Packets Zk34) inform_of_session)
     ≡ one_packet (packet_of (pos 4294967297) (txn_format.written session_txn))
 unfolding items_within packet_format judged_at buffer_at vector_at read_n number_bytes
 session_found = refl
@@ -484,8 +485,8 @@ module _ (settings : Settings) (three : IsThird settings)
   applied = world_with settings (pos 4294967297) (session_txn ∷ []) (effect_of_txn (start settings) session_txn).state
       (world_of settings (sessions_after settings 2) (connect_waits settings)).clients
 
-  abbrev error : ℤ
-  error = (answer_of (effect_of_txn (start settings) session_txn)).err
+  abbrev results : TxnResults
+  results = (answer_of (effect_of_txn (start settings) session_txn)).results
 
   -- The connect has left.
   abbrev left : World
@@ -535,12 +536,12 @@ module _ (settings : Settings) (three : IsThird settings)
             (clamped_timeout settings.timeouts (pos 10000));
       }
 
-  connect_answered : answer_applied_txn applied 0 error ≡ responded response_of_session
+  connect_answered : answer_applied_txn applied 0 results ≡ responded response_of_session
   connect_answered =
-      ap (λ (o : Option ℕ). give_answer applied session_txn error
+      ap (λ (o : Option ℕ). give_answer applied session_txn results
       (admission_of (awaiting_as (connect_waits settings) New o)))
       (finmap.get-insert int_cmp_total finmap.empty second_session 2 second_session)
-      ∙ ap (λ (q : RequestQueue). give_answer applied session_txn error
+      ∙ ap (λ (q : RequestQueue). give_answer applied session_txn results
       (admission_of (cond (asks_as New (waiting_connect q)) (Some 2) None))) (queue_is 2 (Connect (waiting settings)))
       ∙ ap (λ (q : RequestQueue). taking (waiting_connect q)) (queue_is 2 (Connect (waiting settings)))
       ∙ ap (λ (q : RequestQueue). admit_as 2 left (held_frames q) (Some (waiting settings)))
@@ -563,7 +564,7 @@ module _ (settings : Settings) (three : IsThird settings)
       let before = world_of settings (sessions_after settings 2) (connect_waits settings) in
       inform_comes again settings (pos 0) [] (start settings) before.clients inform_of_session (pos 4294967297)
       session_txn session_fits session_found
-      ∙ ap (λ (f : FireResult). one_delivered before (told_by applied error f))
+      ∙ ap (λ (f : FireResult). one_delivered before (told_by applied results f))
       (nobody (effect_of_txn (start settings) session_txn).triggers)
       ∙ ap (λ (h : StepResult World). one_delivered before (told [] h)) connect_answered
 

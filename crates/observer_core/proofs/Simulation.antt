@@ -163,8 +163,8 @@ module _ (law : ImagesComeInParts) (stays : DialectStays) where
     none_do owed l w waits none order rest = record {
       outputs = refl;
       world = refl;
-      leader = stands_alike l (expected w.replica) p q p.unread q.unread rest.1
-          (record { same = rest; awaited = λ e. waits (order ∙ sym rest.0 ∙ e) });
+      leader = stands_alike l (expected w.replica) p q p.unread q.unread rest.2
+          (record { same = rest; awaited = λ e. waits (order ∙ sym rest.1 ∙ e) });
     }
 
     -- The items after one that left no image being loaded. What it told leaves the replica.
@@ -281,8 +281,8 @@ module _ (law : ImagesComeInParts) (stays : DialectStays) where
   -- Where a packet comes next, nothing is loaded.
   none_loaded : (dialect : Dialect) (l : Loading) (phase : Phase) (u v : List ℕ)
       → SameUnread dialect l phase (Ok u) (Ok v) → is_owed phase ≡ false → l ≡ nothing_loaded dialect
-  none_loaded dialect l Packets u v s e = s.0
-  none_loaded dialect l (Image phase) u v s e = absurd cc
+  none_loaded dialect l (Packets d) u v s e = s.0
+  none_loaded dialect l (Image d phase) u v s e = absurd cc
 
   module _ (pieces : PiecesAreGrouped) (order : ItemsAreInOrder) where
     abbrev ArriveAlike : Loading → World → Place Phase → Place Bool → List ℕ → Type 0
@@ -302,12 +302,12 @@ module _ (law : ImagesComeInParts) (stays : DialectStays) where
         let same = pieces dialect l place whole bytes a.same in
         subst (λ (found : List WholeItem).
         Same (by_part l w shown) (by_image w (record { found = found; left = left }))) same.found
-        (all_do shown.left left shown.found (is_owed phase) l w (λ owes. a.awaited (a.same.0 ∙ owes))
-        (none_loaded dialect l phase u v a.same.1) (order (with_more_bytes place bytes)) same.rest)
+        (all_do shown.left left shown.found (is_owed phase) l w (λ owes. a.awaited (a.same.1 ∙ owes))
+        (none_loaded dialect l phase u v a.same.2) (order (with_more_bytes place bytes)) same.rest)
     arrives_at l w bytes phase owed (Err d) (Err e) a =
-        record { outputs = refl; world = refl; leader = a.same.1 }
-    arrives_at l w bytes phase owed (Ok u) (Err e) a = absurd a.same.1
-    arrives_at l w bytes phase owed (Err d) (Ok v) a = absurd a.same.1
+        record { outputs = refl; world = refl; leader = a.same.2 }
+    arrives_at l w bytes phase owed (Ok u) (Err e) a = absurd a.same.2
+    arrives_at l w bytes phase owed (Err d) (Ok v) a = absurd a.same.2
 
     pub arrives_same : (l : Loading) (place : Place Phase) (whole : Place Bool) (w : World) (bytes : List ℕ)
         → Alike l (expected w.replica) place whole → ArriveAlike l w place whole bytes

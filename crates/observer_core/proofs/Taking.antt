@@ -121,6 +121,7 @@ replies_keep n session = record {
   closes = λ w a has. closed_has n session w.clients;
   sends = λ w bytes has. has;
   watches = λ w watch a has. has;
+  unwatches = λ w kind path a has. has;
   auths = λ w scheme bytes a has here. auth_keeps w.clients.sessions n scheme bytes session (has here);
 }
 

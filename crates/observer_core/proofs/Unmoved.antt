@@ -28,6 +28,7 @@ replies_same n = record {
   closes = λ w a. refl;
   sends = λ w bytes. refl;
   watches = λ w watch a. refl;
+  unwatches = λ w kind path a. refl;
   auths = λ w scheme bytes a. refl;
 }
 

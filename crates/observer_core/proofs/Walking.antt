@@ -4,6 +4,7 @@ use Rattle.std.specs.Prelude.{is_some, nat_lt}
 use Rattle.std.specs.Ordering.{eq_by_cmp, nat_cmp, int_eq}
 use Rattle.std.specs.Cmp.{nat_cmp_total}
 use Rattle.std.proofs.lemmas.Bool.{cond_both}
+use Rattle.std.specs.Option.{unwrap_or}
 use Rattle.std.specs.FinMap as finmap
 use mathlib.Core.Bool.{true≢false}
 use Rattle.values.specs.declared.fault.Fault.{Fault}
@@ -32,9 +33,15 @@ use Rattle.learner_sync.specs.Answers.{session_request}
 use Rattle.settings.specs.Dialects.{reads_of}
 use Rattle.read_processor.specs.declared.watch.Watch.{Watch}
 use Rattle.read_processor.specs.declared.renewal.Renewal.{Renewal}
+use Rattle.read_processor.specs.declared.shown.Look.{Look}
 use Rattle.read_processor.specs.Look.{look_at_state, without_body}
-use Rattle.read_processor.specs.Watch.{watch_of, watch_to_add}
-use Rattle.read_processor.specs.Renewal.{renew_watches}
+use Rattle.read_processor.specs.Watch.{watch_of, watch_to_add, look_of_added, watch_sought}
+use Rattle.read_processor.specs.Renewal.{renew_watches, renew_all_watches}
+use Rattle.read_processor.specs.LaterReads.{look_at_ephemerals, look_below, look_at_ids, look_of_sasl}
+use Rattle.read_processor.specs.MultiReads.{look_at_parts}
+use Rattle.watch_manager.specs.Kinds.{without_watch}
+use Rattle.watch_manager.specs.declared.kind.WatchKind.{WatchKind}
+use Rattle.read_processor.specs.declared.watch.SoughtWatch.{SoughtWatch}
 use Rattle.read_processor.specs.Reply.{reply_frame}
 use Rattle.read_processor.specs.Events.{look_of_event}
 use Rattle.watch_manager.specs.declared.event.Event.{Event}
@@ -44,10 +51,12 @@ use Rattle.world.specs.declared.output.Output.TheVariants.{ToClient}
 use Rattle.world.specs.World.{OpenConnection, World}
 use Rattle.world.specs.Steps.{StepResult, no_output, and_then, fold_steps}
 use Rattle.world.specs.Clients.{is_open, heard_in, heard_connection, with_connection, sent_to, notice_to, notices_to}
-use Rattle.world.specs.Sending.{to_leader, close_client, send_or_close, send_last, with_watches, with_sessions, with_pending, close_client_if_some}
-use Rattle.client_service.specs.Serve.{with_watch, with_watch_if, with_each_watch, answer_set_watches, answer_add_watch, answer_auth, touched_as, touch_client, send_auth_result, send_connect_response, ask_for_session, close_others, ask_about_session, claim_session, claim_or_refuse, is_claim, is_new_session, finish_connect, may_connect, is_live, connect_client, call_of, handle_connect, handle_local, forward_frame, with_leaving, handle_call, serve_as, serve_by, header_len, is_refused_frame, serve_frame, figures_of, word_at, is_unheard, with_waiting_bytes, wait_if_heard, wait_at, frames_of_client, tell_or_serve, take_client_bytes}
+use Rattle.world.specs.Sending.{to_leader, close_client, send_or_close, send_last, send_reply, with_watches, with_sessions, with_pending, close_client_if_some}
+use Rattle.client_service.specs.LaterReads.{answer_sasl, unreadable_error, answer_unreadable, unknown_zxid}
+use Rattle.client_service.specs.Serve.{with_watch, with_watch_if, with_each_watch, answer_set_watches, answer_add_watch, has_sought_watch, look_of_sought, answer_check_watches, answer_remove_watches, answer_auth, touched_as, touch_client, send_auth_result, send_connect_response, ask_for_session, close_others, ask_about_session, claim_session, claim_or_refuse, is_claim, is_new_session, finish_connect, may_connect, is_live, connect_client, call_of, handle_connect, handle_local, forward_frame, with_leaving, handle_call, serve_as, serve_by, header_len, is_refused_frame, serve_frame, figures_of, word_at, is_unheard, with_waiting_bytes, wait_if_heard, wait_at, frames_of_client, tell_or_serve, take_client_bytes}
 use Rattle.world.proofs.NatMaps.{get-inserted, get-kept}
 use Rattle.observer_core.proofs.Passing.{closed_none}
+pub use Rattle.observer_core.proofs.Idle.{first_false, first_true, none_is, no_session, idle_queue, idle_connect, heard_there}
 
 abbrev pub IsOpen : ℕ → World → Type 0
 IsOpen n w = is_open n w.clients ≡ true
@@ -109,6 +118,8 @@ pub record IsGround (n : ℕ) (Strict : Type 0) (A : World → Type 0) : Type 0 
   pub closes : (k : ℕ) (w : World) → A w → A (close_client k w).after
   pub watches : (w : World) (watch : Watch) → (Strict → IsOpen n w) → A w
       → A (with_watches w (with_watch n w.clients.watches watch))
+  pub unwatches : (w : World) (kind : WatchKind) (path : List ℕ) → A w
+      → A (with_watches w (without_watch kind n path w.clients.watches))
   pub auths : (w : World) (scheme bytes : Option (List ℕ)) → (Strict → IsOpen n w) → A w
       → A (with_sessions w (add_auth w.clients.sessions n scheme bytes).after)
   pub touches : (w : World) (session : ℤ) → A w → A (with_pending w (touch_session w.clients.pending session))
@@ -142,6 +153,8 @@ pub record HoldsOfReplies (n : ℕ) (A : World → Type 0) (Q : Steps) : Type 0 
   pub sends : (w : World) (bytes : List ℕ) → Q w (record { outputs = ToClient n bytes ∷ []; after = w })
   pub watches : (w : World) (watch : Watch) → A w
       → Q w (no_output (with_watches w (with_watch n w.clients.watches watch)))
+  pub unwatches : (w : World) (kind : WatchKind) (path : List ℕ) → A w
+      → Q w (no_output (with_watches w (without_watch kind n path w.clients.watches)))
   pub auths : (w : World) (scheme bytes : Option (List ℕ)) → A w
       → Q w (no_output (with_sessions w (add_auth w.clients.sessions n scheme bytes).after))
 
@@ -180,42 +193,7 @@ pub record Makes (A : World → Type 0) (Q : Steps) (w : World) (h : StepResult 
   pub keeps : A h.after
   pub is : Q w h
 
--- ---- facts of Booleans
-
-pub first_false : (a b : Bool) → (a || b) ≡ false → a ≡ false
-first_false true b e = absurd (true≢false e)
-first_false false b e = refl
-
-pub first_true : (a b : Bool) → (a && b) ≡ true → a ≡ true
-first_true true b e = refl
-first_true false b e = absurd (true≢false (sym e))
-
-pub none_is : {X : Type 0} (o : Option X) → is_some o ≡ false → o ≡ None
-none_is None e = refl
-none_is (Some x) e = absurd (true≢false e)
-
-pub no_session : (o : Option Joined) → session_in o ≡ None → o ≡ None
-no_session None e = refl
-no_session (Some c) e = absurd (true≢false (ap is_some e))
-
--- A connection of which nothing waits has no connect that waits.
-pub idle_queue : (p : PendingTable) (n : ℕ) → is_idle p n ≡ true → queue_of p n ≡ []
-idle_queue p n e = by (finmap.get p.queues n) e
-  where
-    by : (o : Option RequestQueue) → not (is_some o) ≡ true → queue_in o ≡ []
-    by None e = refl
-    by (Some q) e = absurd (true≢false (sym e))
-
-pub idle_connect : (p : PendingTable) (n : ℕ) → is_idle p n ≡ true → waiting_connect (queue_of p n) ≡ None
-idle_connect p n e = ap waiting_connect (idle_queue p n e)
-
-pub heard_there : (o : Option OpenConnection) (k : OpenConnection) → heard_in o ≡ Some k → o ≡ Some k
-heard_there None k e = absurd (true≢false (sym (ap is_some e)))
-heard_there (Some c) k e = by c.is_leaving e
-  where
-    by : (b : Bool) → cond b None (Some c) ≡ Some k → Some c ≡ Some k
-    by true e = absurd (true≢false (sym (ap is_some e)))
-    by false e = e
+-- ---- connections that are open
 
 pub heard_open : (n : ℕ) (w : World) → is_unheard n w ≡ false → IsOpen n w
 heard_open n w e = by (finmap.get w.clients.connections n) e
@@ -291,6 +269,30 @@ module _ (n : ℕ) (Strict : Type 0) (A : World → Type 0) (Q : Steps) (ground 
   watch_if_makes w None here a = stay_makes w a
   watch_if_makes w (Some watch) here a = watch_makes w watch here a
 
+  -- A request whose body can't be read.
+  unread_makes : (w : World) (xid : ℤ) → A w → Makes A Q w (answer_unreadable n w xid)
+  unread_makes w xid a =
+      send_makes w (reply_frame xid w.replica.learner.last_zxid (without_body (unreadable_error w.settings.dialect))) a
+
+  checked_makes : (w : World) (xid : ℤ) (o : Option SoughtWatch) → A w
+      → Makes A Q w (answer_check_watches n w xid o)
+  checked_makes w xid None a = unread_makes w xid a
+  checked_makes w xid (Some sought) a =
+      send_makes w (reply_frame xid w.replica.learner.last_zxid (look_of_sought (has_sought_watch n w sought))) a
+
+  removed_makes : (w : World) (xid : ℤ) (o : Option SoughtWatch) → A w
+      → Makes A Q w (answer_remove_watches n w xid o)
+  removed_makes w xid None a = unread_makes w xid a
+  removed_makes w xid (Some sought) a =
+      let frame = reply_frame xid w.replica.learner.last_zxid (look_of_sought (has_sought_watch n w sought)) in
+      let v = with_watches w (without_watch sought.kind n sought.path w.clients.watches) in
+      then_makes w (no_output v) (λ u. send_or_close n u frame)
+      (record {
+        keeps = ground.unwatches w sought.kind sought.path a;
+        is = r.unwatches w sought.kind sought.path a;
+      })
+      (send_makes v frame)
+
   notice_makes : (w : World) (event : Event) → A w → Makes A Q w (record { outputs = notice_to n event; after = w })
   notice_makes w event a = by (reply_frame NOTIFICATION_XID (negsuc 0) (look_of_event event))
     where
@@ -321,10 +323,9 @@ module _ (n : ℕ) (Strict : Type 0) (A : World → Type 0) (Q : Steps) (ground 
 
   added_makes : (w : World) (xid : ℤ) (o : Option Watch) → (Strict → IsOpen n w) → A w
       → Makes A Q w (answer_add_watch n w xid o)
-  added_makes w xid None here a =
-      send_makes w (reply_frame xid w.replica.learner.last_zxid (without_body BAD_ARGUMENTS)) a
+  added_makes w xid None here a = unread_makes w xid a
   added_makes w xid (Some watch) here a =
-      let frame = reply_frame xid w.replica.learner.last_zxid (without_body OK) in
+      let frame = reply_frame xid w.replica.learner.last_zxid (look_of_added w.settings.dialect) in
       let v = with_watches w (with_watch n w.clients.watches watch) in
       then_makes w (no_output v) (λ u. send_or_close n u frame) (watch_makes w watch here a) (send_makes v frame)
 
@@ -362,27 +363,48 @@ module _ (n : ℕ) (Strict : Type 0) (A : World → Type 0) (Q : Steps) (ground 
 
   auth_makes : (w : World) (xid : ℤ) (o : Option AuthPacket) → (Strict → IsOpen n w) → A w
       → Makes A Q w (answer_auth n w xid o)
-  auth_makes w xid None here a =
-      send_makes w (reply_frame xid w.replica.learner.last_zxid (without_body BAD_ARGUMENTS)) a
+  auth_makes w xid None here a = unread_makes w xid a
   auth_makes w xid (Some packet) here a = shown_makes w xid packet here a
 
   -- ---- requests that are answered here
+
+  shown_look_makes : (w : World) (xid : ℤ) (seen : Look) → A w → Makes A Q w (send_reply n w xid seen)
+  shown_look_makes w xid seen a = send_makes w (reply_frame xid w.replica.learner.last_zxid seen) a
 
   pub local_makes : (w : World) (xid : ℤ) (c : LocalCall) → (Strict → IsOpen n w) → A w
       → Makes A Q w (handle_local n w xid c)
   local_makes w xid (locals.Read r) here a =
       let seen = look_at_state w.replica.tree (ids_of w.clients.sessions n) r in
       read_makes w xid (watch_of r seen.error) (reply_frame xid w.replica.learner.last_zxid seen) here a
-  local_makes w xid (locals.SetWatches r) here a = renewed_makes w xid (renew_watches w.replica.tree r) here a
-  local_makes w xid (locals.AddWatch r) here a = added_makes w xid (watch_to_add r) here a
-  local_makes w xid locals.Unreadable here a =
-      send_makes w (reply_frame xid w.replica.learner.last_zxid (without_body BAD_ARGUMENTS)) a
+  local_makes w xid (locals.SetWatches r) here a =
+      renewed_makes w xid (renew_watches w.settings.dialect w.replica.tree r) here a
+  local_makes w xid (locals.SetWatches2 r) here a =
+      renewed_makes w xid (Some (renew_all_watches w.replica.tree r)) here a
+  local_makes w xid (locals.AddWatch r) here a = added_makes w xid (watch_to_add w.settings.dialect r) here a
+  local_makes w xid (locals.CheckWatches r) here a = checked_makes w xid (watch_sought r) a
+  local_makes w xid (locals.RemoveWatches r) here a = removed_makes w xid (watch_sought r) a
+  local_makes w xid (locals.MultiRead parts) here a =
+      shown_look_makes w xid (look_at_parts w.replica.tree (ids_of w.clients.sessions n) parts) a
+  local_makes w xid (locals.GetEphemerals r) here a =
+      let session = unwrap_or (session_of_connection w.clients.sessions n) (pos 0) in
+      shown_look_makes w xid (look_at_ephemerals w.replica.tree session r.path) a
+  local_makes w xid (locals.GetAllChildrenNumber r) here a =
+      shown_look_makes w xid (look_below w.replica.tree (ids_of w.clients.sessions n) r.path) a
+  local_makes w xid locals.WhoAmI here a = shown_look_makes w xid (look_at_ids (ids_of w.clients.sessions n)) a
+  local_makes w xid (locals.Sasl r) here a = by r.token
+    where
+      by : (token : Option (List ℕ)) → Makes A Q w (answer_sasl n w xid token)
+      by None = close_makes w a
+      by (Some token) = send_makes w (reply_frame xid (pos 0) look_of_sasl) a
+  local_makes w xid locals.InvalidPath here a = shown_look_makes w xid (without_body BAD_ARGUMENTS) a
+  local_makes w xid locals.Unreadable here a = unread_makes w xid a
   local_makes w xid locals.Ping here a =
       send_makes w (reply_frame PING_XID w.replica.learner.last_zxid (without_body OK)) a
   local_makes w xid locals.Refused here a =
       send_makes w (reply_frame xid w.replica.learner.last_zxid (without_body NOT_READ_ONLY)) a
   local_makes w xid locals.Unknown here a =
-      send_last_makes w (reply_frame xid w.replica.learner.last_zxid (without_body UNIMPLEMENTED)) a
+      let zxid = unknown_zxid w.settings.dialect w.replica.learner.last_zxid in
+      send_last_makes w (reply_frame xid zxid (without_body UNIMPLEMENTED)) a
 
   pub greet_makes : (w : World) (has_byte : Bool) (response : SessionResponse) → A w
       → Makes A Q w (send_connect_response n has_byte response w)

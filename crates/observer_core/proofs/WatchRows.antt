@@ -55,7 +55,7 @@ use Rattle.world.specs.Sending.{send_or_close, send_reply, with_watches}
 use Rattle.client_service.specs.Serve.{with_watch_if, serve_as, serve_frame, frames_of_client, take_client_bytes}
 use Rattle.observer_core.specs.Play.{play_event, play, primed_session, new_machine}
 use Rattle.world.proofs.NatMaps.{get-removed}
-use Rattle.observer_core.proofs.Rows.{earlier_machine, path_is_text, create_header, create_body, create_txn, create_fits, root, root_there, name_free, start, made-is, create_found, one_frame, get_found, heard_in_world, served_at, handled_at, unasked, NobodyTold, ReadAgain, at_first, heard, joined_first, no_ids_first, world_at, beginning, following, one_delivered, inform_comes, after_create, after_set, told, told_by, meant_create, create_error, create_comes, set_comes, closed, refusing, create_comes_again, replying, in_hand, frame_served, first_open, front_comes, get_after_create, get_after_set}
+use Rattle.observer_core.proofs.Rows.{earlier_machine, path_is_text, create_header, create_body, create_txn, create_fits, root, root_there, name_free, start, made-is, create_found, one_frame, get_found, heard_in_world, served_at, handled_at, unasked, NobodyTold, ReadAgain, at_first, heard, joined_first, no_ids_first, world_at, beginning, following, one_delivered, inform_comes, after_create, after_set, told, told_by, meant_create, create_results, create_comes, set_comes, closed, refusing, create_comes_again, replying, in_hand, frame_served, first_open, front_comes, get_after_create, get_after_set}
 
 -- ---- a watch
 
@@ -81,15 +81,15 @@ exists_body_read : path_and_watch.read exists_body ≡ Ok (record { path = Some 
 unfolding path_and_watch judged_at buffer_at
 exists_body_read = rw (is_utf8-from_IsUtf8 (codes "/a") path_is_text)
 
-abbrev watch_wanted : Request
-watch_wanted = record { kind = Exists; path = Some (codes "/a"); watch = true }
+abbrev watch_wanted : Dialect → Request
+watch_wanted dialect = record { kind = Exists; path = Some (codes "/a"); watch = true; rules = dialect }
 
 exists_read : (dialect : Dialect) → call_in dialect exists_frame
-    ≡ Ok (record { xid = pos 2; body = Local (Read watch_wanted) })
+    ≡ Ok (record { xid = pos 2; body = Local (Read (watch_wanted dialect)) })
 exists_read dialect =
     ap (call_after_header dialect) exists_header
-    ∙ ap (λ k. Ok (record { xid = pos 2; body = call_body k exists_body })) (exists_kind dialect)
-    ∙ ap (λ r. Ok (record { xid = pos 2; body = Local (read_as (read_with_flag Exists) (value_if_read r)) }))
+    ∙ ap (λ k. Ok (record { xid = pos 2; body = call_body dialect k exists_body })) (exists_kind dialect)
+    ∙ ap (λ r. Ok (record { xid = pos 2; body = Local (read_as (read_with_flag dialect Exists) (value_if_read r)) }))
     exists_body_read
 
 nothing_there : finmap.get fresh_state.nodes (codes "/a") ≡ None
@@ -113,9 +113,9 @@ exists_served : (settings : Settings)
 exists_served settings =
     served_at w set.empty session exists_frame (joined_first settings) refl refl
     ∙ ap (serve_as 1 session v exists_frame) (exists_read settings.dialect)
-    ∙ handled_at v (heard settings set.empty) exists_frame (pos 2) (Read watch_wanted) refl
-    ∙ ap (λ (ids : List Id). looked (look_at_state w.replica.tree ids watch_wanted)) (no_ids_first settings)
-    ∙ ap (λ (o : Option Node). looked (look_at_node [] watch_wanted o)) nothing_there
+    ∙ handled_at v (heard settings set.empty) exists_frame (pos 2) (Read (watch_wanted settings.dialect)) refl
+    ∙ ap (λ (ids : List Id). looked (look_at_state w.replica.tree ids (watch_wanted settings.dialect))) (no_ids_first settings)
+    ∙ ap (λ (o : Option Node). looked (look_at_node [] (watch_wanted settings.dialect) o)) nothing_there
     ∙ ap (send_or_close 1 (waiting settings)) missing_replied
   where
     session : ℤ
@@ -128,7 +128,7 @@ exists_served settings =
     v = heard_in_world w set.empty session
 
     looked : Look → StepResult World
-    looked seen = send_reply 1 (with_watches v (with_watch_if 1 v.clients.watches (watch_of watch_wanted seen.error)))
+    looked seen = send_reply 1 (with_watches v (with_watch_if 1 v.clients.watches (watch_of (watch_wanted settings.dialect) seen.error)))
         (pos 2) seen
 
 abbrev awaiting : Settings → Machine
@@ -165,14 +165,14 @@ watched_create_comes again rows settings =
     let w = waiting settings in
     let clients = w.clients in
     let touched = heard settings set.empty in
-    let err = create_error settings in
+    let results = create_results settings in
     let unwatching = with_watches (meant_create settings clients) no_watch in
     inform_comes again settings (pos 0) [] (start settings) clients inform_of_create (pos 4294967297) create_txn
     create_fits create_found
-    ∙ ap (λ (f : FireResult). one_delivered w (told_by (meant_create settings clients) err f))
+    ∙ ap (λ (f : FireResult). one_delivered w (told_by (meant_create settings clients) results f))
     (ap (fire one_watch) (create_triggers settings) ∙ rows.created)
     ∙ ap (λ (h : StepResult World). one_delivered w (told (notices_of ((1, node_created) ∷ [])) h))
-    (unasked create_header (operations.Create create_body) unwatching touched 0 err refl refl)
+    (unasked create_header (operations.Create create_body) unwatching touched 0 results refl refl)
     ∙ ap (λ (frame : Option (List ℕ)). one_delivered w (told (sent_to 1 frame ++ []) (no_output unwatching)))
     event_sent
     ∙ ap (λ (s : State). replying event_of_create

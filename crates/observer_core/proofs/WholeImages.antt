@@ -76,12 +76,12 @@ stood_same a b s = by a.after.place b.after.place s.leader
 
 ends_at : (d : Dialect) (l : Loading) (phase : Phase) (u v : Unread) → SameUnread d l phase u v
     → stream_end phase u ≡ whole_end (is_owed phase) v
-ends_at d l Packets (Ok u) (Ok v) s = ap (λ (x : List ℕ). stream_end Packets (Ok x)) s.1 ∙ by v
+ends_at d l (Packets dialect) (Ok u) (Ok v) s = ap (λ (x : List ℕ). stream_end (Packets dialect) (Ok x)) s.1 ∙ by v
   where
-    by : (x : List ℕ) → stream_end Packets (Ok x) ≡ whole_end false (Ok x)
+    by : (x : List ℕ) → stream_end (Packets dialect) (Ok x) ≡ whole_end false (Ok x)
     by [] = refl
     by (b ∷ bytes) = refl
-ends_at d l (Image phase) (Ok u) (Ok v) s = refl
+ends_at d l (Image dialect phase) (Ok u) (Ok v) s = refl
 ends_at d l phase (Err fault) (Err e) s = ap (λ x. Err x) s
 ends_at d l phase (Ok u) (Err e) s = absurd s
 ends_at d l phase (Err fault) (Ok v) s = absurd s
@@ -89,8 +89,8 @@ ends_at d l phase (Err fault) (Ok v) s = absurd s
 ends_same : (d : Dialect) (l : Loading) (place : Place Phase) (whole : Place Bool) → SamePlace d l place whole
     → stream_end place.phase place.unread ≡ whole_end whole.phase whole.unread
 ends_same d l place whole s =
-    ends_at d l place.phase place.unread whole.unread s.1
-    ∙ ap (λ (owed : Bool). whole_end owed whole.unread) (sym s.0)
+    ends_at d l place.phase place.unread whole.unread s.2
+    ∙ ap (λ (owed : Bool). whole_end owed whole.unread) (sym s.1)
 
 ended_same : (w : World) (r : Result (Unit {0}) Fault) → SameStep (on_stream_end r w) (on_stream_end r w)
 ended_same w (Ok u) = record { outputs = refl; machine = record { world = refl; leader = tt } }
@@ -121,7 +121,7 @@ beside_same w l p h same a = record {
 opened_alike : (d : Dialect) (x : Expected) → x.dialect ≡ d
     → Alike (part_reader.opened d).loading x (part_reader.opened d).place (image_reader.opened d)
 opened_alike d x speaks =
-    record { same = (refl, (ap nothing_loaded (sym speaks), refl)); awaited = λ owes. absurd cc }
+    record { same = (sym speaks, refl, (ap nothing_loaded (sym speaks), refl)); awaited = λ owes. absurd cc }
 
 module _ (law : ImagesComeInParts) (stays : DialectStays) (pieces : PiecesAreGrouped) (order : ItemsAreInOrder) where
   -- Both machines have the same world.

@@ -4,10 +4,12 @@ use Rattle.std.specs.List.{AllByRecursion}
 use Rattle.std.specs.FinMap as finmap
 use Rattle.std.specs.FinSet as set
 use Rattle.observer_core.specs.declared.event.Event.TheVariants.{ClientUp, ClientBytes, ClientEnd}
+use Rattle.data_tree.specs.declared.outcome.TxnResults.{TxnResults}
 use Rattle.world.specs.declared.output.Output.{Output}
 use Rattle.world.specs.declared.output.Output.TheVariants.{ToLeader, ToClient, CloseLeader, CloseClient}
 use Rattle.world.specs.World.{Clients, World}
 use Rattle.observer_core.specs.Machine.{Machine}
+use Rattle.watch_manager.specs.Watching.{WatchTables}
 use Rattle.sessions.specs.Sessions.{session_of_connection}
 use Rattle.jute.specs.declared.owned.Id.{Id}
 use Rattle.quorum_packet.specs.Packet.{packet_format}
@@ -84,15 +86,21 @@ pub record IsTakenUp (n : ℕ) (before after : Clients) (k : ℕ) : Type 0 where
 abbrev pub IsNotClosed : ℕ → List Output → Type 0
 IsNotClosed k outputs = AllByRecursion (λ output. output ≢ CloseClient k) outputs
 
+-- Connection k keeps its watches.
+pub record HasSameWatches (k : ℕ) (before after : WatchTables) : Type 0 where
+  pub data_watches : (path : List ℕ)
+      → set.contains after.data_watches (path, k) ≡ set.contains before.data_watches (path, k)
+  pub child : (path : List ℕ) → set.contains after.child (path, k) ≡ set.contains before.child (path, k)
+  pub persistent : (path : List ℕ)
+      → set.contains after.lasting.persistent (path, k) ≡ set.contains before.lasting.persistent (path, k)
+  pub recursive : (path : List ℕ)
+      → set.contains after.lasting.recursive (path, k) ≡ set.contains before.lasting.recursive (path, k)
+
 -- Connection k keeps its waiting bytes, its session, its ids, its watches and its waiting requests.
 pub record IsUntouched (k : ℕ) (before after : Clients) : Type 0 where
   pub rest : finmap.get after.connections k ≡ finmap.get before.connections k
   pub session : finmap.get after.sessions.connections k ≡ finmap.get before.sessions.connections k
-  pub data_watches : (path : List ℕ)
-      → set.contains after.watches.data_watches (path, k) ≡ set.contains before.watches.data_watches (path, k)
-  pub child : (path : List ℕ) → set.contains after.watches.child (path, k) ≡ set.contains before.watches.child (path, k)
-  pub lasting : (path : List ℕ)
-      → finmap.get after.watches.lasting (path, k) ≡ finmap.get before.watches.lasting (path, k)
+  pub watches : HasSameWatches k before.watches after.watches
   pub waits : Stays k before.pending after.pending
 
 -- The step concerns client n alone, whose sessions are in `own`, and may close the connections in `left` besides.
@@ -125,22 +133,22 @@ AnswersOnly n w h = IsApart n (λ session. ⊥) (λ k. ⊥) w h
 
 pub record AnswersReachOneClient : Type 0 where
   -- A transaction that was made of a write answers the client that has its session.
-  pub replies : (w : World) (t : Txn) (err : ℤ) (n : ℕ) (write : AnsweredWrite) → ClientsAgree w.clients
+  pub replies : (w : World) (t : Txn) (results : TxnResults) (n : ℕ) (write : AnsweredWrite) → ClientsAgree w.clients
       → answer_due w.clients t ≡ dues.Reply n write
-      → (session_of_connection w.clients.sessions n ≡ Some t.header.client_id) × AnswersOnly n w (answer_txn w t err)
+      → (session_of_connection w.clients.sessions n ≡ Some t.header.client_id) × AnswersOnly n w (answer_txn w t results)
   -- One that ends a session answers the client that has it, or claims it, whose connection closes.
-  pub endings : (w : World) (t : Txn) (err : ℤ) (n : ℕ) → ClientsAgree w.clients
+  pub endings : (w : World) (t : Txn) (results : TxnResults) (n : ℕ) → ClientsAgree w.clients
       → answer_due w.clients t ≡ dues.Ending n
-      → HasOrAsks n w.clients t.header.client_id × AnswersOnly n w (answer_txn w t err)
+      → HasOrAsks n w.clients t.header.client_id × AnswersOnly n w (answer_txn w t results)
   -- One that creates a session answers the client that waits for it. Then that client's requests go to the leader, and a
   -- connection that had the session before is closed.
-  pub admissions : (w : World) (t : Txn) (err : ℤ) (n : ℕ) → ClientsAgree w.clients
+  pub admissions : (w : World) (t : Txn) (results : TxnResults) (n : ℕ) → ClientsAgree w.clients
       → answer_due w.clients t ≡ dues.Admission n
       → WaitsForSession n w.clients t.header.client_id
       × IsApart n (λ session. session ≡ t.header.client_id)
-      (λ k. session_of_connection w.clients.sessions k ≡ Some t.header.client_id) w (answer_txn w t err)
+      (λ k. session_of_connection w.clients.sessions k ≡ Some t.header.client_id) w (answer_txn w t results)
   -- Any other answers nobody.
-  pub others : (w : World) (t : Txn) (err : ℤ) → answer_due w.clients t ≡ dues.Nothing → answer_txn w t err ≡ no_output w
+  pub others : (w : World) (t : Txn) (results : TxnResults) → answer_due w.clients t ≡ dues.Nothing → answer_txn w t results ≡ no_output w
   -- The leader's answer about a session answers the client that claims it, as the creation of one does; it answers
   -- nobody if no client claims the session.
   pub claims : (w : World) (session : ℤ) (lives : Bool) (n : ℕ) → ClientsAgree w.clients

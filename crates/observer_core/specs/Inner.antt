@@ -61,7 +61,7 @@ take_items_after done d found =
 -- The transaction at this place of the log, which has this outcome, answers its client.
 abbrev pub answer_outcome : ℕ → Option Outcome → World → StepResult World
 answer_outcome place None w = no_output w
-answer_outcome place (Some outcome) w = answer_applied_txn w place outcome.err
+answer_outcome place (Some outcome) w = answer_applied_txn w place outcome.results
 
 abbrev pub last_outcome : List Outcome → Option Outcome
 last_outcome outcomes = slice_get outcomes (length outcomes - 1)

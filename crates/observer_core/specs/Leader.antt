@@ -41,7 +41,7 @@ tell_effect w t =
 abbrev pub answer_news : Option LeaderNews → World → StepResult World
 answer_news None w = no_output w
 answer_news (Some (news.Ping ping)) w = answer_ping w ping
-answer_news (Some (news.Applied place err)) w = answer_applied_txn w place err
+answer_news (Some (news.Applied place results)) w = answer_applied_txn w place results
 answer_news (Some news.SyncSettled) w = answer_sync w
 answer_news (Some (news.Revalidated session lives)) w = answer_revalidated w session lives
 
@@ -129,7 +129,7 @@ leader_at loading r = r >>= λ place. Ok (record { place = place; loading = load
 -- the leader.
 abbrev pub part_reader : StreamReader Leader
 part_reader = record {
-  opened = λ dialect. record { place = place_at Packets []; loading = nothing_loaded dialect };
+  opened = λ dialect. record { place = place_at (Packets dialect) []; loading = nothing_loaded dialect };
   taken = λ l w bytes.
       let h = take_items item_step (record { loading = l.loading; world = w })
       (items_shown_at (with_more_bytes l.place bytes)) in

@@ -122,7 +122,7 @@ impl Engine {
         let time_out = settings.timeouts.greatest();
         let replica = Replica::primed(alloc, settings.dialect, session, time_out)?;
         let leader = Leader {
-            feed: PacketFeed::new(alloc),
+            feed: PacketFeed::in_dialect(settings.dialect, alloc),
             loader: Loader::in_dialect(settings.dialect, alloc),
         };
         Ok(Engine::started(alloc, config, replica, Some(leader), clients))

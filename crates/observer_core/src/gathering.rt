@@ -107,7 +107,7 @@ fn tell_and_answer(
     )?;
     match outcomes.last() {
         None => Ok(()),
-        Some(outcome) => answer_applied_txn(alloc, stage, place, due, outcome.err),
+        Some(outcome) => answer_applied_txn(alloc, stage, place, due, &outcome.results),
     }
 }
 

@@ -90,9 +90,9 @@ fn answer_news(alloc: Global, stage: &mut Stage, news: Option<LeaderNews>) -> Re
     match news {
         None => Ok(()),
         Some(LeaderNews::Ping(ping)) => answer_ping(alloc, stage, ping),
-        Some(LeaderNews::Applied { place, error }) => {
+        Some(LeaderNews::Applied { place, results }) => {
             let due = due_in_log(&stage.world, place);
-            answer_applied_txn(alloc, stage, place, due, error)
+            answer_applied_txn(alloc, stage, place, due, &results)
         }
         Some(LeaderNews::SyncSettled) => answer_sync(alloc, stage),
         Some(LeaderNews::Revalidated { session, is_valid }) => {
@@ -245,7 +245,7 @@ pub(crate) fn meet_leader(alloc: Global, machine: &mut Machine) -> Result<(), No
     let dialect = machine.stage.world.replica.learner().dialect();
     let replies = machine.stage.world.replica.start(alloc, server_id)?;
     machine.leader = Some(Leader {
-        feed: PacketFeed::new(alloc),
+        feed: PacketFeed::in_dialect(dialect, alloc),
         loader: Loader::in_dialect(dialect, alloc),
     });
     send_each(alloc, replies.as_slice(), &mut machine.stage.outputs)

@@ -35,10 +35,10 @@ impl Model for AclList {
 fn is_anyone(id: &Id) -> bool
     ensures { IsTrue result ↔ (id.now ≡ record { scheme = codes "world"; id = codes "anyone" }) }
 {
-    if id.scheme.as_str() != "world" {
+    if id.scheme.as_slice() != b"world".as_slice() {
         return false;
     }
-    id.id.as_str() == "anyone"
+    id.id.as_slice() == b"anyone".as_slice()
 }
 
 // Whether the entries are those of the open list.

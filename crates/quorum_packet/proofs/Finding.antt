@@ -1,6 +1,7 @@
 -- The value at the front of the bytes, whether it is an item or not.
 use Rattle.std.proofs.Common.{◌≡◌, ℕ, ◌-◌, ◌≤◌, Bool, false, cond, List, [], ◌∷◌, ◌++◌, length, drop, Option, Some, None, Result, Ok, Err, is_err, refl, sym, ap, subst, ◌∙◌, arith}
 use Rattle.std.specs.Prelude.{IfSome}
+use Rattle.settings.specs.declared.dialect.Dialect.{Dialect}
 use Rattle.values.specs.declared.fault.Fault.{Fault}
 use Rattle.values.specs.declared.fault.Fault.TheVariants.{Short}
 use Rattle.values.specs.declared.fault.ReadError.{ReadError}
@@ -33,47 +34,56 @@ use Rattle.quorum_packet.proofs.Streams.{found_sound, leader_streamed}
 
 -- ---- at a place
 
-packet_read : (old new : List ℕ) (p : QuorumPacket) → packet_format.read old ≡ Ok (p, new)
-    → (found_format Packets).read old ≡ Ok (OfPacket p, new)
-unfolding judged_at
-packet_read old new p read = rw read refl
+module _ (dialect : Dialect) where
+  packet_read : (old new : List ℕ) (p : QuorumPacket) → packet_format.read old ≡ Ok (p, new)
+      → (found_format (Packets dialect)).read old ≡ Ok (OfPacket p, new)
+  unfolding judged_at
+  packet_read old new p read = rw read refl
 
-pub packet_fails : (old : List ℕ) (e : Fault) → packet_format.read old ≡ Err e → (found_format Packets).read old ≡ Err e
-unfolding judged_at
-packet_fails old e read = rw read refl
+  pub packet_fails : (old : List ℕ) (e : Fault) → packet_format.read old ≡ Err e
+      → (found_format (Packets dialect)).read old ≡ Err e
+  unfolding judged_at
+  packet_fails old e read = rw read refl
 
-value_read : (phase : PartPhase) (old new : List ℕ) (v : Value) → (part_format phase).read old ≡ Ok (v, new)
-    → (found_format (Image phase)).read old ≡ Ok (OfImage v, new)
-unfolding judged_at
-value_read phase old new v read = rw read refl
+  value_read : (phase : PartPhase) (old new : List ℕ) (v : Value) → (part_format dialect phase).read old ≡ Ok (v, new)
+      → (found_format (Image dialect phase)).read old ≡ Ok (OfImage v, new)
+  unfolding judged_at
+  value_read phase old new v read = rw read refl
 
-pub value_fails : (phase : PartPhase) (old : List ℕ) (e : Fault) → (part_format phase).read old ≡ Err e
-    → (found_format (Image phase)).read old ≡ Err e
-unfolding judged_at
-value_fails phase old e read = rw read refl
+  pub value_fails : (phase : PartPhase) (old : List ℕ) (e : Fault) → (part_format dialect phase).read old ≡ Err e
+      → (found_format (Image dialect phase)).read old ≡ Err e
+  unfolding judged_at
+  value_fails phase old e read = rw read refl
 
-pub packet_found : (phase next : Phase) (old new : List ℕ) (p : QuorumPacket) → phase ≡ Packets
-    → packet_format.read old ≡ Ok (p, new) → next ≡ phase_after_packet p
-    → FindsItem (Ok (Some (lent.Packet p))) phase next old new
-packet_found Packets next old new p at read to = (OfPacket p, packet_read old new p read, to, refl)
-packet_found (Image phase) next old new p at read to = absurd cc
+  pub packet_found : (phase next : Phase) (old new : List ℕ) (p : QuorumPacket) → phase ≡ Packets dialect
+      → packet_format.read old ≡ Ok (p, new) → next ≡ phase_after_packet dialect p
+      → FindsItem (Ok (Some (lent.Packet p))) phase next old new
+  packet_found phase next old new p at read to =
+      subst (λ (q : Phase). FindsItem (Ok (Some (lent.Packet p))) q next old new) (sym at)
+      (OfPacket p, packet_read old new p read, to, refl)
 
-pub packet_refused : (phase : Phase) (old new : List ℕ) (e : ReadError) → phase ≡ Packets
-    → IsFailureOf e (packet_format.read old) → new ≡ old → FindsItem (Err e) phase phase old new
-packet_refused Packets old new errors.NoMemory at h same = (tt, same, refl)
-packet_refused Packets old new (errors.Fault e) at h same = (packet_fails old e h, same, refl)
-packet_refused (Image phase) old new e at h same = absurd cc
+  packet_refused_here : (old new : List ℕ) (e : ReadError) → IsFailureOf e (packet_format.read old) → new ≡ old
+      → FindsItem (Err e) (Packets dialect) (Packets dialect) old new
+  packet_refused_here old new errors.NoMemory h same = (tt, same, refl)
+  packet_refused_here old new (errors.Fault e) h same = (packet_fails old e h, same, refl)
 
-value_found : (parts behind : PartPhase) (old new : List ℕ) (v : Value) → (part_format parts).read old ≡ Ok (v, new)
-    → behind ≡ part_after parts v → (last : Bool) → is_end v ≡ last
-    → (found : Option LentItem) → shown_in (OfImage v) ≡ items_of_option found
-    → FindsItem (Ok found) (Image parts) (cond last Packets (Image behind)) old new
-value_found parts behind old new v read to last ends found same = (
-  OfImage v,
-  value_read parts old new v read,
-  (λ i. cond (sym ends i) Packets (Image (to i))),
-  same,
-)
+  pub packet_refused : (phase : Phase) (old new : List ℕ) (e : ReadError) → phase ≡ Packets dialect
+      → IsFailureOf e (packet_format.read old) → new ≡ old → FindsItem (Err e) phase (Packets dialect) old new
+  packet_refused phase old new e at h same =
+      subst (λ (q : Phase). FindsItem (Err e) q (Packets dialect) old new) (sym at)
+      (packet_refused_here old new e h same)
+
+  value_found : (parts behind : PartPhase) (old new : List ℕ) (v : Value)
+      → (part_format dialect parts).read old ≡ Ok (v, new)
+      → behind ≡ part_after parts v → (last : Bool) → is_end v ≡ last
+      → (found : Option LentItem) → shown_in (OfImage v) ≡ items_of_option found
+      → FindsItem (Ok found) (Image dialect parts) (cond last (Packets dialect) (Image dialect behind)) old new
+  value_found parts behind old new v read to last ends found same = (
+    OfImage v,
+    value_read parts old new v read,
+    (λ i. cond (sym ends i) (Packets dialect) (Image dialect (to i))),
+    same,
+  )
 
 not_shown : (v : Value) → part_in v ≡ None → (is_end v ≡ false) × (shown_in (OfImage v) ≡ [])
 not_shown (Count n) e = (refl, refl)
@@ -88,30 +98,34 @@ is_shown (Path path) part e = absurd cc
 is_shown Close part e = absurd cc
 
 -- A value that only advances the image.
-pub hidden_found : (phase : Phase) (parts behind : PartPhase) (old new : List ℕ) → phase ≡ Image parts
-    → ReadsPart (Ok None) parts behind old new → FindsItem (Ok None) phase (Image behind) old new
-hidden_found phase parts behind old new at r =
+pub hidden_found : (dialect : Dialect) (phase : Phase) (parts behind : PartPhase) (old new : List ℕ)
+    → phase ≡ Image dialect parts
+    → ReadsPart dialect (Ok None) parts behind old new → FindsItem (Ok None) phase (Image dialect behind) old new
+hidden_found dialect phase parts behind old new at r =
     let n = not_shown r.0 r.3 in
-    subst (λ (p : Phase). FindsItem (Ok None) p (Image behind) old new) (sym at)
-    (value_found parts behind old new r.0 r.1 r.2 false n.0 None n.1)
+    subst (λ (p : Phase). FindsItem (Ok None) p (Image dialect behind) old new) (sym at)
+    (value_found dialect parts behind old new r.0 r.1 r.2 false n.0 None n.1)
 
 -- A part.
-pub part_found : (phase : Phase) (parts behind : PartPhase) (old new : List ℕ) (part : ImagePart) (last : Bool)
-    → phase ≡ Image parts → ReadsPart (Ok (Some part)) parts behind old new → is_end (Part part) ≡ last
-    → FindsItem (Ok (Some (lent.Part part))) phase (cond last Packets (Image behind)) old new
-part_found phase parts behind old new part last at r ends =
+pub part_found : (dialect : Dialect) (phase : Phase) (parts behind : PartPhase) (old new : List ℕ) (part : ImagePart)
+    (last : Bool)
+    → phase ≡ Image dialect parts → ReadsPart dialect (Ok (Some part)) parts behind old new → is_end (Part part) ≡ last
+    → FindsItem (Ok (Some (lent.Part part))) phase (cond last (Packets dialect) (Image dialect behind)) old new
+part_found dialect phase parts behind old new part last at r ends =
     let v = is_shown r.0 part r.3 in
-    subst (λ (p : Phase). FindsItem (Ok (Some (lent.Part part))) p (cond last Packets (Image behind)) old new) (sym at)
-    (value_found parts behind old new r.0 r.1 r.2 last (ap is_end v ∙ ends) (Some (lent.Part part))
+    subst (λ (p : Phase). FindsItem (Ok (Some (lent.Part part))) p (cond last (Packets dialect) (Image dialect behind))
+    old new) (sym at)
+    (value_found dialect parts behind old new r.0 r.1 r.2 last (ap is_end v ∙ ends) (Some (lent.Part part))
     (ap (λ x. shown_in (OfImage x)) v))
 
-pub part_refused : (phase : Phase) (parts behind : PartPhase) (old new : List ℕ) (e : ReadError) → phase ≡ Image parts
-    → ReadsPart (Err e) parts behind old new → FindsItem (Err e) phase (Image behind) old new
-part_refused phase parts behind old new errors.NoMemory at r = (tt, r.1, ap (λ p. Image p) r.2 ∙ sym at)
-part_refused phase parts behind old new (errors.Fault e) at r = (
-  subst (λ (p : Phase). (found_format p).read old ≡ Err e) (sym at) (value_fails parts old e r.0),
+pub part_refused : (dialect : Dialect) (phase : Phase) (parts behind : PartPhase) (old new : List ℕ) (e : ReadError)
+    → phase ≡ Image dialect parts
+    → ReadsPart dialect (Err e) parts behind old new → FindsItem (Err e) phase (Image dialect behind) old new
+part_refused dialect phase parts behind old new errors.NoMemory at r = (tt, r.1, ap (λ p. Image dialect p) r.2 ∙ sym at)
+part_refused dialect phase parts behind old new (errors.Fault e) at r = (
+  subst (λ (p : Phase). (found_format p).read old ≡ Err e) (sym at) (value_fails dialect parts old e r.0),
   r.1,
-  ap (λ p. Image p) r.2 ∙ sym at,
+  ap (λ p. Image dialect p) r.2 ∙ sym at,
 )
 
 -- ---- at the front
@@ -134,8 +148,8 @@ front_found phase next bytes rest found fits f =
 
 -- A packet that was read can be written.
 writable_in : (phase : Phase) (p : QuorumPacket) → (found_format phase).Writable (OfPacket p) → packet_format.Writable p
-writable_in Packets p w = w
-writable_in (Image phase) p w = absurd w
+writable_in (Packets dialect) p w = w
+writable_in (Image dialect phase) p w = absurd w
 
 is_packet : (v : FoundValue) (p : QuorumPacket) → shown_in v ≡ item.Packet p ∷ [] → v ≡ OfPacket p
 is_packet (OfPacket q) p e = let same : q ≡ p = cc in ap (λ x. OfPacket x) same
@@ -172,7 +186,8 @@ module _ (waiting : List ℕ) (phase next : Phase) (fault : Option Fault) (old :
   pub is_fine : is_err old.unread ≡ false
   is_fine = ap (λ (p : Place Phase). is_err p.unread) ready
 
-  pub found_goes : (rest : List ℕ) (used : ℕ) (found : Option LentItem) → ReadsFront (Ok (found, used)) phase next waiting
+  pub found_goes : (rest : List ℕ) (used : ℕ) (found : Option LentItem)
+      → ReadsFront (Ok (found, used)) phase next waiting
       → rest ≡ drop used waiting → FindsOne (items_of_option found) old (place_of rest next fault)
   found_goes rest used found r left =
       let new : place_of rest next fault ≡ place_at (phase_after phase r.0) (drop used waiting) =

@@ -5,7 +5,7 @@ use Rattle.std.proofs.lemmas.List.{length-append, drop_at, drop-append-le, take-
 use Rattle.values.specs.declared.fault.Fault.{Fault}
 use Rattle.jute.specs.Format.{◌>>=◌, Format, int, long, buffer, text_or_empty, count_format, count_limit, read_n, items_at, vector_at, pair_of, mapped_format}
 use Rattle.jute.specs.Laws.{IsBytes}
-use Rattle.jute.specs.Owned.{id_format}
+use Rattle.jute.specs.Owned.{id_in, id_format}
 use Rattle.jute.specs.Pieces.{IsStable, ReadsInPieces}
 use Rattle.jute.proofs.Public.{IsBytes-drop, bind_err, int_sound, long_sound, buffer_sound, count_sound, name_sound}
 use Rattle.quorum_packet.specs.declared.unseen.Texts.{Texts}
@@ -94,7 +94,7 @@ module _ {A B : Type 0} (f : Format A) (to : A × A → B) (from : B → A × A)
 -- An id has two texts.
 pub ids_refused : (n : ℕ) (bytes : List ℕ) (e : Fault) → read_n text_or_empty.read (2 * n) bytes ≡ Err e
     → read_n id_format.read n bytes ≡ Err e
-unfolding id_format
+unfolding id_in
 ids_refused n bytes e h =
     pairs_refused text_or_empty (λ v. record { scheme = v.0; id = v.1 }) (λ r. (r.scheme, r.id)) n bytes e h
 

@@ -11,7 +11,7 @@ use Rattle.quorum_packet.specs.declared.phase.Phase.{Phase}
 use Rattle.quorum_packet.specs.declared.phase.Phase.TheVariants.{Packets, Image}
 use Rattle.quorum_packet.specs.Feed.{AnswersNext, unread_len}
 use Rattle.quorum_packet.specs.GroupedItems.{AreInOrder}
-use Rattle.quorum_packet.specs.Items.{items_shown_at}
+use Rattle.quorum_packet.specs.Items.{phase_dialect, items_shown_at}
 use Rattle.quorum_packet.specs.Lending.{bytes_of_source}
 use Rattle.quorum_packet.specs.WholeItems.{is_owed}
 use Rattle.quorum_packet.proofs.Finding.{place_of}
@@ -40,9 +40,9 @@ with_piece queue piece phase (Some e) = refl
 
 -- ---- a packet that comes first
 
-not_owed : (phase : Phase) → is_owed phase ≡ false → phase ≡ Packets
-not_owed Packets h = refl
-not_owed (Image parts) h = absurd (true≢false h)
+not_owed : (phase : Phase) → is_owed phase ≡ false → phase ≡ Packets (phase_dialect phase)
+not_owed (Packets dialect) h = refl
+not_owed (Image dialect parts) h = absurd (true≢false h)
 
 first_packet : (owed last : Bool) (p : QuorumPacket) (found others : List Item) → found ≡ item.Packet p ∷ others
     → AreInOrder owed found last → owed ≡ false
@@ -56,7 +56,7 @@ has_bytes (Err e) n h = absurd (omega (arith, h))
 
 -- Where the next item is a packet, a packet comes next, and it does so again if it wasn't taken.
 pub packet_untaken : (p : QuorumPacket) (old mid : Place Phase) → AnswersNext (Ok (Some (item.Packet p))) old mid
-    → AnswersNext (Err errors.NoMemory) old (record { phase = Packets; unread = old.unread })
+    → AnswersNext (Err errors.NoMemory) old (record { phase = Packets (phase_dialect old.phase); unread = old.unread })
 packet_untaken p old mid a =
     let at = not_owed old.phase (first_packet (is_owed old.phase) (is_owed (items_shown_at old).left.phase) p
     (items_shown_at old).found (items_shown_at mid).found (ap (λ i. i.found) a.0) (items_in_order old)) in

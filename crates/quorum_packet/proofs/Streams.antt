@@ -21,8 +21,9 @@ use Rattle.quorum_packet.proofs.PacketFormat.{packet_sound}
 -- ---- in parts
 
 pub found_sound : (phase : Phase) → IsSound (found_format phase)
-found_sound Packets = case_sound (λ p. OfPacket p) packet_back packet_format (λ p. refl) packet_sound
-found_sound (Image phase) = case_sound (λ v. OfImage v) value_back (part_format phase) (λ v. refl) (part_sound phase)
+found_sound (Packets dialect) = case_sound (λ p. OfPacket p) packet_back packet_format (λ p. refl) packet_sound
+found_sound (Image dialect phase) =
+    case_sound (λ v. OfImage v) value_back (part_format dialect phase) (λ v. refl) (part_sound dialect phase)
 
 leader_sound : AreSound stream_of_leader
 leader_sound = record { sound = found_sound }

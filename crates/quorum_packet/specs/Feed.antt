@@ -41,16 +41,16 @@ CanBeWritten (item.Part p) = Unit {0}
 -- A stream may end here unless there was a fault, an image is incomplete, or bytes are unread.
 abbrev pub stream_end : Phase → Unread → Result (Unit {0}) Fault
 stream_end phase (Err e) = Err e
-stream_end (Image phase) (Ok bytes) = Err Short
-stream_end Packets (Ok []) = Ok tt
-stream_end Packets (Ok (b ∷ bytes)) = Err Short
+stream_end (Image dialect phase) (Ok bytes) = Err Short
+stream_end (Packets dialect) (Ok []) = Ok tt
+stream_end (Packets dialect) (Ok (b ∷ bytes)) = Err Short
 
 abbrev pub end_of : Place Phase → Result (Unit {0}) Fault
 end_of place = stream_end place.phase place.unread
 
 -- The number of bytes that a phase keeps of an incomplete part.
 abbrev pub kept_len : Phase → ℕ
-kept_len (Image (Body path)) = length path
+kept_len (Image dialect (Body path)) = length path
 kept_len phase = 0
 
 -- The unread bytes, and the path of an incomplete node.

@@ -15,7 +15,7 @@ use Rattle.quorum_packet.specs.declared.item.Item.{Item}
 use Rattle.quorum_packet.specs.declared.item.Item.TheVariants as item
 use Rattle.quorum_packet.specs.declared.phase.Phase.{Phase}
 use Rattle.quorum_packet.specs.declared.phase.Phase.TheVariants.{Packets, Image}
-use Rattle.quorum_packet.specs.Items.{is_snap, items_shown_at}
+use Rattle.quorum_packet.specs.Items.{is_snap, phase_dialect, items_shown_at}
 use Rattle.quorum_packet.specs.WholeItems.{WholeItem, OnePacket, OneImage, is_owed, whole_items}
 
 -- ---- packets and parts, grouped
@@ -46,28 +46,30 @@ grouped_items dialect l (item.Part p ∷ others) =
 -- ---- a place in the stream, read by parts and by whole images
 
 -- The state that the rest of an image makes, loaded on what its parts have made, and the bytes after the image.
-abbrev pub image_from : PartPhase → LoadedParts → List ℕ → Result (State × List ℕ) Fault
-image_from phase made bytes = load_from image_load phase made bytes >>= λ x. Ok (x.0.state, x.1)
+abbrev pub image_from : Dialect → PartPhase → LoadedParts → List ℕ → Result (State × List ℕ) Fault
+image_from dialect phase made bytes = load_from (image_load dialect) phase made bytes >>= λ x. Ok (x.0.state, x.1)
 
 -- Whatever bytes follow: the rest of an image, loaded on what its parts have made, makes what all its bytes make.
 abbrev pub IsRestOfImage : Dialect → PartPhase → LoadedParts → List ℕ → List ℕ → Type 0
 IsRestOfImage dialect phase made rest all =
-    (more : List ℕ) → image_from phase made (rest ++ more) ≡ image_read_in dialect (all ++ more)
+    (more : List ℕ) → image_from dialect phase made (rest ++ more) ≡ image_read_in dialect (all ++ more)
 
 -- Where a packet comes next, nothing is loaded, and both sides have the same bytes left. Inside an image the reader by
 -- parts has left what isn't loaded yet, and the reader by images all bytes of the image that have come.
 abbrev pub SameBytes : Dialect → Loading → Phase → List ℕ → List ℕ → Type 0
-SameBytes dialect l Packets rest all = (l ≡ empty_loading dialect) × (rest ≡ all)
-SameBytes dialect l (Image phase) rest all = IsRestOfImage dialect phase l.made rest all
+SameBytes dialect l (Packets d) rest all = (l ≡ empty_loading dialect) × (rest ≡ all)
+SameBytes dialect l (Image d phase) rest all = IsRestOfImage dialect phase l.made rest all
 
 abbrev pub SameUnread : Dialect → Loading → Phase → Unread → Unread → Type 0
 SameUnread dialect l phase (Ok rest) (Ok all) = SameBytes dialect l phase rest all
 SameUnread dialect l phase (Err d) (Err e) = d ≡ e
 SameUnread dialect l phase unread all = ⊥
 
+-- The reader by parts reads in this dialect too, and an image is owed to both or to none.
 abbrev pub SamePlace : Dialect → Loading → Place Phase → Place Bool → Type 0
 SamePlace dialect l place whole =
-    (whole.phase ≡ is_owed place.phase) × SameUnread dialect l place.phase place.unread whole.unread
+    (phase_dialect place.phase ≡ dialect) × (whole.phase ≡ is_owed place.phase)
+    × SameUnread dialect l place.phase place.unread whole.unread
 
 -- The fault of a part that was refused is that of its image.
 abbrev pub SameRest : Dialect → Result Loading Fault → Place Phase → Place Bool → Type 0
@@ -86,7 +88,7 @@ pub record AreWholeItems (dialect : Dialect) (l : Loading) (shown : Items Phase 
 abbrev pub PacketsAreGrouped : Type 0
 PacketsAreGrouped =
     (dialect : Dialect) (bytes : List ℕ)
-    → AreWholeItems dialect (empty_loading dialect) (items_shown_at (place_at Packets bytes))
+    → AreWholeItems dialect (empty_loading dialect) (items_shown_at (place_at (Packets dialect) bytes))
     (items_in (whole_items dialect) (place_at false bytes))
 
 -- Further bytes come, at any place, also inside an image.

@@ -3,6 +3,7 @@
 use Rattle.std.specs.Prelude.{List, [], ◌∷◌, Option, Some, None, Bool, if◌then◌else◌}
 use Rattle.std.specs.Ordering.{int_eq}
 use Rattle.std.specs.List.{flat_map}
+use Rattle.settings.specs.declared.dialect.Dialect.{Dialect}
 use Rattle.jute.specs.Format.{Format, case_of}
 use Rattle.jute.specs.Stream.{PhasedStream, Place, Items, items_in}
 use Rattle.snapshot_codec.specs.Parts.{Value, Part, part_format, part_after, is_end}
@@ -30,25 +31,30 @@ abbrev pub value_back : FoundValue → Option Value
 value_back (OfImage v) = Some v
 value_back (OfPacket p) = None
 
+-- The dialect of the leader, which stays the same.
+abbrev pub phase_dialect : Phase → Dialect
+phase_dialect (Packets dialect) = dialect
+phase_dialect (Image dialect phase) = dialect
+
 abbrev pub found_format : Phase → Format FoundValue
-found_format Packets = case_of (λ p. OfPacket p) packet_back packet_format
-found_format (Image phase) = case_of (λ v. OfImage v) value_back (part_format phase)
+found_format (Packets dialect) = case_of (λ p. OfPacket p) packet_back packet_format
+found_format (Image dialect phase) = case_of (λ v. OfImage v) value_back (part_format dialect phase)
 
 -- A SNAP packet announces an image.
 abbrev pub is_snap : QuorumPacket → Bool
 is_snap p = int_eq p.kind (code_of Snap)
 
-abbrev pub phase_after_packet : QuorumPacket → Phase
-phase_after_packet p = if is_snap p then Image SessionCount else Packets
+abbrev pub phase_after_packet : Dialect → QuorumPacket → Phase
+phase_after_packet dialect p = if is_snap p then Image dialect SessionCount else Packets dialect
 
 -- The end of an image is its last value.
-abbrev pub phase_after_value : PartPhase → Value → Phase
-phase_after_value phase v = if is_end v then Packets else Image (part_after phase v)
+abbrev pub phase_after_value : Dialect → PartPhase → Value → Phase
+phase_after_value dialect phase v = if is_end v then Packets dialect else Image dialect (part_after phase v)
 
 abbrev pub phase_after : Phase → FoundValue → Phase
-phase_after phase (OfPacket p) = phase_after_packet p
-phase_after Packets (OfImage v) = Packets
-phase_after (Image phase) (OfImage v) = phase_after_value phase v
+phase_after phase (OfPacket p) = phase_after_packet (phase_dialect phase) p
+phase_after (Packets dialect) (OfImage v) = Packets dialect
+phase_after (Image dialect phase) (OfImage v) = phase_after_value dialect phase v
 
 abbrev pub stream_of_leader : PhasedStream Phase FoundValue
 stream_of_leader = record { format = λ phase. found_format phase; after = phase_after }

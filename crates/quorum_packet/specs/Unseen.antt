@@ -3,8 +3,9 @@
 -- text, which isn't scanned until it is complete, and which nothing long follows.
 use Rattle.std.specs.Prelude.{◌≡◌, ◌≤◌, ◌-◌, ◌*◌, ℕ, Bool, true, false, List, ◌++◌, length, drop, Option, Some, None, Result, Err, ℤ, if◌then◌else◌}
 use Rattle.values.specs.declared.fault.Fault.{Fault}
-use Rattle.jute.specs.Format.{Format, ◌>>=◌, int, long, buffer, text_or_empty, count_format, count_limit, read_n, vector_of, pair_of}
-use Rattle.jute.specs.Owned.{acl_format}
+use Rattle.settings.specs.Dialects.{reads_of}
+use Rattle.jute.specs.Format.{Format, ◌>>=◌, int, long, buffer, name_in, text_or_empty, count_format, count_limit, read_n, vector_of, pair_of}
+use Rattle.jute.specs.Owned.{acl_in}
 use Rattle.jute.specs.declared.owned.Acl.{Acl}
 use Rattle.snapshot_codec.specs.declared.part.PartPhase.TheVariants.{Acls}
 use Rattle.quorum_packet.specs.declared.phase.Phase.{Phase}
@@ -26,22 +27,24 @@ pub record IsRestOf {A B : Type 0} (whole : ReadFn A) (left : ReadFn B) (bytes :
 abbrev pub AreUnseen : List ℕ → Texts → Type 0
 AreUnseen bytes texts = IsRestOf packet_format.read (read_n text_or_empty.read texts.count) bytes texts.start
 
--- An ACL list of an image.
-abbrev pub acl_list : Format (ℤ × Option (List Acl))
-acl_list = pair_of long (vector_of acl_format)
+-- An ACL list of an image, in whose texts surrogates may stand or not.
+abbrev pub acl_list : Bool → Format (ℤ × Option (List Acl))
+acl_list surrogates = pair_of long (vector_of (acl_in surrogates))
 
 -- One read after another.
 abbrev pub then_read : {A B : Type 0} → ReadFn A → ReadFn B → ReadFn B
 then_read first second bytes = first bytes >>= λ x. second x.1
 
 -- The entries that are left. Of the first one only the id is left, if its scheme was scanned.
-abbrev pub entries_left : Bool → ℕ → ReadFn (List Acl)
-entries_left false n = read_n acl_format.read n
-entries_left true n = then_read text_or_empty.read (read_n acl_format.read (n - 1))
+abbrev pub entries_left : Bool → Bool → ℕ → ReadFn (List Acl)
+entries_left surrogates false n = read_n (acl_in surrogates).read n
+entries_left surrogates true n =
+    then_read (name_in surrogates).read (read_n (acl_in surrogates).read (n - 1))
 
 abbrev pub AreUnseenEntries : List ℕ → Entries → Type 0
 AreUnseenEntries bytes entries =
-    IsRestOf acl_list.read (entries_left entries.scheme_seen entries.count) bytes entries.start
+    IsRestOf (acl_list entries.surrogates).read (entries_left entries.surrogates entries.scheme_seen entries.count) bytes
+    entries.start
 
 abbrev pub IsUnseen : List ℕ → Unseen → Type 0
 IsUnseen bytes unseen.Whole = Unit {0}
@@ -69,9 +72,9 @@ IsListSeen (unseen.Entries entries) = entries.count ≡ 0
 IsListSeen u = ⊥
 
 abbrev pub IsAllSeen : Phase → Unseen → Type 0
-IsAllSeen Packets u = IsPacketSeen u
-IsAllSeen (Image (Acls n)) u = IsListSeen u
-IsAllSeen (Image phase) u = Unit {0}
+IsAllSeen (Packets dialect) u = IsPacketSeen u
+IsAllSeen (Image dialect (Acls n)) u = IsListSeen u
+IsAllSeen (Image dialect phase) u = Unit {0}
 
 -- The fields before the texts: kind, zxid, data, and the number of ids.
 abbrev pub packet_fields : Format (ℤ × (ℤ × (Option (List ℕ) × Option ℕ)))
@@ -87,16 +90,17 @@ PacketStopsAt bytes unseen.Whole e = packet_fields.read bytes ≡ Err e
 PacketStopsAt bytes (unseen.Texts texts) e = text_or_empty.read (drop texts.start bytes) ≡ Err e
 PacketStopsAt bytes (unseen.Entries entries) e = ⊥
 
-abbrev pub EntryStopsAt : Bool → List ℕ → Fault → Type 0
-EntryStopsAt false bytes e = (pair_of int text_or_empty).read bytes ≡ Err e
-EntryStopsAt true bytes e = text_or_empty.read bytes ≡ Err e
+abbrev pub EntryStopsAt : Bool → Bool → List ℕ → Fault → Type 0
+EntryStopsAt surrogates false bytes e = (pair_of int (name_in surrogates)).read bytes ≡ Err e
+EntryStopsAt surrogates true bytes e = (name_in surrogates).read bytes ≡ Err e
 
-abbrev pub ListStopsAt : List ℕ → Unseen → Fault → Type 0
-ListStopsAt bytes unseen.Whole e = list_fields.read bytes ≡ Err e
-ListStopsAt bytes (unseen.Entries entries) e = EntryStopsAt entries.scheme_seen (drop entries.start bytes) e
-ListStopsAt bytes (unseen.Texts texts) e = ⊥
+abbrev pub ListStopsAt : Bool → List ℕ → Unseen → Fault → Type 0
+ListStopsAt surrogates bytes unseen.Whole e = list_fields.read bytes ≡ Err e
+ListStopsAt surrogates bytes (unseen.Entries entries) e =
+    EntryStopsAt surrogates entries.scheme_seen (drop entries.start bytes) e
+ListStopsAt surrogates bytes (unseen.Texts texts) e = ⊥
 
 abbrev pub StopsAt : Phase → List ℕ → Unseen → Fault → Type 0
-StopsAt Packets bytes u e = PacketStopsAt bytes u e
-StopsAt (Image (Acls n)) bytes u e = ListStopsAt bytes u e
-StopsAt (Image phase) bytes u e = ⊥
+StopsAt (Packets dialect) bytes u e = PacketStopsAt bytes u e
+StopsAt (Image dialect (Acls n)) bytes u e = ListStopsAt (reads_of dialect).surrogates bytes u e
+StopsAt (Image dialect phase) bytes u e = ⊥

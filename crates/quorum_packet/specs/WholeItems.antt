@@ -29,8 +29,8 @@ whole_format dialect false = case_of (λ p. OnePacket p) one_packet_back packet_
 whole_format dialect true = case_of (λ s. OneImage s) one_image_back (image_in dialect)
 
 abbrev pub is_owed : Phase → Bool
-is_owed Packets = false
-is_owed (Image phase) = true
+is_owed (Packets dialect) = false
+is_owed (Image dialect phase) = true
 
 abbrev pub owed_after : Bool → WholeItem → Bool
 owed_after owed (OnePacket p) = is_snap p

@@ -6,11 +6,13 @@ ghost use Rattle.quorum_packet.specs.Feed.{AnswersNext, CanBeWritten, end_of, he
 ghost use Rattle.quorum_packet.specs.Lending.{place_with};
 ghost use Rattle.quorum_packet.specs.Unseen.{MayBeUnseen};
 ghost use Rattle.quorum_packet.specs.declared.phase.Phase.TheVariants.{Packets};
+ghost use Rattle.settings.specs.declared.dialect.Dialect.TheVariants.{Zk34};
 
 use crate::item::{Item, LentItem};
 use crate::lending::{LentItems, Progress, Source};
 use crate::phase::Phase;
 use crate::unseen::Unseen;
+use settings::Dialect;
 use std::alloc::Global;
 use std::marker::Model;
 use std::mem;
@@ -45,13 +47,21 @@ impl Model for PacketFeed {
 }
 
 impl PacketFeed {
+    /// A feed of a leader of ZooKeeper 3.4. Allocates nothing.
     pub fn new(alloc: Global) -> PacketFeed
-        ensures { result ≡ place_at Packets [] }
+        ensures { result ≡ place_at (Packets Zk34) [] }
+    {
+        PacketFeed::in_dialect(Dialect::Zk34, alloc)
+    }
+
+    /// A feed of a leader of this dialect. Allocates nothing.
+    pub fn in_dialect(dialect: Dialect, alloc: Global) -> PacketFeed
+        ensures { result ≡ place_at (Packets dialect) [] }
     {
         PacketFeed {
             waiting: ByteQueue::new(alloc),
             unseen: None,
-            phase: Phase::Packets,
+            phase: Phase::Packets(dialect),
             fault: None,
         }
     }
@@ -76,9 +86,10 @@ impl PacketFeed {
         ensures first { AnswersNext result self.old self.new }
         ensures writable { IfOk result (λ found. IfSome found CanBeWritten) }
     {
+        let next_packet = Phase::Packets(self.phase.dialect());
         let progress = Progress {
             unseen: self.unseen,
-            phase: mem::replace(&mut self.phase, Phase::Packets),
+            phase: mem::replace(&mut self.phase, next_packet),
             fault: self.fault,
         };
         let mut items = LentItems::new(self.waiting.as_slice(), progress);
@@ -141,8 +152,8 @@ impl PacketFeed {
             return Err(fault);
         }
         match self.phase {
-            Phase::Image(_) => Err(Fault::Short),
-            Phase::Packets => {
+            Phase::Image(_, _) => Err(Fault::Short),
+            Phase::Packets(_) => {
                 if self.waiting.is_empty() {
                     Ok(())
                 } else {

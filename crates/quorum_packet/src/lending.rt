@@ -12,6 +12,7 @@ use crate::packet::Packet;
 use crate::phase::Phase;
 use crate::unseen::{Unseen, scan_new_bytes};
 use jute::{ReadRecord, Reader};
+use settings::Dialect;
 use snapshot_codec::{PartPhase, read_part};
 use std::alloc::Global;
 use std::marker::Model;
@@ -88,13 +89,13 @@ impl<'a> Source<'a> {
     }
 }
 
-fn phase_after_packet(packet: &Packet<'_>) -> Phase
-    ensures { result ≡ phase_after_packet packet.now }
+fn phase_after_packet(dialect: Dialect, packet: &Packet<'_>) -> Phase
+    ensures { result ≡ phase_after_packet dialect packet.now }
 {
     if packet.is_snap() {
-        Phase::Image(PartPhase::SessionCount)
+        Phase::Image(dialect, PartPhase::SessionCount)
     } else {
-        Phase::Packets
+        Phase::Packets(dialect)
     }
 }
 
@@ -107,21 +108,25 @@ fn read_found<'a>(
     ensures { FindsItem result phase.old phase.new reader.old reader.new }
 {
     match phase {
-        Phase::Packets => {
+        Phase::Packets(dialect) => {
+            let dialect = *dialect;
             let packet = Packet::read(alloc, reader)?;
-            *phase = phase_after_packet(&packet);
+            *phase = phase_after_packet(dialect, &packet);
             Ok(Some(LentItem::Packet(packet)))
         }
-        Phase::Image(parts) => match read_part(alloc, parts, reader)? {
-            None => Ok(None),
-            Some(part) => {
-                if part.is_end() {
-                    *phase = Phase::Packets;
-                    return Ok(Some(LentItem::Part(part)));
+        Phase::Image(dialect, parts) => {
+            let dialect = *dialect;
+            match read_part(dialect, alloc, parts, reader)? {
+                None => Ok(None),
+                Some(part) => {
+                    if part.is_end() {
+                        *phase = Phase::Packets(dialect);
+                        return Ok(Some(LentItem::Part(part)));
+                    }
+                    Ok(Some(LentItem::Part(part)))
                 }
-                Ok(Some(LentItem::Part(part)))
             }
-        },
+        }
     }
 }
 

@@ -9,7 +9,7 @@ ghost use Rattle.quorum_packet.specs.Unseen.{IsAllSeen, IsPacketSeen, IsListSeen
 ghost use Rattle.quorum_packet.specs.Unseen.{StopsAt, PacketStopsAt, ListStopsAt, EntryStopsAt};
 
 use crate::phase::Phase;
-use jute::{Reader, read_name};
+use jute::{Reader, read_name, read_name_in};
 use snapshot_codec::PartPhase;
 use values::Fault;
 
@@ -20,13 +20,14 @@ pub struct Texts {
     count: u64,
 }
 
-/// The entries of an ACL list that weren't scanned: the place of the first one, their number, and whether the first one
-/// was scanned up to its id.
+/// The entries of an ACL list that weren't scanned: the place of the first one, their number, whether the first one was
+/// scanned up to its id, and whether surrogates may stand in their texts.
 #[derive(Clone, Copy, Debug)]
 pub struct Entries {
     start: usize,
     count: u32,
     scheme_seen: bool,
+    surrogates: bool,
 }
 
 /// The part that wasn't scanned of a value that was found incomplete.
@@ -97,9 +98,10 @@ fn scan_packet(bytes: &[u8], unseen: &mut Unseen) -> Result<(), Fault>
 
 // Scans the fields before the entries.
 #[tactic(auto, unfolding(jute::specs::Format::vector_at))]
-fn scan_list_fields(bytes: &[u8]) -> Result<Entries, Fault>
+fn scan_list_fields(surrogates: bool, bytes: &[u8]) -> Result<Entries, Fault>
     ensures ok { IfOk result (AreUnseenEntries bytes.now) }
-    ensures err { IfErr result (λ e. acl_list.read bytes.now ≡ Err e) }
+    ensures same { IfOk result (λ entries. entries.surrogates ≡ surrogates) }
+    ensures err { IfErr result (λ e. (acl_list surrogates).read bytes.now ≡ Err e) }
     ensures stops { IfErr result (λ e. list_fields.read bytes.now ≡ Err e) }
 {
     let mut ahead = Reader::new(bytes);
@@ -109,6 +111,7 @@ fn scan_list_fields(bytes: &[u8]) -> Result<Entries, Fault>
         start: bytes.len() - ahead.rest().len(),
         count,
         scheme_seen: false,
+        surrogates,
     })
 }
 
@@ -117,26 +120,31 @@ fn scan_entry(bytes: &[u8], entries: &mut Entries) -> Result<(), Fault>
     requires unseen { AreUnseenEntries bytes.now entries.old }
     requires some { 0 < entries.old.count }
     ensures kept { AreUnseenEntries bytes.now entries.new }
+    ensures same { entries.new.surrogates ≡ entries.old.surrogates }
     ensures less { OnOk result (texts_left entries.new < texts_left entries.old) }
-    ensures err { IfErr result (λ e. acl_list.read bytes.now ≡ Err e) }
-    ensures stops { IfErr result (λ e. EntryStopsAt entries.new.scheme_seen (drop entries.new.start bytes.now) e) }
+    ensures err { IfErr result (λ e. (acl_list entries.old.surrogates).read bytes.now ≡ Err e) }
+    ensures stops { IfErr result (λ e.
+        EntryStopsAt entries.old.surrogates entries.new.scheme_seen (drop entries.new.start bytes.now) e) }
 {
     let mut ahead = Reader::new(&bytes[entries.start..]);
+    let surrogates = entries.surrogates;
     if entries.scheme_seen {
-        read_name(&mut ahead)?;
+        read_name_in(surrogates, &mut ahead)?;
         *entries = Entries {
             start: bytes.len() - ahead.rest().len(),
             count: entries.count - 1,
             scheme_seen: false,
+            surrogates,
         };
         return Ok(());
     }
     ahead.read_int()?;
-    read_name(&mut ahead)?;
+    read_name_in(surrogates, &mut ahead)?;
     *entries = Entries {
         start: bytes.len() - ahead.rest().len(),
         count: entries.count,
         scheme_seen: true,
+        surrogates,
     };
     Ok(())
 }
@@ -145,9 +153,11 @@ fn scan_entry(bytes: &[u8], entries: &mut Entries) -> Result<(), Fault>
 fn scan_entries(bytes: &[u8], entries: &mut Entries) -> Result<(), Fault>
     requires { AreUnseenEntries bytes.now entries.old }
     ensures kept { AreUnseenEntries bytes.now entries.new }
+    ensures same { entries.new.surrogates ≡ entries.old.surrogates }
     ensures seen { OnOk result (entries.new.count ≡ 0) }
-    ensures err { IfErr result (λ e. acl_list.read bytes.now ≡ Err e) }
-    ensures stops { IfErr result (λ e. EntryStopsAt entries.new.scheme_seen (drop entries.new.start bytes.now) e) }
+    ensures err { IfErr result (λ e. (acl_list entries.old.surrogates).read bytes.now ≡ Err e) }
+    ensures stops { IfErr result (λ e.
+        EntryStopsAt entries.old.surrogates entries.new.scheme_seen (drop entries.new.start bytes.now) e) }
 {
     while entries.count > 0 {
         scan_entry(bytes, entries)?;
@@ -156,18 +166,18 @@ fn scan_entries(bytes: &[u8], entries: &mut Entries) -> Result<(), Fault>
 }
 
 // Scans the available bytes of the ACL list at the front. Returns the list's refusal, if there is one.
-fn scan_list(bytes: &[u8], unseen: &mut Unseen) -> Result<(), Fault>
+fn scan_list(surrogates: bool, bytes: &[u8], unseen: &mut Unseen) -> Result<(), Fault>
     requires { IsUnseen bytes.now unseen.old }
     ensures kept { IsUnseen bytes.now unseen.new }
     ensures seen { OnOk result (IsListSeen unseen.new) }
-    ensures err { IfErr result (λ e. acl_list.read bytes.now ≡ Err e) }
-    ensures stops { IfErr result (ListStopsAt bytes.now unseen.new) }
+    ensures err { IfErr result (λ e. (acl_list surrogates).read bytes.now ≡ Err e) }
+    ensures stops { IfErr result (ListStopsAt surrogates bytes.now unseen.new) }
 {
     let mut entries = match *unseen {
-        Unseen::Entries(entries) => entries,
+        Unseen::Entries(entries) if entries.surrogates == surrogates => entries,
         _ => {
             *unseen = Unseen::Whole;
-            scan_list_fields(bytes)?
+            scan_list_fields(surrogates, bytes)?
         }
     };
     let looked = scan_entries(bytes, &mut entries);
@@ -194,8 +204,10 @@ pub(crate) fn scan_new_bytes(
         return Ok(());
     };
     match phase {
-        Phase::Packets => scan_packet(bytes, unseen),
-        Phase::Image(PartPhase::Acls(_)) => scan_list(bytes, unseen),
+        Phase::Packets(_) => scan_packet(bytes, unseen),
+        Phase::Image(dialect, PartPhase::Acls(_)) => {
+            scan_list(dialect.reads().surrogates, bytes, unseen)
+        }
         _ => Ok(()),
     }
 }

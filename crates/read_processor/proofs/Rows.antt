@@ -1,5 +1,5 @@
 -- The worked looks and watches: the node is found, and its reply is evaluated.
-use Rattle.std.proofs.Common.{◌≡◌, ℕ, List, [], ◌∷◌, Option, Some, refl, ap, ◌∙◌}
+use Rattle.std.proofs.Common.{◌≡◌, ℕ, List, [], ◌∷◌, Option, Some, None, pos, refl, ap, ◌∙◌}
 use Rattle.std.specs.Prelude.{codes}
 use Rattle.std.specs.FinSet as set
 use Rattle.jute.specs.Format.{number_bytes}
@@ -13,7 +13,10 @@ use Rattle.node_map.specs.declared.node.Node.{Node}
 use Rattle.read_processor.specs.declared.request.Request.{Request}
 use Rattle.client_records.specs.declared.kind.ReadKind.TheVariants.{Exists, GetData}
 use Rattle.read_processor.specs.Look.{look_at_node, shown_look}
-use Rattle.read_processor.specs.Rows.{WorkedLooks, WorkedWatches, read_without_watch, readable_node, reader_id, exists_bytes, get_data_bytes}
+use Rattle.settings.specs.declared.dialect.Dialect.{Dialect}
+use Rattle.settings.specs.declared.dialect.Dialect.TheVariants.{Zk34, Zk38}
+use Rattle.read_processor.specs.Watch.{watch_to_add}
+use Rattle.read_processor.specs.Rows.{WorkedLooks, WorkedLater, WorkedWatches, watch_with_mode, read_without_watch, readable_node, reader_id, exists_bytes, get_data_bytes}
 
 -- The Stat of the node, given its number of children.
 abbrev numbers : ℕ → Stat
@@ -55,15 +58,42 @@ worked = record {
   null = λ s h. refl;
 }
 
+pub worked_later : WorkedLater
+worked_later = record {
+  masked = refl;
+  without_hash = refl;
+  another_scheme = refl;
+  user = refl;
+  address = refl;
+  below = refl;
+  alike = refl;
+  itself = refl;
+  below_root = refl;
+  root_itself = refl;
+  read_before = refl;
+  not_read = refl;
+}
+
 pub worked_watches : WorkedWatches
 worked_watches = record {
   waits = refl;
   missing = refl;
   persistent = refl;
   recursive = refl;
-  another_mode = refl;
+  another_mode = λ d. modes d;
   ill_formed = refl;
+  any_path = refl;
+  null_path = λ d. refl;
+  sought = refl;
+  another_kind = refl;
+  sought_at_null = refl;
   renewed = λ s h. rw (h.0, h.1) refl;
   twice = λ s h. rw h.0 refl;
   not_asked_for = λ s h. refl;
+  any_paths = λ s h. rw h.1 refl;
+  all_renewed = λ s h. rw h.0 refl;
 }
+  where
+    modes : (d : Dialect) → watch_to_add d (watch_with_mode (pos 2) (codes "/q")) ≡ None
+    modes Zk34 = refl
+    modes Zk38 = refl

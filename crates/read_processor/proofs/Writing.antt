@@ -5,11 +5,13 @@ use Rattle.std.proofs.lemmas.List.{length-append}
 use Rattle.std.proofs.lemmas.List.Concat.{flat_map-cons}
 use Rattle.std.proofs.lemmas.List.Elements.{All-nil, All-cons}
 use Rattle.jute.specs.Format.{Format, text_or_empty, vector_of, number_bytes}
-use Rattle.jute.specs.Owned.{acl_format, id_format}
+use Rattle.jute.specs.Owned.{acl_in, id_in, acl_format}
 use Rattle.jute.specs.Records.{stat_format}
 use Rattle.jute.specs.declared.owned.Acl.{Acl}
 use Rattle.jute.specs.declared.stat.Stat.{Stat}
 use Rattle.client_records.specs.Fields.{names_format}
+use Rattle.client_records.specs.Responses.{client_info}
+use Rattle.client_records.specs.declared.response.ClientInfo.{ClientInfo}
 use Rattle.read_processor.specs.Limits.{body_limit}
 use Rattle.read_processor.proofs.Counting.{counted_length}
 
@@ -49,11 +51,11 @@ name_plain = record {
 acl_length : (a : Acl)
     → length (acl_format.written a)
     ≡ 4 + (length (text_or_empty.written a.id.scheme) + length (text_or_empty.written a.id.id))
-unfolding acl_format id_format number_bytes
+unfolding acl_in id_in number_bytes
 acl_length a = simp length-append (omega arith)
 
 acl_plain : Plain acl_format
-unfolding acl_format id_format
+unfolding acl_in id_in
 acl_plain = record {
   some = λ a. omega (arith, acl_length a);
   writable = λ a lt. (
@@ -68,6 +70,26 @@ acl_plain = record {
 pub acls_writable : (xs : List Acl) → length ((vector_of acl_format).written (Some xs)) ≤ body_limit
     → (vector_of acl_format).Writable (Some xs)
 acls_writable xs le = vector_writable acl_format acl_plain xs le
+
+info_length : (i : ClientInfo)
+    → length (client_info.written i)
+    ≡ length (text_or_empty.written i.auth_scheme) + length (text_or_empty.written i.user)
+unfolding client_info
+info_length i = length-append (text_or_empty.written i.auth_scheme) (text_or_empty.written i.user)
+
+info_plain : Plain client_info
+unfolding client_info
+info_plain = record {
+  some = λ i. omega (arith, info_length i, name_plain.some i.auth_scheme);
+  writable = λ i lt. (
+    name_plain.writable i.auth_scheme (omega (arith, info_length i, lt)),
+    name_plain.writable i.user (omega (arith, info_length i, lt)),
+  );
+}
+
+pub infos_writable : (xs : List ClientInfo) → length ((vector_of client_info).written (Some xs)) ≤ body_limit
+    → (vector_of client_info).Writable (Some xs)
+infos_writable xs le = vector_writable client_info info_plain xs le
 
 pub names_writable : (xs : List (List ℕ)) → length (names_format.written xs) ≤ body_limit → names_format.Writable xs
 names_writable xs le = vector_writable text_or_empty name_plain xs le

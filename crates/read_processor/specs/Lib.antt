@@ -1,9 +1,12 @@
 pub mod Asking
+pub mod Digests
 pub mod Events
 pub mod Inner
 pub mod Kinds
+pub mod LaterReads
 pub mod Limits
 pub mod Look
+pub mod MultiReads
 pub mod Permissions
 pub mod Renewal
 pub mod Reply

@@ -1,15 +1,20 @@
--- The answer to a SetWatches of zookeeper.jute. A client that reconnects lists the paths that it watched on an older
--- connection, and names the last zxid that it has seen.
-use Rattle.std.specs.Prelude.{ℕ, ℤ, List, ◌++◌, Option, Some, None, Bool, ◌&&◌, is_some, int_lt, if◌then◌else◌}
+-- The answers to a SetWatches and a SetWatches2 of zookeeper.jute. A client that reconnects lists the paths that it
+-- watched on an older connection, and names the last zxid that it has seen.
+use Rattle.std.specs.Prelude.{ℕ, ℤ, List, ◌++◌, Option, Some, None, Bool, ◌&&◌, ◌||◌, is_some, int_lt, if◌then◌else◌, map}
 use Rattle.std.specs.List.{filter_map, list_all}
 use Rattle.std.specs.Option.{option_map}
 use Rattle.std.specs.FinMap as finmap
+use Rattle.settings.specs.Dialects.{reads_of}
+use Rattle.settings.specs.declared.dialect.Dialect.{Dialect}
 use Rattle.client_records.specs.declared.request.SetWatches.{SetWatches}
+use Rattle.client_records.specs.declared.request.SetWatches2.{SetWatches2}
 use Rattle.node_map.specs.declared.node.Node.{Node}
 use Rattle.data_tree.specs.State.{State}
 use Rattle.watch_manager.specs.declared.event.Event.{Event}
 use Rattle.watch_manager.specs.declared.event.EventKind.{EventKind}
 use Rattle.watch_manager.specs.declared.event.EventKind.TheVariants.{NodeCreated, NodeDeleted, NodeDataChanged, NodeChildrenChanged}
+use Rattle.watch_manager.specs.declared.mode.WatchMode.{WatchMode}
+use Rattle.watch_manager.specs.declared.mode.WatchMode.TheVariants.{Persistent, Recursive}
 use Rattle.read_processor.specs.Look.{is_request_path}
 use Rattle.read_processor.specs.declared.watch.Watch.{Watch}
 use Rattle.read_processor.specs.declared.watch.Watch.TheVariants as watch
@@ -60,11 +65,27 @@ are_request_paths asked =
     && list_all is_request_path asked.exist_watches
     && list_all is_request_path asked.child_watches
 
-abbrev pub renew_watches : State → SetWatches → Option Renewal
-renew_watches s asked =
-    if are_request_paths asked
-    then Some (record {
-      events = of_all_lists (event_at s asked.relative_zxid) asked;
-      watches = of_all_lists (kept_watch_at s asked.relative_zxid) asked;
-    })
-    else None
+abbrev pub renewal_of : State → SetWatches → Renewal
+renewal_of s asked = record {
+  events = of_all_lists (event_at s asked.relative_zxid) asked;
+  watches = of_all_lists (kept_watch_at s asked.relative_zxid) asked;
+}
+
+-- Later clients may watch any path.
+abbrev pub renew_watches : Dialect → State → SetWatches → Option Renewal
+renew_watches dialect s asked =
+    if (reads_of dialect).later_requests || are_request_paths asked then Some (renewal_of s asked) else None
+
+-- ---- the lists of a SetWatches2
+
+abbrev pub lasting_watches : WatchMode → List (List ℕ) → List Watch
+lasting_watches mode paths = map (λ (path : List ℕ). watch.Lasting path mode) paths
+
+-- The lasting watches are set again whatever was missed, and have no event.
+abbrev pub renew_all_watches : State → SetWatches2 → Renewal
+renew_all_watches s asked =
+    let renewed = renewal_of s asked.older in record {
+      events = renewed.events;
+      watches = renewed.watches ++ lasting_watches Persistent asked.persistent_watches
+          ++ lasting_watches Recursive asked.recursive_watches;
+    }

@@ -19,8 +19,8 @@ use values::{Blob, NoMemory};
 // The bytes of a frame's length and of a reply's header: 4 and 16.
 const ROOM: usize = 20;
 
-// The longest body in bytes: what a frame holds after the header.
-pub(crate) const BODY_LIMIT: usize = 2_147_483_631;
+/// The longest body in bytes: what a frame holds after the header.
+pub const BODY_LIMIT: usize = 2_147_483_631;
 
 /// The body of a reply. There is room before it for the frame's length and the header, so the frame is made without a
 /// copy.
@@ -148,6 +148,39 @@ impl Body {
         let mut bytes = self.bytes;
         numbers.write(&mut bytes)?;
         Ok(Body { bytes })
+    }
+
+    // Appends these bytes; None if they are too many for a frame.
+    fn with_bytes(self, more: &[u8]) -> Result<Option<Body>, NoMemory>
+        ensures { IfOk result (λ body. body ≡ fitting_body (self ++ more.now)) }
+    {
+        let mut bytes = self.bytes;
+        if more.len() > ROOM + BODY_LIMIT - bytes.len() {
+            return Ok(None);
+        }
+        bytes.extend_from_slice(more)?;
+        Ok(Some(Body { bytes }))
+    }
+
+    // Appends another body; None if it is too long for a frame.
+    pub(crate) fn followed_by(self, other: &Body) -> Result<Option<Body>, NoMemory>
+        ensures { IfOk result (λ body. body ≡ fitting_body (self ++ other.now)) }
+    {
+        self.with_bytes(&other.bytes[ROOM..])
+    }
+
+    /// Appends a record; None if it is too long for a frame. Fails only if an allocation is refused.
+    pub fn with_record<T: WriteRecord>(self, item: &T) -> Result<Option<Body>, NoMemory>
+        requires writable { T.format.Writable item.now }
+        requires small { length (T.format.written item.now) < 2 ^ 63 }
+        ensures { IfOk result (λ body. body ≡ fitting_body (self ++ T.format.written item.now)) }
+    {
+        let mut bytes = self.bytes;
+        if item.written_len() > ROOM + BODY_LIMIT - bytes.len() {
+            return Ok(None);
+        }
+        item.write(&mut bytes)?;
+        Ok(Some(Body { bytes }))
     }
 
     /// The frame of a reply with this header. Allocates nothing.

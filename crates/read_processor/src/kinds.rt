@@ -4,7 +4,7 @@
 ghost use Rattle.std.specs.Prelude.{◌≡◌, ◌<◌, ◌^◌, IfOk};
 ghost use Rattle.node_map.specs.Stats.{length_or_zero};
 ghost use Rattle.read_processor.specs.Limits.{fitting_body};
-ghost use Rattle.read_processor.specs.Kinds.{read_row, may_watch, exists_body, get_data_body, get_acl_body, get_children_body, get_children2_body, reply_body};
+ghost use Rattle.read_processor.specs.Kinds.{read_row, guards_acl, may_watch, exists_body, get_data_body, acl_body, get_acl_body, get_children_body, get_children2_body, reply_body};
 
 use crate::body::{BODY_LIMIT, Body};
 use crate::counts::{acls_len, names_len, with_bytes};
@@ -12,6 +12,7 @@ use client_records::{Acls, ExistsResponse, GetAclResponse, GetDataResponse, Read
 use data_tree::Node;
 use jute::codes::open_list;
 use jute::{Acl, WriteRecord};
+use settings::Dialect;
 use std::alloc::Global;
 use values::{Blob, Bytes, NoMemory};
 
@@ -61,6 +62,13 @@ pub fn read_row(kind: ReadKind) -> ReadRow
             watches_missing: false,
         },
     }
+}
+
+/// Whether a read is a getACL of a later client, which needs a permission.
+pub(crate) fn guards_acl(kind: ReadKind, rules: Dialect) -> bool
+    ensures { result ≡ guards_acl kind rules }
+{
+    matches!((kind, rules), (ReadKind::GetAcl, Dialect::Zk38))
 }
 
 /// Whether a client may ask for a watch with a read of this kind, so that the request says whether it does.
@@ -116,10 +124,13 @@ fn get_data(alloc: Global, node: &Node) -> Result<Option<Body>, NoMemory>
     )
 }
 
-// A node's stat with the entries of its access control list.
-fn get_entries(alloc: Global, node: &Node, entries: &[Acl]) -> Result<Option<Body>, NoMemory>
-    requires { entries.now ≡ node.now.acl }
-    ensures { IfOk result (λ body. body ≡ fitting_body (get_acl_body node.now)) }
+/// A node's stat with these entries as its access control list.
+pub(crate) fn acl_body(
+    alloc: Global,
+    entries: &[Acl],
+    node: &Node,
+) -> Result<Option<Body>, NoMemory>
+    ensures { IfOk result (λ body. body ≡ fitting_body (acl_body entries.now node.now)) }
 {
     let Some(_) = acls_len(entries) else {
         return Ok(None);
@@ -138,8 +149,8 @@ fn get_acl(alloc: Global, node: &Node) -> Result<Option<Body>, NoMemory>
     ensures { IfOk result (λ body. body ≡ fitting_body (get_acl_body node.now)) }
 {
     match node.acl.listed() {
-        None => get_entries(alloc, node, open_list(alloc)?.as_slice()),
-        Some(entries) => get_entries(alloc, node, entries),
+        None => acl_body(alloc, open_list(alloc)?.as_slice(), node),
+        Some(entries) => acl_body(alloc, entries, node),
     }
 }
 

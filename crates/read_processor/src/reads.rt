@@ -2,10 +2,10 @@
 
 ghost use Rattle.std.specs.Prelude.{◌≡◌, ◌&&◌, IfOk};
 ghost use Rattle.std.specs.Option.{option_copied};
-ghost use Rattle.read_processor.specs.Look.{look_at_state, look_at_node, is_request_path};
+ghost use Rattle.read_processor.specs.Look.{look_at_state, look_at_acl, look_at_node, is_request_path};
 
-use crate::kinds::read_row;
-use crate::permissions::may_read;
+use crate::kinds::{guards_acl, read_row};
+use crate::permissions::{may_read, may_see_acl};
 use crate::request::Request;
 use crate::shown::Look;
 use data_tree::{Node, Tree};
@@ -21,6 +21,16 @@ pub fn is_readable_path(path: &[u8]) -> bool
     path.starts_with(b"/") && !path.contains(&0)
 }
 
+// The answer to a getACL of a later client.
+fn look_at_acl(alloc: Global, ids: &[Id], node: &Node) -> Result<Look, NoMemory>
+    ensures { IfOk result (λ shown. shown ≡ look_at_acl ids.now node.now) }
+{
+    if !may_see_acl(ids, &node.acl) {
+        return Look::without_body(alloc, NO_AUTH);
+    }
+    Look::of_acl(alloc, ids, node)
+}
+
 fn look_at_node(
     alloc: Global,
     ids: &[Id],
@@ -33,7 +43,10 @@ fn look_at_node(
     let Some(node) = node else {
         return Look::without_body(alloc, NO_NODE);
     };
-    if read_row(request.kind).needs_read && !may_read(ids, &node.acl) {
+    if guards_acl(request.kind, request.rules) {
+        return look_at_acl(alloc, ids, node);
+    }
+    if read_row(request.kind).needs_read && !may_read(request.rules, ids, &node.acl) {
         return Look::without_body(alloc, NO_AUTH);
     }
     Look::of_node(alloc, request.kind, node)

@@ -4,17 +4,18 @@ ghost use Rattle.std.specs.Prelude.{◌≡◌, ◌++◌, ◌∷◌, [], OnOk, If
 ghost use Rattle.std.specs.List.{filter_map, list_all};
 ghost use Rattle.std.specs.Option.{option_copied};
 ghost use Rattle.read_processor.specs.Look.{is_request_path};
-ghost use Rattle.read_processor.specs.Renewal.{missed_kind, watch_at, event_at, kept_watch_at, are_request_paths, renew_watches};
+ghost use Rattle.read_processor.specs.Renewal.{missed_kind, watch_at, event_at, kept_watch_at, are_request_paths, renewal_of, renew_watches, lasting_watches, renew_all_watches};
 
 use crate::reads::is_readable_path;
 use crate::watch::Watch;
-use client_records::{Name, SetWatches};
+use client_records::{Name, SetWatches, SetWatches2};
 use data_tree::{Node, Tree};
+use settings::Dialect;
 use std::alloc::Global;
 use values::{Listed, NoMemory, Str, Text};
-use watch_manager::{Event, EventKind};
+use watch_manager::{Event, EventKind, WatchMode};
 
-/// The answer to a SetWatches.
+/// The answer to a SetWatches or a SetWatches2.
 #[derive(Drop)]
 pub struct Renewal<'a> {
     /// The events that the client missed, in the order of its lists.
@@ -117,6 +118,45 @@ impl<'a> Found<'a> {
     }
 }
 
+// Adds the lasting watches of one list.
+fn add_lasting<'a>(
+    watches: &mut Vec<Watch<'a>>,
+    mode: WatchMode,
+    paths: &[Name<'a>],
+) -> Result<(), NoMemory>
+    ensures { OnOk result (watches.new.items ≡ watches.old.items ++ lasting_watches mode paths.now) }
+{
+    for path in paths {
+        watches.push(Watch::Lasting(Str::new(path.as_str()), mode))?;
+    }
+    Ok(())
+}
+
+// The events and watches of a SetWatches, whatever its paths are.
+fn find_missed<'a>(
+    alloc: Global,
+    tree: &Tree,
+    asked: &SetWatches<'a>,
+) -> Result<Found<'a>, NoMemory>
+    ensures events { IfOk result (λ found. found.events.items ≡ (renewal_of tree.now asked.now).events) }
+    ensures watches { IfOk result (λ found. found.watches.items ≡ (renewal_of tree.now asked.now).watches) }
+{
+    let since = &asked.relative_zxid;
+    let mut found = Found {
+        events: Vec::new(alloc),
+        watches: Vec::new(alloc),
+    };
+    let (data, exist) = (
+        asked.data_watches.as_slice(),
+        asked.exist_watches.as_slice(),
+    );
+    found.add_all(alloc, tree, since, WatchList::Data, data)?;
+    found.add_all(alloc, tree, since, WatchList::Exist, exist)?;
+    let child = asked.child_watches.as_slice();
+    found.add_all(alloc, tree, since, WatchList::Child, child)?;
+    Ok(found)
+}
+
 // Whether all the paths may be read.
 fn all_asked(paths: &[Name<'_>]) -> bool
     ensures { result ≡ list_all is_request_path paths.now }
@@ -136,45 +176,43 @@ fn are_asked(asked: &SetWatches<'_>) -> bool
 }
 
 /// The events that a reconnected client missed, and the watches to set for it; `None` if a path of its lists may not be
-/// read, for example one that doesn't begin with a slash. Fails with `NoMemory` if an allocation is refused.
+/// watched in this dialect, for example one that doesn't begin with a slash. Fails with `NoMemory` if an allocation is
+/// refused.
 pub fn renew<'a>(
     alloc: Global,
     tree: &Tree,
     asked: &SetWatches<'a>,
+    rules: Dialect,
 ) -> Result<Option<Renewal<'a>>, NoMemory>
-    ensures { IfOk result (λ renewal. renewal ≡ renew_watches tree.now asked.now) }
+    ensures { IfOk result (λ renewal. renewal ≡ renew_watches rules tree.now asked.now) }
 {
-    if !are_asked(asked) {
+    if !rules.reads().later_requests && !are_asked(asked) {
         return Ok(None);
     }
-    let since = &asked.relative_zxid;
-    let mut found = Found {
-        events: Vec::new(alloc),
-        watches: Vec::new(alloc),
-    };
-    found.add_all(
-        alloc,
-        tree,
-        since,
-        WatchList::Data,
-        asked.data_watches.as_slice(),
-    )?;
-    found.add_all(
-        alloc,
-        tree,
-        since,
-        WatchList::Exist,
-        asked.exist_watches.as_slice(),
-    )?;
-    found.add_all(
-        alloc,
-        tree,
-        since,
-        WatchList::Child,
-        asked.child_watches.as_slice(),
-    )?;
+    let found = find_missed(alloc, tree, asked)?;
     Ok(Some(Renewal {
         events: Listed::from_vec(found.events),
         watches: Listed::from_vec(found.watches),
     }))
+}
+
+/// The events that a reconnected client of a later release missed, and the watches to set for it, on whatever paths.
+/// Fails with `NoMemory` if an allocation is refused.
+pub fn renew_all<'a>(
+    alloc: Global,
+    tree: &Tree,
+    asked: &SetWatches2<'a>,
+) -> Result<Renewal<'a>, NoMemory>
+    ensures { IfOk result (λ renewal. renewal ≡ renew_all_watches tree.now asked.now) }
+{
+    let found = find_missed(alloc, tree, &asked.older)?;
+    let mut watches = found.watches;
+    let persistent = asked.persistent_watches.as_slice();
+    add_lasting(&mut watches, WatchMode::Persistent, persistent)?;
+    let recursive = asked.recursive_watches.as_slice();
+    add_lasting(&mut watches, WatchMode::Recursive, recursive)?;
+    Ok(Renewal {
+        events: Listed::from_vec(found.events),
+        watches: Listed::from_vec(watches),
+    })
 }

@@ -1,6 +1,7 @@
 //! The reads of the tree.
 
 use client_records::ReadKind;
+use settings::Dialect;
 use values::Str;
 
 /// A read. Its kind says what it shows.
@@ -11,4 +12,6 @@ pub struct Request<'a> {
     pub path: Option<Str<'a>>,
     /// Whether the client asks for a watch.
     pub watch: bool,
+    /// The dialect by whose rules it is answered.
+    pub rules: Dialect,
 }

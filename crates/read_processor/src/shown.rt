@@ -2,15 +2,18 @@
 
 ghost use Rattle.std.specs.Prelude.{◌≡◌, IfOk};
 ghost use Rattle.read_processor.specs.Events.{look_of_event};
-ghost use Rattle.read_processor.specs.Look.{without_body, look_of_path, look_of_created, look_of_node};
+ghost use Rattle.read_processor.specs.Look.{without_body, shown_look, shown_acl, look_of_path, look_of_created, look_of_node};
+ghost use Rattle.read_processor.specs.Kinds.{acl_body};
 ghost use Rattle.read_processor.specs.Reply.{reply_frame};
 
 use crate::body::{BODY_LIMIT, Body};
-use crate::kinds::body_of;
+use crate::digests::masked_acls;
+use crate::kinds::{acl_body, body_of};
+use crate::permissions::may_administrate;
 use client_records::codes::{OK, SYNC_CONNECTED};
 use client_records::{Create2Response, PathResponse, ReadKind, WatcherEvent};
 use data_tree::Node;
-use jute::ReplyHeader;
+use jute::{Id, ReplyHeader};
 use std::alloc::Global;
 use values::{Blob, NoMemory, Str};
 use watch_manager::Event;
@@ -80,6 +83,23 @@ impl Look {
         ensures { IfOk result (λ look. look ≡ look_of_node kind node.now) }
     {
         let body = body_of(alloc, kind, node)?;
+        Ok(Look { error: OK, body })
+    }
+
+    // A node with as much of its access control list as a client with these ids is shown. The entries of the open list
+    // live only until they are written; it lets every client administrate the node.
+    pub(crate) fn of_acl(alloc: Global, ids: &[Id], node: &Node) -> Result<Look, NoMemory>
+        ensures { IfOk result
+            (λ look. look ≡ shown_look (acl_body (shown_acl ids.now node.now.acl) node.now)) }
+    {
+        let Some(entries) = node.acl.listed() else {
+            return Look::of_node(alloc, ReadKind::GetAcl, node);
+        };
+        if may_administrate(ids, entries) {
+            return Look::of_node(alloc, ReadKind::GetAcl, node);
+        }
+        let masked = masked_acls(alloc, entries)?;
+        let body = acl_body(alloc, masked.as_slice(), node)?;
         Ok(Look { error: OK, body })
     }
 

@@ -1,6 +1,6 @@
 //! A tree of one node, and requests for it.
 
-use client_records::{Name, SetWatches};
+use client_records::{Name, SetWatches, SetWatches2};
 use data_tree::Tree;
 use paths_and_acls::Path;
 use read_processor::Watch;
@@ -62,6 +62,22 @@ pub fn asked<'a>(
     })
 }
 
+/// The same, and a persistent and a recursive watch.
+pub fn all_asked<'a>(
+    alloc: Global,
+    relative_zxid: i64,
+    older: [&'a str; 3],
+    persistent: &'a str,
+    recursive: &'a str,
+) -> Result<SetWatches2<'a>, NoMemory> {
+    let [data, exist, child] = older;
+    Ok(SetWatches2 {
+        older: asked(alloc, relative_zxid, data, exist, child)?,
+        persistent_watches: one(alloc, persistent)?,
+        recursive_watches: one(alloc, recursive)?,
+    })
+}
+
 /// The watch in words: its table and its path.
 pub fn shown(alloc: Global, watch: &Watch<'_>) -> Result<String, Fail> {
     let (table, path) = match watch {
@@ -69,6 +85,8 @@ pub fn shown(alloc: Global, watch: &Watch<'_>) -> Result<String, Fail> {
         Watch::Child(path) => ("child", path.as_str()),
         Watch::Lasting(path, WatchMode::Persistent) => ("persistent", path.as_str()),
         Watch::Lasting(path, WatchMode::Recursive) => ("recursive", path.as_str()),
+        Watch::LastingAlone(path, WatchMode::Persistent) => ("persistent alone", path.as_str()),
+        Watch::LastingAlone(path, WatchMode::Recursive) => ("recursive alone", path.as_str()),
     };
     Ok(format!(in alloc; "{table} {path}; ")?)
 }

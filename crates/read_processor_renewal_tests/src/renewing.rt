@@ -1,10 +1,11 @@
 //! The answer to a SetWatches.
 
-use crate::calls::{asked, shown, tree_with_a};
+use crate::calls::{all_asked, asked, shown, tree_with_a};
 use client_records::SetWatches;
 use client_records::codes::NOTIFICATION_XID;
 use data_tree::Tree;
-use read_processor::{Look, renew};
+use read_processor::{Look, Renewal, renew, renew_all};
+use settings::Dialect;
 use std::alloc::Global;
 use std::test::Fail;
 use values::Text;
@@ -13,11 +14,8 @@ use watch_manager::{Event, EventKind};
 const ZXID: i64 = 0x1_0000_0001;
 
 // The events that a reconnected client gets and the watches set for it, in words.
-fn renewed(alloc: Global, tree: &Tree, asked: &SetWatches<'_>) -> Result<String, Fail> {
+fn told(alloc: Global, renewal: &Renewal<'_>) -> Result<String, Fail> {
     let mut text = String::new(alloc);
-    let Some(renewal) = renew(alloc, tree, asked)? else {
-        return Ok(text);
-    };
     for event in renewal.events.as_slice() {
         let number = event.kind.number();
         text.push_str(format!(in alloc; "{number} ")?.as_str())?;
@@ -28,6 +26,18 @@ fn renewed(alloc: Global, tree: &Tree, asked: &SetWatches<'_>) -> Result<String,
         text.push_str(shown(alloc, watch)?.as_str())?;
     }
     Ok(text)
+}
+
+fn renewed(
+    alloc: Global,
+    tree: &Tree,
+    asked: &SetWatches<'_>,
+    rules: Dialect,
+) -> Result<String, Fail> {
+    match renew(alloc, tree, asked, rules)? {
+        None => Ok(String::new(alloc)),
+        Some(renewal) => told(alloc, &renewal),
+    }
 }
 
 // The frame of an event, in hexadecimal digits.
@@ -45,11 +55,12 @@ fn is_renewed(
     tree: &Tree,
     relative_zxid: i64,
     paths: [&str; 3],
+    rules: Dialect,
     wanted: &str,
 ) -> Result<bool, Fail> {
     let [data, exist, child] = paths;
     let asked = asked(alloc, relative_zxid, data, exist, child)?;
-    Ok(renewed(alloc, tree, &asked)?.as_str() == wanted)
+    Ok(renewed(alloc, tree, &asked, rules)?.as_str() == wanted)
 }
 
 #[test]
@@ -64,8 +75,22 @@ fn what_was_missed(rt: HostRuntime) -> Result<(), Fail> {
         (0, ["/a", "/q", "a"], ""),
     ];
     for (since, paths, wanted) in rows {
-        assert!(rt; is_renewed(alloc, &tree, since, paths, wanted)?);
+        assert!(rt; is_renewed(alloc, &tree, since, paths, Dialect::Zk34, wanted)?);
     }
+    let any = ["/a", "a", ""];
+    assert!(rt; is_renewed(alloc, &tree, 0, any, Dialect::Zk38, "3 /a; 2 ; data a; ")?);
+    Ok(())
+}
+
+/// The lasting watches are set again, and have no event.
+#[test]
+fn what_was_missed_of_all_watches(rt: HostRuntime) -> Result<(), Fail> {
+    let alloc = rt.alloc();
+    let tree = tree_with_a(alloc, ZXID)?;
+    let asked = all_asked(alloc, 0, ["/a", "/q", "/"], "/a", "q")?;
+    let wanted = "3 /a; 4 /; data /q; persistent /a; recursive q; ";
+    let renewal = renew_all(alloc, &tree, &asked)?;
+    assert_eq!(rt; told(alloc, &renewal)?.as_str(), wanted);
     Ok(())
 }
 

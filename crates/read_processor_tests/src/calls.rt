@@ -4,10 +4,11 @@ use client_records::ReadKind;
 use data_tree::Tree;
 use jute::Id;
 use read_processor::{Look, Request, look};
+use settings::Dialect;
 use std::alloc::Global;
 use std::test::Fail;
 use txn_codec::decode_txn;
-use values::{Blob, Str, Text};
+use values::{Blob, Str};
 
 // The bytes of words of hexadecimal digits.
 fn bytes_of(alloc: Global, parts: &[&str]) -> Result<Vec<u8>, Fail> {
@@ -44,14 +45,15 @@ pub fn read_of(kind: ReadKind, path: &str) -> Request<'_> {
         kind,
         path: Some(Str::new(path)),
         watch: false,
+        rules: Dialect::Zk34,
     }
 }
 
 /// An id of a scheme.
 pub fn id_of(alloc: Global, scheme: &str, id: &str) -> Result<Id, Fail> {
     Ok(Id {
-        scheme: Text::new(alloc, scheme)?,
-        id: Text::new(alloc, id)?,
+        scheme: Blob::new(alloc, scheme.as_bytes())?,
+        id: Blob::new(alloc, id.as_bytes())?,
     })
 }
 

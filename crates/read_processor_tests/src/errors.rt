@@ -5,6 +5,7 @@ use client_records::ReadKind;
 use data_tree::Tree;
 use jute::Id;
 use read_processor::Request;
+use settings::Dialect;
 use std::alloc::Global;
 use std::slice;
 use std::test::Fail;
@@ -62,6 +63,7 @@ fn of_null(kind: ReadKind) -> Request<'static> {
         kind,
         path: None,
         watch: false,
+        rules: Dialect::Zk34,
     }
 }
 

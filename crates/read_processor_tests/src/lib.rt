@@ -8,3 +8,5 @@ mod calls;
 mod errors;
 #[cfg(test)]
 mod frames;
+#[cfg(test)]
+mod later;

@@ -6,6 +6,7 @@ use client_records::ReadKind;
 use data_tree::Tree;
 use read_processor::{Ask, Look, Request};
 use read_workers::{look_all, look_run};
+use settings::Dialect;
 use std::alloc::Global;
 use std::sync::atomic::{AtomicU64, Ordering};
 use std::test::Fail;
@@ -44,6 +45,7 @@ fn exists(path: &str) -> Ask<'_> {
         kind: ReadKind::Exists,
         path: Some(Str::new(path)),
         watch: false,
+        rules: Dialect::Zk34,
     };
     Ask { ids: &[], request }
 }

@@ -5,6 +5,7 @@ use client_records::ReadKind;
 use data_tree::Tree;
 use read_processor::{Ask, Look, Request};
 use read_workers::look_all_on;
+use settings::Dialect;
 use std::alloc::Global;
 use std::sync::atomic::{AtomicU64, Ordering};
 use std::test::Fail;
@@ -66,6 +67,7 @@ fn asks(alloc: Global) -> Result<Vec<Ask<'static>>, NoMemory> {
             kind: row.kind,
             path: Some(Str::new(row.path)),
             watch: false,
+            rules: Dialect::Zk34,
         };
         asks.push(Ask { ids: &[], request })?;
     }

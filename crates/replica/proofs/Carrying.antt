@@ -116,17 +116,16 @@ applied-told t (Some txn) triggers told r e =
 
 -- It was applied to the tree.
 pub applied-last : (r : Replica) (triggers : List Trigger) (told : Option LeaderNews) (log : List Txn) (t : Txn)
-    (tree : State) (outcome : Outcome) (err : ℤ) → err ≡ outcome.err
-    → log ≡ r.learner.log → Some t ≡ last_txn log → tree ≡ (effect_of_txn r.tree t).state
+    (tree : State) (outcome : Outcome) → log ≡ r.learner.log → Some t ≡ last_txn log → tree ≡ (effect_of_txn r.tree t).state
     → outcome ≡ answer_of (effect_of_txn r.tree t)
     → apply_to_tree (with_told triggers told r) (last_txn r.learner.log)
-    ≡ with_told outcome.triggers (Some (news.Applied (length log - 1) err)) (record r { tree = tree })
-applied-last r triggers told log t tree outcome err same is last state answer =
+    ≡ with_told outcome.triggers (Some (news.Applied (length log - 1) outcome.results)) (record r { tree = tree })
+applied-last r triggers told log t tree outcome is last state answer =
     ap (λ (log : List Txn). apply_to_tree (with_told triggers told r) (last_txn log)) (sym is)
     ∙ ap (apply_to_tree (with_told triggers told r)) (sym last)
     ∙ ap (with_outcome (with_told triggers told r) (answer_of (effect_of_txn r.tree t))) (sym state)
     ∙ ap (λ (o : Outcome). with_outcome (with_told triggers told r) o tree) (sym answer)
-    ∙ (λ i. with_told outcome.triggers (Some (news.Applied (length (sym is i) - 1) (sym same i)))
+    ∙ (λ i. with_told outcome.triggers (Some (news.Applied (length (sym is i) - 1) outcome.results))
     (record r { tree = tree }))
 
 -- ---- a part that is learnt is the only act of its item

@@ -59,7 +59,7 @@ last_txn log = slice_get log (length log - 1)
 abbrev pub with_outcome : ItemEffect → Outcome → State → ItemEffect
 with_outcome t outcome tree = record t {
   triggers = outcome.triggers;
-  news = Some (news.Applied (length t.replica.learner.log - 1) outcome.err);
+  news = Some (news.Applied (length t.replica.learner.log - 1) outcome.results);
   replica = record t.replica { tree = tree };
 }
 

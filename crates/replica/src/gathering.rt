@@ -42,7 +42,7 @@ impl Replica {
     }
 
     /// Applies the log's transactions after the first `done` by the closure, and returns their outcomes. Each outcome
-    /// has what taking the transaction's item would have brought: its triggers, and the error of `LeaderNews::Applied`.
+    /// has what taking the transaction's item would have brought: its triggers, and the results of `LeaderNews::Applied`.
     ///
     /// Fails if the closure does. Then the tree is unspecified, and the caller drops the replica.
     pub fn apply_gathered<D: Fn(&mut Tree, &[Txn]) -> Result<Vec<Outcome>, NoMemory>>(

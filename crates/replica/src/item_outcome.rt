@@ -1,6 +1,6 @@
 //! What an item of the leader's stream causes.
 
-use data_tree::Trigger;
+use data_tree::{Trigger, TxnResults};
 use quorum_packet::QuorumPacket;
 use values::Listed;
 
@@ -20,8 +20,8 @@ pub enum LeaderNews {
     Applied {
         /// Its place in the log since the base.
         place: usize,
-        /// ZooKeeper's error code of it, 0 for success.
-        error: i32,
+        /// What comes of it.
+        results: TxnResults,
     },
 }
 

@@ -4,7 +4,7 @@
 //! the tree is always the base with the log applied. `take` takes the next packet or part of the leader's stream, does
 //! the acts that the learner learns from it, and returns the packets for the leader, the triggers for watchers, and
 //! what concerns more than the replica (`LeaderNews`): a PING, a sync, an answer for a client's session, or a
-//! transaction that was applied, with its error. An image is loaded apart from the tree, by a loader that the caller keeps with the stream, and replaces the
+//! transaction that was applied, with its results. An image is loaded apart from the tree, by a loader that the caller keeps with the stream, and replaces the
 //! tree when its last part is in. A refused item leaves the replica and the loader as they were.
 //!
 //! Packets that only bring a transaction (`brings_txns`) may be gathered instead: `gather` leaves the tree, and

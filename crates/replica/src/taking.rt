@@ -31,7 +31,7 @@ impl Replica {
         self.learner.step(alloc, item)
     }
 
-    // Applies the log's last transaction to the tree, and tells its place and its error.
+    // Applies the log's last transaction to the tree, and tells its place and what comes of it.
     fn apply_last(
         &mut self,
         alloc: Global,
@@ -48,8 +48,8 @@ impl Replica {
         };
         let place = log.len() - 1;
         let outcome = self.tree.apply(alloc, txn)?;
-        let error = outcome.err;
-        *news = Some(LeaderNews::Applied { place, error });
+        let results = outcome.results;
+        *news = Some(LeaderNews::Applied { place, results });
         *triggers = outcome.triggers;
         Ok(())
     }

@@ -219,7 +219,7 @@ fn happen(
     };
     let brought = take(alloc, replica, loader, item)?;
     match &brought.news {
-        Some(LeaderNews::Applied { error, .. }) => errors.push(*error)?,
+        Some(LeaderNews::Applied { results, .. }) => errors.push(results.err)?,
         Some(LeaderNews::Revalidated { session, is_valid }) => {
             answers.push((*session, *is_valid))?;
         }

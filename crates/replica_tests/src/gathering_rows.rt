@@ -87,7 +87,7 @@ fn view(alloc: Global, replica: &mut Replica) -> Result<GatheredView, NoMemory> 
     let nodes_before = replica.tree().paths();
     let mut outcomes = Vec::new(alloc);
     for outcome in apply_all(alloc, replica)? {
-        outcomes.push((outcome.err, outcome.triggers.len()))?;
+        outcomes.push((outcome.results.err, outcome.triggers.len()))?;
     }
     let refused = gather(alloc, replica, 2, SET_DATA)?;
     Ok(GatheredView {

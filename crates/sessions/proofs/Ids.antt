@@ -8,7 +8,7 @@ use Rattle.base64.specs.Rfc4648.{encode, encode_symbols, padding_len}
 use Rattle.base64.specs.Engines.{standard}
 use Rattle.base64.specs.GeneralPurpose.{encode_of}
 use Rattle.base64.proofs.RoundTrip.{length-encode_symbols}
-use Rattle.jute.specs.Owned.{id_format}
+use Rattle.jute.specs.Owned.{id_in, id_format}
 use Rattle.sessions.specs.Credentials.{user_of, digest_of, digest_id}
 use Rattle.sessions.specs.Sessions.{auth_limit}
 
@@ -71,5 +71,5 @@ digest_short text =
     omega (arith, whole, ending, user, short)
 
 pub digest_is_writable : (text : List ℕ) → length text ≤ auth_limit → id_format.Writable (digest_id text)
-unfolding id_format
+unfolding id_in
 digest_is_writable text short = (omega arith, omega (arith, short, digest_short text))

@@ -11,7 +11,7 @@ use jute::Id;
 use settings::{Secret, ServerId};
 use sha1::Sha1;
 use std::alloc::Global;
-use values::{NoMemory, Text};
+use values::{Blob, NoMemory};
 
 /// The bound of the counters, which are the 7 bytes below the server id. No session has the counter 0.
 pub const COUNTERS: u64 = 0x0100_0000_0000_0000;
@@ -114,7 +114,7 @@ pub(crate) fn digest_id(alloc: Global, text: &str) -> Result<Id, NoMemory>
     id.push_str(":")?;
     STANDARD.encode_string(&Sha1::digest(text.as_bytes()), &mut id)?;
     Ok(Id {
-        scheme: Text::new(alloc, "digest")?,
-        id: Text::new(alloc, id.as_str())?,
+        scheme: Blob::new(alloc, b"digest")?,
+        id: Blob::new(alloc, id.as_bytes())?,
     })
 }

@@ -114,7 +114,7 @@ fn digest_text<'a>(scheme: Option<&str>, bytes: Option<&'a [u8]>) -> Option<&'a 
 fn id_len(id: &Id) -> usize
     ensures { result ≡ id_len id.now }
 {
-    id.scheme.as_str().len() + id.id.as_str().len()
+    id.scheme.as_slice().len() + id.id.as_slice().len()
 }
 
 // The bytes of all these ids.

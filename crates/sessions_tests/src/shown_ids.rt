@@ -17,13 +17,18 @@ fn opened(alloc: Global) -> Result<Sessions, Fail> {
     }
 }
 
+// The text of bytes, which are UTF-8 in the ids of clients.
+fn text_of(bytes: &[u8]) -> &str {
+    str::from_utf8(bytes).unwrap_or("not UTF-8")
+}
+
 // The ids of connection 1, one after another.
 fn ids(alloc: Global, sessions: &Sessions) -> Result<String, Fail> {
     let mut text = String::new(alloc);
     for id in sessions.ids(1) {
-        text.push_str(id.scheme.as_str())?;
+        text.push_str(text_of(id.scheme.as_slice()))?;
         text.push_str(" ")?;
-        text.push_str(id.id.as_str())?;
+        text.push_str(text_of(id.id.as_slice()))?;
         text.push_str(";")?;
     }
     Ok(text)

@@ -15,6 +15,7 @@ reads_of dialect = record {
   lenient_parts = is_later dialect;
   extended_types = is_later dialect;
   moved_sessions = is_later dialect;
+  surrogates = is_later dialect;
   later_requests = is_later dialect;
 }
 

@@ -25,6 +25,9 @@ pub struct Reads {
     pub extended_types: bool,
     /// A client may bring its session from another server, and the leader is asked for it.
     pub moved_sessions: bool,
+    /// In the ids of an access control list a surrogate may stand as three bytes, as Java writes the two halves of a
+    /// character past U+FFFF.
+    pub surrogates: bool,
     /// There are requests for creates that are answered with the Stat, for containers and for nodes with a time to live.
     pub later_requests: bool,
 }
@@ -41,6 +44,7 @@ impl Dialect {
             lenient_parts: is_later,
             extended_types: is_later,
             moved_sessions: is_later,
+            surrogates: is_later,
             later_requests: is_later,
         }
     }

@@ -1,23 +1,29 @@
 -- The formats of the parts are sound, and no part is refused for want of bytes.
-use Rattle.std.proofs.Common.{◌≡◌, ◌||◌, ℕ, List, [], ◌∷◌, Option, Some, None, Result, Ok, Err, Bool, true, false, cond, refl, sym, ap, ◌∙◌, is_some}
+use Rattle.std.proofs.Common.{◌≡◌, ◌||◌, ℕ, List, [], ◌∷◌, ◌++◌, Option, Some, None, Result, Ok, Err, Bool, true, false, cond, refl, sym, ap, ◌∙◌, is_some}
+use Rattle.std.specs.Prelude.{ℤ, All}
 use Rattle.std.specs.FinMap as finmap
+use Rattle.std.specs.List.{AllByRecursion}
 use Rattle.std.specs.Str.{bytes_eq}
 use Rattle.std.proofs.lemmas.Bool.{eqb-true}
+use Rattle.std.proofs.lemmas.List.Elements.{All-head, All-tail, All-from_recursion}
 use Rattle.std.proofs.lemmas.Slice.Eq.{bytes_eq-Decides}
+use Rattle.settings.specs.Dialects.{reads_of}
+use Rattle.settings.specs.declared.dialect.Dialect.{Dialect}
+use Rattle.settings.specs.declared.dialect.Dialect.TheVariants.{Zk34}
 use Rattle.values.specs.declared.fault.Fault.{Fault}
 use Rattle.values.specs.declared.fault.Fault.TheVariants.{Short, BadPath, BadImage}
-use Rattle.jute.specs.Format.{int, long, buffer, count_format, count_limit, text_format, vector_of, pair_of}
+use Rattle.jute.specs.Format.{int, long, buffer, count_format, count_limit, text_format, vector_of, vector_bytes, back_bytes, pair_of}
 use Rattle.jute.specs.Laws.{IsSound}
 use Rattle.jute.specs.Loading.{AreSound, NeverWaits}
-use Rattle.jute.specs.Owned.{acl_format}
+use Rattle.jute.specs.Owned.{acl_in, acl_format}
 use Rattle.jute.specs.Records.{stat_persisted}
 use Rattle.jute.specs.declared.owned.Acl.{Acl}
-use Rattle.jute.proofs.Public.{ok_is, not_refused, guard_ended, bind_ok, int_sound, long_sound, count_sound, buffer_sound, text_sound, vector_sound, acl_sound, stat_persisted_sound, both_sound, judged_sound, case_sound}
+use Rattle.jute.proofs.Public.{ok_is, not_refused, guard_ended, bind_ok, int_sound, long_sound, count_sound, buffer_sound, text_sound, vector_sound, acl_in_sound, acl_written, acl_writable, stat_persisted_sound, both_sound, judged_sound, case_sound}
 use Rattle.paths_and_acls.specs.Paths.{is_root, is_path, checked_path}
 use Rattle.data_tree.specs.Making.{has_place}
 use Rattle.snapshot_codec.specs.Dialects.{or_missing, comes_late}
 use Rattle.snapshot_codec.specs.Made.{LoadedParts, with_value, with_listed_node, list_at_key, image_load}
-use Rattle.snapshot_codec.specs.Parts.{Value, Count, Path, Close, Part, count_value, count_back, session_value, session_back, acl_value, acl_back, root_path, path_value, root_text_value, root_value, root_back, next_value, next_back, node_value, node_back, node_body, signature_text, signature_value, signature_back, counted_parts, part_format, part_stream}
+use Rattle.snapshot_codec.specs.Parts.{Value, Count, Path, Close, Part, count_value, count_back, session_value, session_back, acl_value, acl_back, root_path, path_value, root_text_value, root_value, root_back, next_value, next_back, node_value, node_back, node_body, signature_text, signature_value, signature_back, counted_parts, list_format, part_format, part_stream}
 use Rattle.snapshot_codec.specs.declared.part.ImageNode.{ImageNode}
 use Rattle.snapshot_codec.specs.declared.part.ImagePart.TheVariants as part
 use Rattle.snapshot_codec.specs.declared.part.PartPhase.{PartPhase}
@@ -77,20 +83,57 @@ counted_sound = judged_sound count_value count_back (count_format count_limit) c
 body_sound : IsSound node_body
 body_sound = both_sound buffer _ buffer_sound (both_sound long stat_persisted long_sound stat_persisted_sound)
 
-pub part_sound : (phase : PartPhase) → IsSound (part_format phase)
-part_sound SessionCount = counted_sound
-part_sound (Sessions n) = case_sound session_value session_back (pair_of long int) (λ s. refl)
-    (both_sound long int long_sound int_sound)
-part_sound AclCount = counted_sound
-part_sound (Acls n) = case_sound acl_value acl_back (pair_of long (vector_of acl_format)) (λ a. refl)
-    (both_sound long (vector_of acl_format) long_sound (vector_sound acl_format acl_sound))
-part_sound Root = judged_sound root_value root_back text_format root_returns text_sound
-part_sound Nodes = judged_sound next_value next_back text_format next_returns text_sound
-part_sound (Body path) = case_sound (node_value path) node_back node_body (λ n. refl) body_sound
-part_sound Signature = judged_sound signature_value signature_back text_format signature_returns text_sound
+pub list_sound : (dialect : Dialect) → IsSound (list_format dialect)
+list_sound dialect = vector_sound (acl_in (reads_of dialect).surrogates) (acl_in_sound (reads_of dialect).surrogates)
 
-pub parts_sound : AreSound part_stream
-parts_sound = record { sound = λ phase. part_sound phase }
+pub list_writable : (dialect : Dialect) (list : List Acl) → All (acl_in (reads_of dialect).surrogates).Writable list
+    → All acl_format.Writable list
+list_writable dialect list h = All-from_recursion acl_format.Writable list (each list h)
+  where
+    each : (entries : List Acl) → All (acl_in (reads_of dialect).surrogates).Writable entries
+        → AllByRecursion acl_format.Writable entries
+    each [] k = tt
+    each (e ∷ es) k = (
+      acl_writable (reads_of dialect).surrogates e (All-head (acl_in (reads_of dialect).surrogates).Writable e es k),
+      each es (All-tail (acl_in (reads_of dialect).surrogates).Writable e es k),
+    )
+
+pub list_written : (dialect : Dialect) (list : Option (List Acl))
+    → (list_format dialect).written list ≡ (vector_of acl_format).written list
+list_written dialect list =
+    ap (λ (w : Acl → List ℕ). vector_bytes w list) (acl_written (reads_of dialect).surrogates)
+
+pub part_sound : (dialect : Dialect) (phase : PartPhase) → IsSound (part_format dialect phase)
+part_sound dialect SessionCount = counted_sound
+part_sound dialect (Sessions n) = case_sound session_value session_back (pair_of long int) (λ s. refl)
+    (both_sound long int long_sound int_sound)
+part_sound dialect AclCount = counted_sound
+part_sound dialect (Acls n) = case_sound acl_value acl_back (pair_of long (list_format dialect)) (λ a. refl)
+    (both_sound long (list_format dialect) long_sound (list_sound dialect))
+part_sound dialect Root = judged_sound root_value root_back text_format root_returns text_sound
+part_sound dialect Nodes = judged_sound next_value next_back text_format next_returns text_sound
+part_sound dialect (Body path) = case_sound (node_value path) node_back node_body (λ n. refl) body_sound
+part_sound dialect Signature = judged_sound signature_value signature_back text_format signature_returns text_sound
+
+-- The bytes that are written don't depend on the dialect.
+pub part_written : (dialect : Dialect) (phase : PartPhase) (v : Value)
+    → (part_format dialect phase).written v ≡ (part_format Zk34 phase).written v
+part_written dialect SessionCount v = refl
+part_written dialect (Sessions n) v = refl
+part_written dialect AclCount v = refl
+part_written dialect (Acls n) v = by (acl_back v)
+  where
+    by : (back : Option (ℤ × Option (List Acl)))
+        → back_bytes (pair_of long (list_format dialect)) back ≡ back_bytes (pair_of long (list_format Zk34)) back
+    by None = refl
+    by (Some a) = ap (λ (b : List ℕ). long.written a.0 ++ b) (list_written dialect a.1)
+part_written dialect Root v = refl
+part_written dialect Nodes v = refl
+part_written dialect (Body path) v = refl
+part_written dialect Signature v = refl
+
+pub parts_sound : (dialect : Dialect) → AreSound (part_stream dialect)
+parts_sound dialect = record { sound = λ phase. part_sound dialect phase }
 
 -- ---- no refusal waits
 
@@ -118,5 +161,5 @@ value_waits made (Part (part.Node n)) e = node_waits made n
     (or_missing made.dialect (list_at_key made.lists n.acl)) e
 value_waits made (Part part.End) e = not_refused made Short e
 
-pub never_waits : NeverWaits image_load
-never_waits = record { goes_on = value_waits }
+pub never_waits : (dialect : Dialect) → NeverWaits (image_load dialect)
+never_waits dialect = record { goes_on = value_waits }

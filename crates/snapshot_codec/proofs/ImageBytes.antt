@@ -161,7 +161,7 @@ module _ (dialect : Dialect) (s : State) where
   abbrev BodyFits : Bytes × Node → Type 0
   BodyFits e = node_body.Fits (e.1.bytes, (key_of table e.1.acl, stored_stat e.1)) × KeepsOwner dialect e.1
 
-  pub fits_image : IsWhole s → FitSessions (finmap.entries s.sessions) → FitLists table
+  pub fits_image : IsWhole s → FitSessions (finmap.entries s.sessions) → FitLists dialect table
       → FitNodes dialect table (walk_of s.nodes) → FitsImageIn dialect s
   fits_image w a b c = (
     w,
@@ -178,7 +178,7 @@ module _ (dialect : Dialect) (s : State) where
   pub fit_sessions : FitsImageIn dialect s → FitSessions (finmap.entries s.sessions)
   fit_sessions h = (h.1.session_count, h.1.sessions)
 
-  pub fit_lists : FitsImageIn dialect s → FitLists table
+  pub fit_lists : FitsImageIn dialect s → FitLists dialect table
   fit_lists h = (h.1.list_count, h.1.lists)
 
   pub fit_nodes : FitsImageIn dialect s → FitNodes dialect table (walk_of s.nodes)
@@ -202,21 +202,23 @@ module _ (s : State) (rows : List (Bytes × Node)) (is : rows ≡ walk_of s.node
       ∙ sections s w
 
   pub all_fit : (dialect : Dialect) (ids : List (ℤ × ℤ)) → IsWhole s → ids ≡ finmap.entries s.sessions → FitSessions ids
-      → FitLists (lists_from [] rows) → FitNodes dialect (lists_from [] rows) rows → FitsImageIn dialect s
+      → FitLists dialect (lists_from [] rows) → FitNodes dialect (lists_from [] rows) rows → FitsImageIn dialect s
   all_fit dialect ids w same a b c =
       fits_image dialect s w (subst FitSessions same a)
-      (subst (λ (es : List (Bytes × Node)). FitLists (lists_from [] es)) is b)
+      (subst (λ (es : List (Bytes × Node)). FitLists dialect (lists_from [] es)) is b)
       (subst (λ (es : List (Bytes × Node)). FitNodes dialect (lists_from [] es) es) is c)
 
-  pub lists_refused : {A : Type 0} (dialect : Dialect) (e : WriteError) → MakesTable (Err e) (lists_from [] rows)
+  pub lists_refused : {A : Type 0} (dialect : Dialect) (e : WriteError)
+      → MakesTable dialect (Err e) (lists_from [] rows)
       → ◌≡◌ {A = Result A WriteError} (Err e) (Err NotWhole) → FitsImageIn dialect s → ⊥
   lists_refused dialect NotWhole bad same h =
-      bad (subst (λ (es : List (Bytes × Node)). FitLists (lists_from [] es)) (sym is) (fit_lists dialect s h))
+      bad (subst (λ (es : List (Bytes × Node)). FitLists dialect (lists_from [] es)) (sym is) (fit_lists dialect s h))
   lists_refused dialect NoMemory bad same h = absurd cc
 
   pub nodes_refused : {A : Type 0} (dialect : Dialect) (e : WriteError) (bytes old new : List ℕ)
       → WritesBytes (Err e) bytes old new (FitNodes dialect (lists_from [] rows) rows)
       → ◌≡◌ {A = Result A WriteError} (Err e) (Err NotWhole) → FitsImageIn dialect s → ⊥
   nodes_refused dialect NotWhole bytes old new bad same h =
-      bad (subst (λ (es : List (Bytes × Node)). FitNodes dialect (lists_from [] es) es) (sym is) (fit_nodes dialect s h))
+      bad (subst (λ (es : List (Bytes × Node)). FitNodes dialect (lists_from [] es) es) (sym is)
+      (fit_nodes dialect s h))
   nodes_refused dialect NoMemory bytes old new bad same h = absurd cc

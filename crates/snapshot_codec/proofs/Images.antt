@@ -61,7 +61,8 @@ fits_nothing dialect = record {
   closed = λ path none name. refl;
 }
   where
-    unowned : (session : ℤ) (path : Bytes) → is_owner session (finmap.get ((no_parts_in dialect).state.nodes) path) ≡ false
+    unowned : (session : ℤ) (path : Bytes)
+        → is_owner session (finmap.get ((no_parts_in dialect).state.nodes) path) ≡ false
     unowned session path = ap (is_owner session) (finmap.get-empty path_cmp path)
 
 moved : (made : LoadedParts) (s t : SessionEntries) (l m : Lists) (r q : Rows) → Fits made s l r → s ≡ t → l ≡ m → r ≡ q
@@ -187,7 +188,8 @@ module _ (made : LoadedParts) (front : List ImagePart) (f : FitsBehind made fron
   )
 
   -- A part that fits those before it is taken.
-  pub part_taken : (p : ImagePart) → IsAllowedAfter made.dialect front p → (next : LoadedParts) × (with_part made p ≡ Ok next)
+  pub part_taken : (p : ImagePart) → IsAllowedAfter made.dialect front p
+      → (next : LoadedParts) × (with_part made p ≡ Ok next)
   part_taken (part.Session s) h = (
     record made { state = with_session made.state s.id s.timeout },
     rw (none_is _ (f.state.timeouts s.id ∙ h)) refl,
@@ -244,24 +246,24 @@ part_stays made (part.Node n) next e =
 part_stays made part.End next e = ap (λ (m : LoadedParts). m.dialect) (sym (ok_is made next e))
 
 -- The parts taken fit one another.
-order_of : (vs : List Value) (old new : LoadedParts) (front : List ImagePart) → FitsBehind old front
-    → made_of image_load old vs ≡ Ok new
+order_of : (dialect : Dialect) (vs : List Value) (old new : LoadedParts) (front : List ImagePart) → FitsBehind old front
+    → made_of (image_load dialect) old vs ≡ Ok new
     → AreAllowedAfter old.dialect front (flat_map parts_in vs) × FitsBehind new (front ++ flat_map parts_in vs)
     × (new.dialect ≡ old.dialect)
-order_of [] old new front f e = (
+order_of dialect [] old new front f e = (
   tt,
   subst (λ (ps : List ImagePart). FitsBehind new ps) (sym (append-nil front))
       (subst (λ (m : LoadedParts). FitsBehind m front) (ok_is old new e) f),
   ap (λ (m : LoadedParts). m.dialect) (sym (ok_is old new e)),
 )
-order_of (Count n ∷ vs) old new front f e = order_of vs old new front f e
-order_of (Path path ∷ vs) old new front f e = order_of vs old new front f e
-order_of (Close ∷ vs) old new front f e = order_of vs old new front f e
-order_of (Part p ∷ vs) old new front f e =
-    let step = bind_ok (with_part old p) (λ next. made_of image_load next vs) new e in
+order_of dialect (Count n ∷ vs) old new front f e = order_of dialect vs old new front f e
+order_of dialect (Path path ∷ vs) old new front f e = order_of dialect vs old new front f e
+order_of dialect (Close ∷ vs) old new front f e = order_of dialect vs old new front f e
+order_of dialect (Part p ∷ vs) old new front f e =
+    let step = bind_ok (with_part old p) (λ next. made_of (image_load dialect) next vs) new e in
     let goes = part_goes old front f p step.0 step.1 in
     let stays = part_stays old p step.0 step.1 in
-    let others = order_of vs step.0 new (front ++ p ∷ []) goes.1 step.2 in (
+    let others = order_of dialect vs step.0 new (front ++ p ∷ []) goes.1 step.2 in (
       (
         goes.0,
         subst (λ (d : Dialect). AreAllowedAfter d (front ++ p ∷ []) (flat_map parts_in vs)) stays others.0,
@@ -271,20 +273,23 @@ order_of (Part p ∷ vs) old new front f e =
     )
 
 -- Parts that fit one another are taken.
-made_by : (vs : List Value) (old : LoadedParts) (front : List ImagePart) → FitsBehind old front
+made_by : (dialect : Dialect) (vs : List Value) (old : LoadedParts) (front : List ImagePart) → FitsBehind old front
     → AreAllowedAfter old.dialect front (flat_map parts_in vs)
-    → (new : LoadedParts) × (made_of image_load old vs ≡ Ok new)
-made_by [] old front f h = (old, refl)
-made_by (Count n ∷ vs) old front f h = made_by vs old front f h
-made_by (Path path ∷ vs) old front f h = made_by vs old front f h
-made_by (Close ∷ vs) old front f h = made_by vs old front f h
-made_by (Part p ∷ vs) old front f h =
+    → (new : LoadedParts) × (made_of (image_load dialect) old vs ≡ Ok new)
+made_by dialect [] old front f h = (old, refl)
+made_by dialect (Count n ∷ vs) old front f h = made_by dialect vs old front f h
+made_by dialect (Path path ∷ vs) old front f h = made_by dialect vs old front f h
+made_by dialect (Close ∷ vs) old front f h = made_by dialect vs old front f h
+made_by dialect (Part p ∷ vs) old front f h =
     let step = part_taken old front f p h.0 in
     let goes = part_goes old front f p step.0 step.1 in
-    let others = made_by vs step.0 (front ++ p ∷ []) goes.1
+    let others = made_by dialect vs step.0 (front ++ p ∷ []) goes.1
     (subst (λ (d : Dialect). AreAllowedAfter d (front ++ p ∷ []) (flat_map parts_in vs))
-    (sym (part_stays old p step.0 step.1)) h.1) in
-    (others.0, ap (λ (q : Result LoadedParts Fault). q >>= λ next. made_of image_load next vs) step.1 ∙ others.1)
+    (sym (part_stays old p step.0 step.1)) h.1) in (
+      others.0,
+      ap (λ (q : Result LoadedParts Fault). q >>= λ next. made_of (image_load dialect) next vs) step.1
+          ∙ others.1,
+    )
 
 -- ---- there is one such state
 
@@ -323,14 +328,16 @@ one_state dialect s t ids named placed f g =
 abbrev shown : LoadedParts × List ℕ → Result (State × List ℕ) Fault
 shown x = Ok (x.0.state, x.1)
 
-pub takes_in : (dialect : Dialect) (bytes : List ℕ) (s : State) (rest : List ℕ) → IsBytes bytes → image_read_in dialect bytes ≡ Ok (s, rest)
+pub takes_in : (dialect : Dialect) (bytes : List ℕ) (s : State) (rest : List ℕ) → IsBytes bytes
+    → image_read_in dialect bytes ≡ Ok (s, rest)
     → TakesSpelling (image_in dialect) bytes s rest
 unfolding image_read_in
 takes_in dialect bytes s rest fits e =
-    let loads = bind_ok (load_from image_load SessionCount (no_parts_in dialect) bytes) shown (s, rest) e in
-    let l = load_takes image_load parts_sound SessionCount (no_parts_in dialect) loads.0.0 bytes loads.0.1 fits loads.1 in
-    let f = stand_front part_stream l.0.found SessionCount l.0.end bytes loads.0.1 l.0.stand in
-    let o = order_of l.0.found (no_parts_in dialect) loads.0.0 [] (fits_nothing dialect) l.0.made in
+    let loads = bind_ok (load_from (image_load dialect) SessionCount (no_parts_in dialect) bytes) shown (s, rest) e in
+    let l = load_takes (image_load dialect) (parts_sound dialect) SessionCount (no_parts_in dialect) loads.0.0 bytes
+    loads.0.1 fits loads.1 in
+    let f = stand_front (part_stream dialect) l.0.found SessionCount l.0.end bytes loads.0.1 l.0.stand in
+    let o = order_of dialect l.0.found (no_parts_in dialect) loads.0.0 [] (fits_nothing dialect) l.0.made in
     let taken : TakesSpelling (image_in dialect) bytes loads.0.0.state loads.0.1 = record {
       text = f.0;
       parts = f.1;
@@ -356,23 +363,24 @@ pub again_in : (dialect : Dialect) (s : State) (text rest : List ℕ) → Spells
     → image_read_in dialect (text ++ rest) ≡ Ok (s, rest)
 unfolding image_read_in
 again_in dialect s text rest sp =
-    let m = made_by sp.found (no_parts_in dialect) [] (fits_nothing dialect) sp.order in
-    let o = order_of sp.found (no_parts_in dialect) m.0 [] (fits_nothing dialect) m.1 in
+    let m = made_by dialect sp.found (no_parts_in dialect) [] (fits_nothing dialect) sp.order in
+    let o = order_of dialect sp.found (no_parts_in dialect) m.0 [] (fits_nothing dialect) m.1 in
     let found = flat_map parts_in sp.found in
     let loaded_is : IsMadeOf dialect m.0.state (flat_map sessions_in found) (flat_map lists_in found)
     (flat_map rows_in found) =
     subst (λ (d : Dialect). IsMadeOf d m.0.state (flat_map sessions_in found) (flat_map lists_in found)
     (flat_map rows_in found)) o.2 o.1.state in
     let same : m.0.state ≡ s = one_state dialect m.0.state s _ _ _ loaded_is sp.made in
-    let loaded : IsLoaded image_load SessionCount (no_parts_in dialect) (text ++ rest) m.0 rest = record {
+    let loaded : IsLoaded (image_load dialect) SessionCount (no_parts_in dialect) (text ++ rest) m.0 rest = record {
       found = sp.found;
       end = sp.end;
-      stand = stand_on part_stream sp.found SessionCount sp.end text rest sp.stand;
+      stand = stand_on (part_stream dialect) sp.found SessionCount sp.end text rest sp.stand;
       ends = sp.ends;
       made = m.1;
     } in
     ap (λ (q : Result (LoadedParts × List ℕ) Fault). q >>= shown)
-    (loaded_again image_load parts_sound SessionCount (no_parts_in dialect) m.0 (text ++ rest) rest loaded)
+    (loaded_again (image_load dialect) (parts_sound dialect) SessionCount (no_parts_in dialect) m.0 (text ++ rest) rest
+    loaded)
     ∙ ap (λ (t : State). Ok (t, rest)) same
 
 pub image_again : (s : State) (text rest : List ℕ) → SpellsImageIn Zk34 s text
@@ -387,15 +395,16 @@ ate (Err e) n h = tt
 
 eats_in : (dialect : Dialect) (bytes : List ℕ) → LeavesFewer (image_read_in dialect bytes) (length bytes)
 unfolding image_read_in
-eats_in dialect bytes = ate (load_from image_load SessionCount (no_parts_in dialect) bytes) (length bytes)
-    (load_eats image_load streamed SessionCount (no_parts_in dialect) bytes)
+eats_in dialect bytes = ate (load_from (image_load dialect) SessionCount (no_parts_in dialect) bytes) (length bytes)
+    (load_eats (image_load dialect) (streamed dialect) SessionCount (no_parts_in dialect) bytes)
 
-stands_in : (dialect : Dialect) (bytes more : List ℕ) → IsStable (image_read_in dialect bytes) more (image_read_in dialect (bytes ++ more))
+stands_in : (dialect : Dialect) (bytes more : List ℕ)
+    → IsStable (image_read_in dialect bytes) more (image_read_in dialect (bytes ++ more))
 unfolding image_read_in
 stands_in dialect bytes more =
-    then_stands (load_from image_load SessionCount (no_parts_in dialect) bytes)
-    (load_from image_load SessionCount (no_parts_in dialect) (bytes ++ more)) more shown
-    (load_stands image_load streamed SessionCount (no_parts_in dialect) bytes more) (λ a rest. refl)
+    then_stands (load_from (image_load dialect) SessionCount (no_parts_in dialect) bytes)
+    (load_from (image_load dialect) SessionCount (no_parts_in dialect) (bytes ++ more)) more shown
+    (load_stands (image_load dialect) (streamed dialect) SessionCount (no_parts_in dialect) bytes more) (λ a rest. refl)
 
 pub streamed_in : (dialect : Dialect) → IsStreamable (image_in dialect)
 streamed_in dialect = record {
@@ -423,7 +432,8 @@ out_of made front (Part p) e f h = (
   λ goes. let t = part_taken made front f p goes in not_refused t.0 e (sym t.1 ∙ h),
 )
 
-is_refused : (made : LoadedParts) (front : List ImagePart) (v : Value) → FitsBehind made front → IsRefusedAfter made.dialect front v
+is_refused : (made : LoadedParts) (front : List ImagePart) (v : Value) → FitsBehind made front
+    → IsRefusedAfter made.dialect front v
     → with_value made v ≡ Err BadImage
 is_refused made front (Count n) f out = absurd out
 is_refused made front (Path path) f out = absurd out
@@ -434,17 +444,19 @@ is_refused made front (Part p) f out = by (with_part made p) refl
     by (Ok next) h = absurd (out (part_goes made front f p next h).0)
     by (Err e) h = ap (λ d. Err d) (sym (part_fault made p e h))
 
-names_in : (dialect : Dialect) (bytes : List ℕ) (e : Fault) → IsBytes bytes → image_read_in dialect bytes ≡ Err e → AgainstImage dialect e bytes
+names_in : (dialect : Dialect) (bytes : List ℕ) (e : Fault) → IsBytes bytes → image_read_in dialect bytes ≡ Err e
+    → AgainstImage dialect e bytes
 unfolding image_read_in
 names_in dialect bytes e fits h =
-    elim (bind_err (load_from image_load SessionCount (no_parts_in dialect) bytes) shown e h) [
-      | inl first ↦ named (load_names image_load parts_sound SessionCount (no_parts_in dialect) bytes e fits first)
+    elim (bind_err (load_from (image_load dialect) SessionCount (no_parts_in dialect) bytes) shown e h) [
+      | inl first ↦ named (load_names (image_load dialect) (parts_sound dialect) SessionCount (no_parts_in dialect)
+          bytes e fits first)
       | inr never ↦ absurd (not_refused (never.0.0.state, never.0.1) e never.2)
     ]
   where
-    named : IsRefused image_load SessionCount (no_parts_in dialect) bytes e → AgainstImage dialect e bytes
+    named : IsRefused (image_load dialect) SessionCount (no_parts_in dialect) bytes e → AgainstImage dialect e bytes
     named r =
-        let o = order_of r.found (no_parts_in dialect) r.so_far [] (fits_nothing dialect) r.made in
+        let o = order_of dialect r.found (no_parts_in dialect) r.so_far [] (fits_nothing dialect) r.made in
         record {
           found = r.found;
           end = r.end;
@@ -470,15 +482,16 @@ names_in dialect bytes e fits h =
           ];
         }
 
-answers_in : (dialect : Dialect) (bytes : List ℕ) (e : Fault) → AgainstImage dialect e bytes → image_read_in dialect bytes ≡ Err e
+answers_in : (dialect : Dialect) (bytes : List ℕ) (e : Fault) → AgainstImage dialect e bytes
+    → image_read_in dialect bytes ≡ Err e
 unfolding image_read_in
 answers_in dialect bytes e a = ap (λ (q : Result (LoadedParts × List ℕ) Fault). q >>= shown)
-    (load_answers image_load parts_sound SessionCount (no_parts_in dialect) bytes e refused)
+    (load_answers (image_load dialect) (parts_sound dialect) SessionCount (no_parts_in dialect) bytes e refused)
   where
-    refused : IsRefused image_load SessionCount (no_parts_in dialect) bytes e
+    refused : IsRefused (image_load dialect) SessionCount (no_parts_in dialect) bytes e
     refused =
-        let m = made_by a.found (no_parts_in dialect) [] (fits_nothing dialect) a.order in
-        let o = order_of a.found (no_parts_in dialect) m.0 [] (fits_nothing dialect) m.1 in
+        let m = made_by dialect a.found (no_parts_in dialect) [] (fits_nothing dialect) a.order in
+        let o = order_of dialect a.found (no_parts_in dialect) m.0 [] (fits_nothing dialect) m.1 in
         record {
           found = a.found;
           end = a.end;
@@ -511,7 +524,8 @@ pub image_named : NamesFaults image_format
 image_named = named_in Zk34
 
 -- Bytes that were refused for any fault but `Short` begin no image.
-pub begins_none : (dialect : Dialect) (bytes more text rest : List ℕ) (s : State) (e : Fault) → image_read_in dialect bytes ≡ Err e → (e ≡ Short → ⊥)
+pub begins_none : (dialect : Dialect) (bytes more text rest : List ℕ) (s : State) (e : Fault)
+    → image_read_in dialect bytes ≡ Err e → (e ≡ Short → ⊥)
     → bytes ++ more ≡ text ++ rest → SpellsImageIn dialect s text → ⊥
 begins_none dialect bytes more text rest s e h other same sp =
     by (subst (λ (r : Result (State × List ℕ) Fault). IsStable r more (image_read_in dialect (bytes ++ more))) h
@@ -519,11 +533,13 @@ begins_none dialect bytes more text rest s e h other same sp =
   where
     by : IsStable (let r : Result (State × List ℕ) Fault = Err e in r) more (image_read_in dialect (bytes ++ more)) → ⊥
     by (inl short) = other short
-    by (inr stands) = not_refused (s, rest) e (sym (ap (image_read_in dialect) same ∙ again_in dialect s text rest sp) ∙ stands)
+    by (inr stands) = not_refused (s, rest) e
+        (sym (ap (image_read_in dialect) same ∙ again_in dialect s text rest sp) ∙ stands)
 
 -- ---- the length of an image
 
-pub image_uses : (dialect : Dialect) (bytes rest : List ℕ) (s : State) → IsBytes bytes → image_read_in dialect bytes ≡ Ok (s, rest)
+pub image_uses : (dialect : Dialect) (bytes rest : List ℕ) (s : State) → IsBytes bytes
+    → image_read_in dialect bytes ≡ Ok (s, rest)
     → (length rest ≤ length bytes) × (image_read_in dialect bytes ≡ Ok (s, drop (length bytes - length rest) bytes))
 image_uses dialect bytes rest s fits e =
     let t = takes_in dialect bytes s rest fits e in

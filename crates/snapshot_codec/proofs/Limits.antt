@@ -5,6 +5,7 @@ use Rattle.std.specs.FinMap as finmap
 use Rattle.std.specs.FinMap.{find, is_sorted}
 use Rattle.std.specs.FinMap.Entries.{below_all}
 use Rattle.settings.specs.declared.dialect.Dialect.{Dialect}
+use Rattle.settings.specs.declared.dialect.Dialect.TheVariants.{Zk34}
 use Rattle.std.specs.List.{AllByRecursion}
 use Rattle.std.specs.Ordering.{is_lt, eq_by_cmp}
 use Rattle.std.specs.Str.{IsUtf8, is_utf8}
@@ -16,8 +17,7 @@ use Rattle.std.proofs.lemmas.Map.Views.{tells_apart}
 use Rattle.values.specs.declared.fault.Fault.TheVariants.{BadText, BadPath}
 use Rattle.ephemerals.specs.Orders.{Bytes, path_cmp}
 use Rattle.ephemerals.proofs.Totals.{path_total}
-use Rattle.jute.specs.Format.{◌>>=◌, int, long, buffer_limit, text_of, text_format, vector_of, pair_of}
-use Rattle.jute.specs.Owned.{acl_format}
+use Rattle.jute.specs.Format.{◌>>=◌, int, long, buffer_limit, text_of, text_format, pair_of}
 use Rattle.jute.specs.Relation.{SpellsItems}
 use Rattle.jute.specs.declared.owned.Acl.{Acl}
 use Rattle.paths_and_acls.specs.Paths.{is_root, is_path}
@@ -25,30 +25,31 @@ use Rattle.node_map.specs.declared.node.Node.{Node}
 use Rattle.data_tree.specs.State.{State}
 use Rattle.data_tree.specs.Whole.{IsWhole}
 use Rattle.snapshot_codec.specs.Dialects.{stored_stat, KeepsOwner}
-use Rattle.snapshot_codec.specs.Parts.{Value, Path, Close, Part, root_path, signature_text, next_value, node_body, part_stream, part_format, part_after, sessions_from, acls_from}
+use Rattle.snapshot_codec.specs.Parts.{Value, Path, Close, Part, root_path, signature_text, next_value, node_body, part_stream, list_format, part_format, part_after, sessions_from, acls_from}
 use Rattle.snapshot_codec.specs.Written.{walk_cmp, walk_of, Lists, lists_of, key_of, session_part, list_part, node_values, values_of, bytes_from, IsWithinLimits}
 use Rattle.snapshot_codec.specs.declared.part.PartPhase.{PartPhase}
 use Rattle.snapshot_codec.specs.declared.part.PartPhase.TheVariants.{SessionCount, Sessions, AclCount, Acls, Root, Nodes}
-use Rattle.snapshot_codec.proofs.Formats.{part_sound, root_is}
+use Rattle.snapshot_codec.proofs.Formats.{part_sound, part_written, root_is}
 use Rattle.snapshot_codec.proofs.WalkOrder.{here_some, first, second, less, walk_find, walk_sorted, none_before_root}
 
 -- ---- bytes
 
-abbrev pub FitFrom : PartPhase → List Value → Type 0
-FitFrom phase [] = Unit {0}
-FitFrom phase (v ∷ vs) = (part_format phase).Fits v × FitFrom (part_after phase v) vs
+abbrev pub FitFrom : Dialect → PartPhase → List Value → Type 0
+FitFrom dialect phase [] = Unit {0}
+FitFrom dialect phase (v ∷ vs) = (part_format dialect phase).Fits v × FitFrom dialect (part_after phase v) vs
 
-pub stand_written : (vs : List Value) (phase : PartPhase) → FitFrom phase vs
-    → (end : PartPhase) × SpellsItems part_stream vs phase (bytes_from phase vs) end []
-stand_written [] phase h = (phase, (refl, refl))
-stand_written (v ∷ vs) phase h =
-    let others = stand_written vs (part_after phase v) h.1 in (
+pub stand_written : (dialect : Dialect) (vs : List Value) (phase : PartPhase) → FitFrom dialect phase vs
+    → (end : PartPhase) × SpellsItems (part_stream dialect) vs phase (bytes_from phase vs) end []
+stand_written dialect [] phase h = (phase, (refl, refl))
+stand_written dialect (v ∷ vs) phase h =
+    let others = stand_written dialect vs (part_after phase v) h.1 in (
       others.0,
       (
-        (part_format phase).written v,
+        (part_format Zk34 phase).written v,
         bytes_from (part_after phase v) vs,
         refl,
-        (part_sound phase).lawful.writes v h.0,
+        subst (λ (b : List ℕ). (part_format dialect phase).Spells v b) (part_written dialect phase v)
+            ((part_sound dialect phase).lawful.writes v h.0),
         others.1,
       ),
     )
@@ -65,25 +66,32 @@ not_zero n = by (suc n == 0) refl
 pub one_less : (n : ℕ) → n ≡ suc n - 1
 one_less n = omega arith
 
-sessions_fit : (xs : List (ℤ × ℤ)) (vs : List Value) → AllByRecursion (pair_of long int).Fits xs → FitFrom AclCount vs
-    → FitFrom (sessions_from (length xs)) (map (λ x. Part (session_part x)) xs ++ vs)
-sessions_fit [] vs h k = k
-sessions_fit (x ∷ xs) vs h k =
+sessions_fit : (dialect : Dialect) (xs : List (ℤ × ℤ)) (vs : List Value) → AllByRecursion (pair_of long int).Fits xs
+    → FitFrom dialect AclCount vs
+    → FitFrom dialect (sessions_from (length xs)) (map (λ x. Part (session_part x)) xs ++ vs)
+sessions_fit dialect [] vs h k = k
+sessions_fit dialect (x ∷ xs) vs h k =
     let behind = map (λ (y : ℤ × ℤ). Part (session_part y)) xs ++ vs in
-    subst (λ b. FitFrom (cond b AclCount (Sessions (suc (length xs)))) (Part (session_part x) ∷ behind))
-    (sym (not_zero (length xs)))
-    ((refl, h.0), subst (λ n. FitFrom (sessions_from n) behind) (one_less (length xs)) (sessions_fit xs vs h.1 k))
+    subst (λ b. FitFrom dialect (cond b AclCount (Sessions (suc (length xs)))) (Part (session_part x) ∷ behind))
+    (sym (not_zero (length xs))) (
+      (refl, h.0),
+      subst (λ n. FitFrom dialect (sessions_from n) behind) (one_less (length xs))
+          (sessions_fit dialect xs vs h.1 k),
+    )
 
-lists_fit : (xs : Lists) (vs : List Value)
-    → AllByRecursion (λ (l : ℤ × List Acl). (pair_of long (vector_of acl_format)).Fits (l.0, Some l.1)) xs
-    → FitFrom Root vs
-    → FitFrom (acls_from (length xs)) (map (λ x. Part (list_part x)) xs ++ vs)
-lists_fit [] vs h k = k
-lists_fit (x ∷ xs) vs h k =
+lists_fit : (dialect : Dialect) (xs : Lists) (vs : List Value)
+    → AllByRecursion (λ (l : ℤ × List Acl). (pair_of long (list_format dialect)).Fits (l.0, Some l.1)) xs
+    → FitFrom dialect Root vs
+    → FitFrom dialect (acls_from (length xs)) (map (λ x. Part (list_part x)) xs ++ vs)
+lists_fit dialect [] vs h k = k
+lists_fit dialect (x ∷ xs) vs h k =
     let behind = map (λ (y : ℤ × List Acl). Part (list_part y)) xs ++ vs in
-    subst (λ b. FitFrom (cond b Root (Acls (suc (length xs)))) (Part (list_part x) ∷ behind))
-    (sym (not_zero (length xs)))
-    ((refl, h.0), subst (λ n. FitFrom (acls_from n) behind) (one_less (length xs)) (lists_fit xs vs h.1 k))
+    subst (λ b. FitFrom dialect (cond b Root (Acls (suc (length xs)))) (Part (list_part x) ∷ behind))
+    (sym (not_zero (length xs))) (
+      (refl, h.0),
+      subst (λ n. FitFrom dialect (acls_from n) behind) (one_less (length xs))
+          (lists_fit dialect xs vs h.1 k),
+    )
 
 -- ---- texts
 
@@ -129,14 +137,15 @@ module _ (dialect : Dialect) (lists : Lists) where
   next_path : (p : Bytes) → is_root p ≡ false → is_path p ≡ true → next_value (Some p) ≡ Ok (Path p)
   next_path p other is = λ i. cond (other i) (Ok Close) (cond (is i) (Ok p) (Err BadPath) >>= λ path. Ok (Path path))
 
-  nodes_fit : (es : List (Bytes × Node)) → Others es → Paths es → Bodies es → FitFrom Nodes (node_values lists es)
+  nodes_fit : (es : List (Bytes × Node)) → Others es → Paths es → Bodies es
+      → FitFrom dialect Nodes (node_values lists es)
   nodes_fit [] o p b = ((refl, slash_text), ((refl, end_text), tt))
   nodes_fit (e ∷ es) o p b =
       ((next_path e.0 o.0.0 o.0.1, p.0), ((refl, b.0.0), nodes_fit es o.1 p.1 b.1))
 
-  first_fits : (p : Bytes) → is_root p ≡ true → (part_format Root).Fits (Path p)
+  first_fits : (p : Bytes) → is_root p ≡ true → (part_format dialect Root).Fits (Path p)
   first_fits p root =
-      subst (λ (q : Bytes). (part_format Root).Fits (Path q)) (sym (root_is p root)) (refl, no_text)
+      subst (λ (q : Bytes). (part_format dialect Root).Fits (Path q)) (sym (root_is p root)) (refl, no_text)
 
 -- ---- the root is the first node
 
@@ -193,7 +202,7 @@ first_root e es h p some = by (eq_by_cmp path_cmp root_path e.0) refl some
 
 walk_fits : (dialect : Dialect) (lists : Lists) (es : List (Bytes × Node)) → T (is_sorted walk_cmp es) → ArePaths es
     → is_some (find path_cmp root_path es) ≡ true → Paths dialect lists es → Bodies dialect lists es
-    → FitFrom Root (node_values lists es)
+    → FitFrom dialect Root (node_values lists es)
 walk_fits dialect lists [] h p some ps bs = absurd (true≢false (sym some))
 walk_fits dialect lists (e ∷ es) h p some ps bs =
     let root = first_root e es h p some in
@@ -205,12 +214,12 @@ walk_fits dialect lists (e ∷ es) h p some ps bs =
 
 pub values_fit : (dialect : Dialect) (s : State) → IsWhole s
     → IsWithinLimits dialect (finmap.entries s.sessions) (lists_of s.nodes) (walk_of s.nodes)
-    → FitFrom SessionCount (values_of s)
+    → FitFrom dialect SessionCount (values_of s)
 values_fit dialect s w l = (
   (refl, l.session_count),
-  sessions_fit (finmap.entries s.sessions) _ l.sessions (
+  sessions_fit dialect (finmap.entries s.sessions) _ l.sessions (
     (refl, l.list_count),
-    lists_fit (lists_of s.nodes) _ l.lists
+    lists_fit dialect (lists_of s.nodes) _ l.lists
         (walk_fits dialect (lists_of s.nodes) (walk_of s.nodes) (walk_sorted s.nodes)
         (λ q some. w.named.paths q (sym (ap is_some (walk_find s.nodes q)) ∙ some))
         (ap is_some (walk_find s.nodes root_path) ∙ w.root) l.paths l.nodes),

@@ -186,21 +186,22 @@ end_step (Some t) v e =
     subst (Step Signature) (guard_ended (bytes_eq t signature_text) BadImage (Part part.End) v e).1
     (tt, tt, λ w. absurd (true≢false (sym w)))
 
-step_of : (phase : PartPhase) (v : Value) (text : List ℕ) → (part_format phase).Spells v text → Keeps phase
+step_of : (dialect : Dialect) (phase : PartPhase) (v : Value) (text : List ℕ)
+    → (part_format dialect phase).Spells v text → Keeps phase
     → Step phase v
 unfolding ArePaths no_rows
-step_of SessionCount v text s k = count_step SessionCount sessions_on s.0 v s.1
-step_of (SessionsLeft n) v text s k =
+step_of dialect SessionCount v text s k = count_step SessionCount sessions_on s.0 v s.1
+step_of dialect (SessionsLeft n) v text s k =
     subst (Step (SessionsLeft n)) (ok_is (session_value s.0) v s.1)
     (tt, (sessions_on _).0, λ w. inr (refl, (sessions_on _).1))
-step_of AclCount v text s k = count_step AclCount acls_on s.0 v s.1
-step_of (AclsLeft n) v text s k =
+step_of dialect AclCount v text s k = count_step AclCount acls_on s.0 v s.1
+step_of dialect (AclsLeft n) v text s k =
     subst (Step (AclsLeft n)) (ok_is (acl_value s.0) v s.1) (tt, (acls_on _).0, λ w. inr (refl, (acls_on _).1))
-step_of Root v text s k = root_step s.0 v s.1
-step_of Nodes v text s k = next_step s.0 v s.1
-step_of (Body path) v text s k =
+step_of dialect Root v text s k = root_step s.0 v s.1
+step_of dialect Nodes v text s k = next_step s.0 v s.1
+step_of dialect (Body path) v text s k =
     subst (Step (Body path)) (ok_is (node_value path s.0) v s.1) ((k, tt), tt, λ w. inl refl)
-step_of Signature v text s k = end_step s.0 v s.1
+step_of dialect Signature v text s k = end_step s.0 v s.1
 
 -- ---- the whole image
 
@@ -221,33 +222,33 @@ rows_of vs = flat_map rows_in (flat_map parts_in vs)
 rows_first : (v : Value) (vs : List Value) → rows_of (v ∷ vs) ≡ rows_at v ++ rows_of vs
 rows_first v vs = flat_map-append rows_in (parts_in v) (flat_map parts_in vs)
 
-stand_paths : (vs : List Value) (phase end : PartPhase) (bytes rest : List ℕ)
-    → SpellsItems part_stream vs phase bytes end rest
+stand_paths : (dialect : Dialect) (vs : List Value) (phase end : PartPhase) (bytes rest : List ℕ)
+    → SpellsItems (part_stream dialect) vs phase bytes end rest
     → Keeps phase → ArePaths (rows_of vs)
 unfolding ArePaths
-stand_paths [] phase end bytes rest h k = tt
-stand_paths (v ∷ vs) phase end bytes rest h k =
-    let s = step_of phase v h.0 h.3 k in
+stand_paths dialect [] phase end bytes rest h k = tt
+stand_paths dialect (v ∷ vs) phase end bytes rest h k =
+    let s = step_of dialect phase v h.0 h.3 k in
     subst ArePaths (sym (rows_first v vs))
-    (paths_more (rows_at v) (rows_of vs) s.0 (stand_paths vs (part_after phase v) end h.1 rest h.4 s.1))
+    (paths_more (rows_at v) (rows_of vs) s.0 (stand_paths dialect vs (part_after phase v) end h.1 rest h.4 s.1))
 
 going_on : (last : Bool) (vs : List Value) (others : Type 0) → EndsAt last vs others → last ≡ false → others
 going_on true vs others h e = absurd (true≢false e)
 going_on false vs others h e = h
 
-node_comes : (vs : List Value) (phase end : PartPhase) (bytes rest : List ℕ)
-    → SpellsItems part_stream vs phase bytes end rest
+node_comes : (dialect : Dialect) (vs : List Value) (phase end : PartPhase) (bytes rest : List ℕ)
+    → SpellsItems (part_stream dialect) vs phase bytes end rest
     → Keeps phase
-    → EndsOnce image_load vs → waits phase ≡ true → no_rows (rows_of vs) ≡ false
-node_comes [] phase end bytes rest h k ends w = absurd ends
-node_comes (v ∷ vs) phase end bytes rest h k ends w =
-    let s = step_of phase v h.0 h.3 k in
+    → EndsOnce (image_load dialect) vs → waits phase ≡ true → no_rows (rows_of vs) ≡ false
+node_comes dialect [] phase end bytes rest h k ends w = absurd ends
+node_comes dialect (v ∷ vs) phase end bytes rest h k ends w =
+    let s = step_of dialect phase v h.0 h.3 k in
     ap no_rows (rows_first v vs)
     ∙ some_more (rows_at v) (rows_of vs) (elim (s.2 w) [
       | inl node ↦ inl node
       | inr on ↦
-          inr (node_comes vs (part_after phase v) end h.1 rest h.4 s.1
-          (going_on (is_end v) vs (EndsOnce image_load vs) ends on.0) on.1)
+          inr (node_comes dialect vs (part_after phase v) end h.1 rest h.4 s.1
+          (going_on (is_end v) vs (EndsOnce (image_load dialect) vs) ends on.0) on.1)
     ])
 
 -- ---- parents
@@ -353,7 +354,8 @@ module _ (dialect : Dialect) (s : State) (ids : SessionEntries) (named : Lists) 
   there : (path : Bytes) → has_node s.nodes path ≡ is_some (find path_cmp path rows)
   there path = by (find path_cmp path rows) (finmap.get s.nodes path) (made.nodes path)
     where
-      by : (row : Option ImageNode) (node : Option Node) → AreAt dialect named rows path row node → is_some node ≡ is_some row
+      by : (row : Option ImageNode) (node : Option Node) → AreAt dialect named rows path row node
+          → is_some node ≡ is_some row
       by None None h = refl
       by (Some r) (Some n) h = refl
       by None (Some n) h = absurd h
@@ -497,6 +499,7 @@ module _ (dialect : Dialect) (s : State) (ids : SessionEntries) (named : Lists) 
 pub image_whole : (dialect : Dialect) → PathsEndInNames → (s : State) (text : List ℕ) → SpellsImageIn dialect s text
     → IsWhole s
 image_whole dialect ends s text sp =
-    made_whole dialect s _ _ (rows_of sp.found) sp.made (linked_all dialect (flat_map parts_in sp.found) [] no_links sp.order)
-    (stand_paths sp.found SessionCount sp.end text [] sp.stand tt) ends
-    (node_comes sp.found SessionCount sp.end text [] sp.stand tt sp.ends refl)
+    made_whole dialect s _ _ (rows_of sp.found) sp.made
+    (linked_all dialect (flat_map parts_in sp.found) [] no_links sp.order)
+    (stand_paths dialect sp.found SessionCount sp.end text [] sp.stand tt) ends
+    (node_comes dialect sp.found SessionCount sp.end text [] sp.stand tt sp.ends refl)

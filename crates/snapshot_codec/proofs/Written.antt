@@ -47,16 +47,20 @@ use Rattle.snapshot_codec.proofs.WalkOrder.{first, both, less_at, here_some, bef
 
 -- ---- the end is the last value
 
-node_ends : (lists : Lists) (es : List (Bytes × Node)) → EndsOnce image_load (node_values lists es)
-node_ends lists [] = refl
-node_ends lists (e ∷ es) = node_ends lists es
+node_ends : (dialect : Dialect) (lists : Lists) (es : List (Bytes × Node))
+    → EndsOnce (image_load dialect) (node_values lists es)
+node_ends dialect lists [] = refl
+node_ends dialect lists (e ∷ es) = node_ends dialect lists es
 
-part_ends : {A : Type 0} (f : A → ImagePart) → ((x : A) → is_end (Part (f x)) ≡ false) → (xs : List A)
-    (vs : List Value) → EndsOnce image_load vs → EndsOnce image_load (map (λ x. Part (f x)) xs ++ vs)
-part_ends f none [] vs h = h
-part_ends f none (x ∷ xs) vs h =
+part_ends : {A : Type 0} (dialect : Dialect) (f : A → ImagePart) → ((x : A) → is_end (Part (f x)) ≡ false)
+    → (xs : List A)
+    (vs : List Value) → EndsOnce (image_load dialect) vs
+    → EndsOnce (image_load dialect) (map (λ x. Part (f x)) xs ++ vs)
+part_ends dialect f none [] vs h = h
+part_ends dialect f none (x ∷ xs) vs h =
     let behind = map (λ x. Part (f x)) xs ++ vs in
-    subst (λ b. EndsAt b behind (EndsOnce image_load behind)) (sym (none x)) (part_ends f none xs vs h)
+    subst (λ b. EndsAt b behind (EndsOnce (image_load dialect) behind)) (sym (none x))
+    (part_ends dialect f none xs vs h)
 
 -- ---- the parts
 
@@ -324,7 +328,8 @@ each_by dialect f front ys [] h = tt
 each_by dialect f front ys (x ∷ xs) h = (
   h ys x xs refl,
   subst (λ (r : List ImagePart). AreAllowedAfter dialect r (map f xs)) (map_last f front ys x)
-      (each_by dialect f front (ys ++ x ∷ []) xs (λ ahead y bs e. h ahead y bs (sym (append_assoc ys (x ∷ []) xs) ∙ e))),
+      (each_by dialect f front (ys ++ x ∷ []) xs
+      (λ ahead y bs e. h ahead y bs (sym (append_assoc ys (x ∷ []) xs) ∙ e))),
 )
 
 -- ---- a whole state
@@ -499,7 +504,8 @@ module _ (dialect : Dialect) (s : State) (w : IsWhole s) where
       let f = child_at table path name es e in
       (λ i. is_listed_at nodes (f.3 i) (f.4 i)) ∙ listed_at f.0 (sym (ap is_some (walk_find nodes f.0)) ∙ f.1) f.2
 
-  at : KeepOwners dialect es → (path : Bytes) → AreAt dialect table rows path (find path_cmp path rows) (finmap.get nodes path)
+  at : KeepOwners dialect es → (path : Bytes)
+      → AreAt dialect table rows path (find path_cmp path rows) (finmap.get nodes path)
   unfolding Alike
   at owners path = by (find path_cmp path rows) (finmap.get nodes path) refl (alike path)
     where
@@ -693,13 +699,14 @@ module _ (dialect : Dialect) (s : State) (w : IsWhole s) where
 
       moved : {t : SessionEntries} {l : Lists} {r : Rows} → t ≡ ids → l ≡ table → r ≡ rows → IsMadeOf dialect s t l r
       moved {t} {l} {r} e f g =
-          subst (λ (x : SessionEntries). IsMadeOf dialect s x l r) (sym e) (subst (λ (x : Lists). IsMadeOf dialect s ids x r) (sym f)
+          subst (λ (x : SessionEntries). IsMadeOf dialect s x l r) (sym e)
+          (subst (λ (x : Lists). IsMadeOf dialect s ids x r) (sym f)
           (subst (λ (x : Rows). IsMadeOf dialect s ids table x) (sym g) (made owners)))
 
-  ends_once : EndsOnce image_load (values_of s)
+  ends_once : EndsOnce (image_load dialect) (values_of s)
   ends_once =
-      part_ends session_part (λ x. refl) ids (counted_values list_part table ++ node_values table es)
-      (part_ends list_part (λ x. refl) table (node_values table es) (node_ends table es))
+      part_ends dialect session_part (λ x. refl) ids (counted_values list_part table ++ node_values table es)
+      (part_ends dialect list_part (λ x. refl) table (node_values table es) (node_ends dialect table es))
 
 owners_kept : (dialect : Dialect) (lists : Lists) (es : List (Bytes × Node))
     → AllByRecursion (λ (e : Bytes × Node).
@@ -710,7 +717,7 @@ owners_kept dialect lists (e ∷ es) h = (h.0.1, owners_kept dialect lists es h.
 
 pub written_in : (dialect : Dialect) → WritesSpellings (image_in dialect)
 written_in dialect s fits =
-    let st = stand_written (values_of s) SessionCount (values_fit dialect s fits.0 fits.1) in
+    let st = stand_written dialect (values_of s) SessionCount (values_fit dialect s fits.0 fits.1) in
     record {
       found = values_of s;
       end = st.0;

@@ -127,8 +127,8 @@ IsMadeOfParts dialect s ps = IsMadeOf dialect s (flat_map sessions_in ps) (flat_
 pub record SpellsImageIn (dialect : Dialect) (s : State) (text : List ℕ) : Type 0 where
   pub found : List Value
   pub end : PartPhase
-  pub stand : SpellsItems part_stream found SessionCount text end []
-  pub ends : EndsOnce image_load found
+  pub stand : SpellsItems (part_stream dialect) found SessionCount text end []
+  pub ends : EndsOnce (image_load dialect) found
   pub order : AreAllowedAfter dialect [] (flat_map parts_in found)
   pub made : IsMadeOfParts dialect s (flat_map parts_in found)
 
@@ -143,16 +143,16 @@ pub record AgainstImage (dialect : Dialect) (e : Fault) (bytes : List ℕ) : Typ
   pub found : List Value
   pub end : PartPhase
   pub rest : List ℕ
-  pub stand : SpellsItems part_stream found SessionCount bytes end rest
-  pub none_last : NoneIsLast image_load found
+  pub stand : SpellsItems (part_stream dialect) found SessionCount bytes end rest
+  pub none_last : NoneIsLast (image_load dialect) found
   pub order : AreAllowedAfter dialect [] (flat_map parts_in found)
-  pub next : (part_format end).against e rest
-      ⊎ ((e ≡ BadImage) × SpellsFront (part_format end) (λ v behind. IsRefusedAfter dialect (flat_map parts_in found) v) rest)
+  pub next : (part_format dialect end).against e rest
+      ⊎ ((e ≡ BadImage) × SpellsFront (part_format dialect end) (λ v behind. IsRefusedAfter dialect (flat_map parts_in found) v) rest)
 
 -- The loading of its parts.
 unfoldable pub image_read_in : Dialect → List ℕ → Result (State × List ℕ) Fault
 image_read_in dialect bytes =
-    load_from image_load SessionCount (no_parts_in dialect) bytes >>= λ x. Ok (x.0.state, x.1)
+    load_from (image_load dialect) SessionCount (no_parts_in dialect) bytes >>= λ x. Ok (x.0.state, x.1)
 
 abbrev pub image_in : Dialect → Format State
 image_in dialect = record {

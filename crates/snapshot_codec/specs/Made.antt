@@ -74,9 +74,9 @@ with_value made (Path path) = Ok made
 with_value made Close = Ok made
 with_value made (Part p) = with_part made p
 
--- An image as a value that is read in parts.
-abbrev pub image_load : LoadRules PartPhase Value LoadedParts
-image_load = record { stream = part_stream; takes = with_value; is_last = is_end }
+-- An image of a leader of a dialect, as a value that is read in parts.
+abbrev pub image_load : Dialect → LoadRules PartPhase Value LoadedParts
+image_load dialect = record { stream = part_stream dialect; takes = with_value; is_last = is_end }
 
 -- ---- a loader: what was made, and whether the last part was the end
 

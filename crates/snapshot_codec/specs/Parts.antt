@@ -3,10 +3,12 @@
 -- format. It holds the state of an incomplete section: how many items are left, or the path of a node.
 use Rattle.std.specs.Prelude.{◌≡◌, ℕ, ℤ, Bool, true, false, List, [], ◌∷◌, Option, Some, None, Result, Ok, Err, if◌then◌else◌, ◌==◌, ◌-◌, codes}
 use Rattle.std.specs.Str.{bytes_eq}
+use Rattle.settings.specs.Dialects.{reads_of}
+use Rattle.settings.specs.declared.dialect.Dialect.{Dialect}
 use Rattle.values.specs.declared.fault.Fault.{Fault}
 use Rattle.values.specs.declared.fault.Fault.TheVariants.{BadLength, BadPath, BadImage}
 use Rattle.jute.specs.Format.{Format, ◌>>=◌, int, long, count_format, count_limit, buffer, text_format, vector_of, pair_of, judged_format, case_of}
-use Rattle.jute.specs.Owned.{acl_format}
+use Rattle.jute.specs.Owned.{acl_in}
 use Rattle.jute.specs.Records.{stat_persisted}
 use Rattle.jute.specs.Stream.{PhasedStream}
 use Rattle.jute.specs.declared.owned.Acl.{Acl}
@@ -117,15 +119,19 @@ counted_parts = judged_format count_value count_back (count_format count_limit)
 abbrev pub node_body : Format (Option (List ℕ) × (ℤ × StatPersisted))
 node_body = pair_of buffer (pair_of long stat_persisted)
 
-abbrev pub part_format : PartPhase → Format Value
-part_format SessionCount = counted_parts
-part_format (Sessions n) = case_of session_value session_back (pair_of long int)
-part_format AclCount = counted_parts
-part_format (Acls n) = case_of acl_value acl_back (pair_of long (vector_of acl_format))
-part_format Root = judged_format root_value root_back text_format
-part_format Nodes = judged_format next_value next_back text_format
-part_format (Body path) = case_of (node_value path) node_back node_body
-part_format Signature = judged_format signature_value signature_back text_format
+-- An ACL list, in whose texts surrogates are read in later dialects.
+abbrev pub list_format : Dialect → Format (Option (List Acl))
+list_format dialect = vector_of (acl_in (reads_of dialect).surrogates)
+
+abbrev pub part_format : Dialect → PartPhase → Format Value
+part_format dialect SessionCount = counted_parts
+part_format dialect (Sessions n) = case_of session_value session_back (pair_of long int)
+part_format dialect AclCount = counted_parts
+part_format dialect (Acls n) = case_of acl_value acl_back (pair_of long (list_format dialect))
+part_format dialect Root = judged_format root_value root_back text_format
+part_format dialect Nodes = judged_format next_value next_back text_format
+part_format dialect (Body path) = case_of (node_value path) node_back node_body
+part_format dialect Signature = judged_format signature_value signature_back text_format
 
 abbrev pub sessions_from : ℕ → PartPhase
 sessions_from n = if n == 0 then AclCount else Sessions n
@@ -154,9 +160,9 @@ part_after phase (Part (part.Acl a)) = after_acl phase
 part_after phase (Part (part.Node n)) = Nodes
 part_after phase (Part part.End) = SessionCount
 
--- Images in parts, one after another.
-abbrev pub part_stream : PhasedStream PartPhase Value
-part_stream = record { format = λ phase. part_format phase; after = part_after }
+-- Images of leaders of a dialect in parts, one after another.
+abbrev pub part_stream : Dialect → PhasedStream PartPhase Value
+part_stream dialect = record { format = λ phase. part_format dialect phase; after = part_after }
 
 -- A node was begun.
 abbrev pub IsBody : PartPhase → Type 0

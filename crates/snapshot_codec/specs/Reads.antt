@@ -13,10 +13,12 @@ use Rattle.snapshot_codec.specs.declared.part.PartPhase.{PartPhase}
 
 -- The value was read, and the phase moved on; a part is returned, any other value isn't. Or the value is refused, and
 -- place and phase are as they were.
-abbrev pub ReadsPart : Result (Option ImagePart) ReadError → PartPhase → PartPhase → List ℕ → List ℕ → Type 0
-ReadsPart (Ok shown) phase next old new =
-    (v : Value) × ((part_format phase).read old ≡ Ok (v, new)) × (next ≡ part_after phase v) × (part_in v ≡ shown)
-ReadsPart (Err e) phase next old new = IsFailureOf e ((part_format phase).read old) × (new ≡ old) × (next ≡ phase)
+abbrev pub ReadsPart : Dialect → Result (Option ImagePart) ReadError → PartPhase → PartPhase → List ℕ → List ℕ → Type 0
+ReadsPart dialect (Ok shown) phase next old new =
+    (v : Value) × ((part_format dialect phase).read old ≡ Ok (v, new)) × (next ≡ part_after phase v)
+    × (part_in v ≡ shown)
+ReadsPart dialect (Err e) phase next old new =
+    IsFailureOf e ((part_format dialect phase).read old) × (new ≡ old) × (next ≡ phase)
 
 -- The part was taken; or it is refused, and the loader is as it was.
 abbrev pub TakesPart : Result (Unit {0}) ReadError → ImagePart → Loading → Loading → Type 0
@@ -34,10 +36,11 @@ path_or_close None = Close
 path_or_close (Some path) = Path path
 
 -- The next value was loaded: loading the rest gives the same result, unless it was the last value. Or it is refused.
-abbrev pub LoadsNext : Result (Unit {0}) ReadError → PartPhase → LoadedParts → List ℕ → PartPhase → Loading → List ℕ
-    → Type 0
-LoadsNext (Ok u) phase made old next loading new =
-    (load_from image_load phase made old
-    ≡ unless_last loading.ended loading.made new (load_from image_load next loading.made new))
+abbrev pub LoadsNext : Dialect → Result (Unit {0}) ReadError → PartPhase → LoadedParts → List ℕ → PartPhase → Loading
+    → List ℕ → Type 0
+LoadsNext dialect (Ok u) phase made old next loading new =
+    (load_from (image_load dialect) phase made old
+    ≡ unless_last loading.ended loading.made new (load_from (image_load dialect) next loading.made new))
     × (length new < length old)
-LoadsNext (Err e) phase made old next loading new = IsFailureOf e (load_from image_load phase made old)
+LoadsNext dialect (Err e) phase made old next loading new =
+    IsFailureOf e (load_from (image_load dialect) phase made old)

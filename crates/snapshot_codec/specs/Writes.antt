@@ -16,7 +16,7 @@ use Rattle.jute.specs.declared.owned.Acl.{Acl}
 use Rattle.paths_and_acls.specs.Paths.{is_root}
 use Rattle.node_map.specs.declared.node.Node.{Node}
 use Rattle.snapshot_codec.specs.Dialects.{stored_stat, KeepsOwner}
-use Rattle.snapshot_codec.specs.Parts.{node_body}
+use Rattle.snapshot_codec.specs.Parts.{node_body, list_format}
 use Rattle.snapshot_codec.specs.Written.{Lists, key_in, with_list, key_of}
 use Rattle.snapshot_codec.specs.declared.depth_first.WalkPath.{WalkPath}
 use Rattle.snapshot_codec.specs.declared.key_table.KeyTable.{KeyTable}
@@ -41,21 +41,21 @@ sessions_bytes ids = (count_format count_limit).written (Some (length ids)) ++ f
 
 -- ---- lists
 
-abbrev pub FitsList : List Acl → Type 0
-FitsList list = (vector_of acl_format).Fits (Some list)
+abbrev pub FitsList : Dialect → List Acl → Type 0
+FitsList dialect list = (list_format dialect).Fits (Some list)
 
 abbrev pub list_bytes : List Acl → List ℕ
 list_bytes list = (vector_of acl_format).written (Some list)
 
-abbrev pub GivesList : {Z : Type 0} → Result (Vec ℕ Z) WriteError → List Acl → Type 0
-GivesList (Ok bytes) list = (bytes.items ≡ list_bytes list) × FitsList list
-GivesList (Err NotWhole) list = ¬ FitsList list
-GivesList (Err NoMemory) list = Unit {0}
+abbrev pub GivesList : {Z : Type 0} → Dialect → Result (Vec ℕ Z) WriteError → List Acl → Type 0
+GivesList dialect (Ok bytes) list = (bytes.items ≡ list_bytes list) × FitsList dialect list
+GivesList dialect (Err NotWhole) list = ¬ FitsList dialect list
+GivesList dialect (Err NoMemory) list = Unit {0}
 
-abbrev pub FitLists : Lists → Type 0
-FitLists lists =
+abbrev pub FitLists : Dialect → Lists → Type 0
+FitLists dialect lists =
     (count_format count_limit).Fits (Some (length lists))
-    × AllByRecursion (λ (l : ℤ × List Acl). (pair_of long (vector_of acl_format)).Fits (l.0, Some l.1)) lists
+    × AllByRecursion (λ (l : ℤ × List Acl). (pair_of long (list_format dialect)).Fits (l.0, Some l.1)) lists
 
 abbrev pub keyed_bytes : ℤ × List Acl → List ℕ
 keyed_bytes l = (pair_of long (vector_of acl_format)).written (l.0, Some l.1)
@@ -64,29 +64,29 @@ abbrev pub table_bytes : Lists → List ℕ
 table_bytes lists = (count_format count_limit).written (Some (length lists)) ++ flat_map keyed_bytes lists
 
 -- The table has these lists, and finds each by its bytes.
-pub record IsTable (table : KeyTable) (lists : Lists) : Type 0 where
-  pub found : (list : List Acl) → FitsList list
+pub record IsTable (dialect : Dialect) (table : KeyTable) (lists : Lists) : Type 0 where
+  pub found : (list : List Acl) → FitsList dialect list
       → tree.get_by (λ k. slice_cmp nat_cmp (list_bytes list) k.items) table.keys ≡ key_in lists list
   pub many : btree_map_len table.keys ≡ length lists
   pub written : table.written.items ≡ flat_map keyed_bytes lists
-  pub fit : FitLists lists
+  pub fit : FitLists dialect lists
 
 -- One more list was added, if it had no key yet.
-abbrev pub AddsList : Result (Unit {0}) WriteError → Lists → List Acl → KeyTable → Type 0
-AddsList (Ok u) lists list new = IsTable new (with_list lists list)
-AddsList (Err NotWhole) lists list new = ¬ FitLists (with_list lists list)
-AddsList (Err NoMemory) lists list new = Unit {0}
+abbrev pub AddsList : Dialect → Result (Unit {0}) WriteError → Lists → List Acl → KeyTable → Type 0
+AddsList dialect (Ok u) lists list new = IsTable dialect new (with_list lists list)
+AddsList dialect (Err NotWhole) lists list new = ¬ FitLists dialect (with_list lists list)
+AddsList dialect (Err NoMemory) lists list new = Unit {0}
 
-abbrev pub MakesTable : Result KeyTable WriteError → Lists → Type 0
-MakesTable (Ok table) lists = IsTable table lists
-MakesTable (Err NotWhole) lists = ¬ FitLists lists
-MakesTable (Err NoMemory) lists = Unit {0}
+abbrev pub MakesTable : Dialect → Result KeyTable WriteError → Lists → Type 0
+MakesTable dialect (Ok table) lists = IsTable dialect table lists
+MakesTable dialect (Err NotWhole) lists = ¬ FitLists dialect lists
+MakesTable dialect (Err NoMemory) lists = Unit {0}
 
 -- The key, which is a long; or the list doesn't fit.
-abbrev pub NamesKey : Result ℤ WriteError → Lists → List Acl → Type 0
-NamesKey (Ok key) lists list = key ≡ key_of lists list
-NamesKey (Err NotWhole) lists list = (list ≢ open_acl) × ¬ FitsList list
-NamesKey (Err NoMemory) lists list = Unit {0}
+abbrev pub NamesKey : Dialect → Result ℤ WriteError → Lists → List Acl → Type 0
+NamesKey dialect (Ok key) lists list = key ≡ key_of lists list
+NamesKey dialect (Err NotWhole) lists list = (list ≢ open_acl) × ¬ FitsList dialect list
+NamesKey dialect (Err NoMemory) lists list = Unit {0}
 
 -- ---- nodes
 

@@ -12,14 +12,13 @@ use Rattle.settings.specs.declared.dialect.Dialect.{Dialect}
 use Rattle.settings.specs.declared.dialect.Dialect.TheVariants.{Zk34}
 use Rattle.ephemerals.specs.Orders.{Bytes}
 use Rattle.jute.specs.Codes.{open_acl}
-use Rattle.jute.specs.Format.{int, long, count_format, count_limit, text_format, vector_of, pair_of}
-use Rattle.jute.specs.Owned.{acl_format}
+use Rattle.jute.specs.Format.{int, long, count_format, count_limit, text_format, pair_of}
 use Rattle.jute.specs.declared.owned.Acl.{Acl}
 use Rattle.node_map.specs.declared.node.Node.{Node}
 use Rattle.data_tree.specs.State.{State, Nodes}
 use Rattle.data_tree.specs.Whole.{IsWhole}
 use Rattle.snapshot_codec.specs.Dialects.{stored_stat, KeepsOwner}
-use Rattle.snapshot_codec.specs.Parts.{Value, Count, Path, Close, Part, node_body, part_format, part_after}
+use Rattle.snapshot_codec.specs.Parts.{Value, Count, Path, Close, Part, node_body, list_format, part_format, part_after}
 use Rattle.snapshot_codec.specs.declared.part.ImageNode.{ImageNode}
 use Rattle.snapshot_codec.specs.declared.part.ImagePart.{ImagePart}
 use Rattle.snapshot_codec.specs.declared.part.ImagePart.TheVariants as part
@@ -101,10 +100,10 @@ values_of s =
 
 -- ---- the bytes
 
--- Each value in the format of its phase.
+-- Each value in the format of its phase. The bytes that are written are the same in each dialect.
 abbrev pub bytes_from : PartPhase → List Value → List ℕ
 bytes_from phase [] = []
-bytes_from phase (v ∷ vs) = (part_format phase).written v ++ bytes_from (part_after phase v) vs
+bytes_from phase (v ∷ vs) = (part_format Zk34 phase).written v ++ bytes_from (part_after phase v) vs
 
 abbrev pub image_bytes : State → List ℕ
 image_bytes s = bytes_from SessionCount (values_of s)
@@ -116,7 +115,7 @@ pub record IsWithinLimits (dialect : Dialect) (ids : List (ℤ × ℤ)) (keyed :
   pub session_count : (count_format count_limit).Fits (Some (length ids))
   pub sessions : AllByRecursion (pair_of long int).Fits ids
   pub list_count : (count_format count_limit).Fits (Some (length keyed))
-  pub lists : AllByRecursion (λ (l : ℤ × List Acl). (pair_of long (vector_of acl_format)).Fits (l.0, Some l.1)) keyed
+  pub lists : AllByRecursion (λ (l : ℤ × List Acl). (pair_of long (list_format dialect)).Fits (l.0, Some l.1)) keyed
   pub paths : AllByRecursion (λ (e : Bytes × Node). text_format.Fits (Some e.0)) walked
   pub nodes : AllByRecursion (λ (e : Bytes × Node).
       node_body.Fits (e.1.bytes, (key_of keyed e.1.acl, stored_stat e.1)) × KeepsOwner dialect e.1) walked

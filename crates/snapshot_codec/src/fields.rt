@@ -1,15 +1,18 @@
-//! The values that each phase of an image reads.
+//! The values that each phase of an image reads. The dialect matters to ACL lists alone, so the contracts of the other
+//! functions name one.
 
 ghost use Rattle.std.specs.Prelude.{◌≡◌};
 ghost use Rattle.jute.specs.Reads.{ReadsOwned};
+ghost use Rattle.settings.specs.declared.dialect.Dialect.TheVariants.{Zk34};
 ghost use Rattle.snapshot_codec.specs.Parts.{Count, Path as PathValue, Part, node_body, part_format, sessions_from, acls_from};
 ghost use Rattle.snapshot_codec.specs.Reads.{path_or_close};
 ghost use Rattle.snapshot_codec.specs.declared.part.ImagePart.TheVariants as part;
 ghost use Rattle.snapshot_codec.specs.declared.part.PartPhase.TheVariants.{SessionCount, Sessions, Acls, Root, Nodes, Signature};
 
 use crate::part::{ImageAcl, ImageNode, ImageSession, PartPhase};
-use jute::{ReadRecord, Reader, StatPersisted, read_vector};
+use jute::{ReadRecord, Reader, StatPersisted, read_acls};
 use paths_and_acls::Path;
+use settings::Dialect;
 use std::alloc::Global;
 use values::{Blob, Fault, ReadError};
 
@@ -19,7 +22,7 @@ pub const SIGNATURE: &str = "BenWasHere";
 /// Reads the number of sessions or ACL lists that follow; null is `BadLength`.
 #[tactic(auto, unfolding(jute::specs::Format::judged_at))]
 pub fn read_count(reader: &mut Reader<'_>) -> Result<u32, ReadError>
-    ensures { ReadsOwned (part_format SessionCount).read (λ n. Count n) result reader.old reader.new }
+    ensures { ReadsOwned (part_format Zk34 SessionCount).read (λ n. Count n) result reader.old reader.new }
 {
     let mut ahead = reader.ahead();
     match ahead.read_count()? {
@@ -34,7 +37,8 @@ pub fn read_count(reader: &mut Reader<'_>) -> Result<u32, ReadError>
 /// Reads a session.
 #[tactic(auto, unfolding(jute::specs::Format::judged_at))]
 pub(crate) fn read_session(reader: &mut Reader<'_>) -> Result<ImageSession, ReadError>
-    ensures { ReadsOwned (part_format (Sessions 0)).read (λ s. Part (part.Session s)) result reader.old reader.new }
+    ensures { ReadsOwned (part_format Zk34 (Sessions 0)).read (λ s. Part (part.Session s)) result
+        reader.old reader.new }
 {
     let mut ahead = reader.ahead();
     let id = ahead.read_long()?;
@@ -43,14 +47,18 @@ pub(crate) fn read_session(reader: &mut Reader<'_>) -> Result<ImageSession, Read
     Ok(ImageSession { id, timeout })
 }
 
-/// Reads an ACL list and its key.
+/// Reads an ACL list of an image of this dialect, and its key.
 #[tactic(auto, unfolding(jute::specs::Format::judged_at))]
-pub(crate) fn read_acl(alloc: Global, reader: &mut Reader<'_>) -> Result<ImageAcl, ReadError>
-    ensures { ReadsOwned (part_format (Acls 0)).read (λ a. Part (part.Acl a)) result reader.old reader.new }
+pub(crate) fn read_acl(
+    dialect: Dialect,
+    alloc: Global,
+    reader: &mut Reader<'_>,
+) -> Result<ImageAcl, ReadError>
+    ensures { ReadsOwned (part_format dialect (Acls 0)).read (λ a. Part (part.Acl a)) result reader.old reader.new }
 {
     let mut ahead = reader.ahead();
     let key = ahead.read_long()?;
-    let list = read_vector(alloc, &mut ahead)?;
+    let list = read_acls(dialect.reads().surrogates, alloc, &mut ahead)?;
     *reader = ahead;
     Ok(ImageAcl { key, list })
 }
@@ -58,7 +66,7 @@ pub(crate) fn read_acl(alloc: Global, reader: &mut Reader<'_>) -> Result<ImageAc
 /// Reads the path of the first node, which is empty. A null path is `BadPath`, and "/" is `BadImage`.
 #[tactic(auto, unfolding(jute::specs::Format::judged_at))]
 pub(crate) fn read_root(alloc: Global, reader: &mut Reader<'_>) -> Result<Path, ReadError>
-    ensures { ReadsOwned (part_format Root).read (λ p. PathValue p) result reader.old reader.new }
+    ensures { ReadsOwned (part_format Zk34 Root).read (λ p. PathValue p) result reader.old reader.new }
 {
     let mut ahead = reader.ahead();
     let Some(text) = ahead.read_string()? else {
@@ -79,7 +87,7 @@ pub(crate) fn read_root(alloc: Global, reader: &mut Reader<'_>) -> Result<Path, 
 /// Reads the path of a further node; `None` is the path "/", which comes after the last node. A null path is `BadPath`.
 #[tactic(auto, unfolding(jute::specs::Format::judged_at))]
 pub(crate) fn read_next(alloc: Global, reader: &mut Reader<'_>) -> Result<Option<Path>, ReadError>
-    ensures { ReadsOwned (part_format Nodes).read path_or_close result reader.old reader.new }
+    ensures { ReadsOwned (part_format Zk34 Nodes).read path_or_close result reader.old reader.new }
 {
     let mut ahead = reader.ahead();
     let Some(text) = ahead.read_string()? else {
@@ -135,7 +143,7 @@ pub fn read_body(alloc: Global, reader: &mut Reader<'_>) -> Result<NodeBody, Rea
 /// Reads the text that ends an image; any other text, and null, is `BadImage`.
 #[tactic(auto, unfolding(jute::specs::Format::judged_at))]
 pub(crate) fn read_signature(reader: &mut Reader<'_>) -> Result<(), ReadError>
-    ensures { ReadsOwned (part_format Signature).read (λ u. Part part.End) result reader.old reader.new }
+    ensures { ReadsOwned (part_format Zk34 Signature).read (λ u. Part part.End) result reader.old reader.new }
 {
     let mut ahead = reader.ahead();
     let Some(text) = ahead.read_string()? else {

@@ -43,15 +43,16 @@ impl Image {
 }
 
 fn load_next(
+    dialect: Dialect,
     alloc: Global,
     loader: &mut Loader,
     phase: &mut PartPhase,
     reader: &mut Reader<'_>,
 ) -> Result<(), ReadError>
     requires { loader.old.ended ≡ false }
-    ensures { LoadsNext result phase.old loader.old.made reader.old phase.new loader.new reader.new }
+    ensures { LoadsNext dialect result phase.old loader.old.made reader.old phase.new loader.new reader.new }
 {
-    match read_part(alloc, phase, reader)? {
+    match read_part(dialect, alloc, phase, reader)? {
         None => Ok(()),
         Some(part) => loader.part(alloc, part),
     }
@@ -66,7 +67,7 @@ fn load_image(dialect: Dialect, alloc: Global, reader: &mut Reader<'_>) -> Resul
     let mut phase = PartPhase::SessionCount;
     let mut loader = Loader::in_dialect(dialect, alloc);
     while !loader.has_ended() {
-        load_next(alloc, &mut loader, &mut phase, &mut ahead)?;
+        load_next(dialect, alloc, &mut loader, &mut phase, &mut ahead)?;
     }
     *reader = ahead;
     Ok(Image {

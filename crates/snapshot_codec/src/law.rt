@@ -6,6 +6,7 @@ ghost use Rattle.data_tree.specs.Whole.{IsWhole};
 ghost use Rattle.jute.specs.Laws.{NamesFaults, TakesSpellings, WritesSpellings};
 ghost use Rattle.jute.specs.Loading.{AreSound, NeverWaits};
 ghost use Rattle.jute.specs.Stream.{ComesInPieces, IsStreamable};
+ghost use Rattle.settings.specs.declared.dialect.Dialect.{Dialect as TheDialect};
 ghost use Rattle.values.specs.declared.fault.Fault.{Fault as TheFault};
 ghost use Rattle.values.specs.declared.fault.Fault.TheVariants.{Short};
 ghost use Rattle.snapshot_codec.specs.Image.{SpellsImage, SpellsImageIn, image_format, image_in, image_read, image_read_in};
@@ -20,9 +21,9 @@ use settings::Dialect;
 /// A value of a phase is read exactly if the bytes spell one, however they are cut, and a refusal names the first field
 /// that no bytes at its place spell. No part is refused for want of bytes.
 pub fn image_parts()
-    ensures sound { AreSound part_stream }
-    ensures pieces { ComesInPieces part_stream }
-    ensures goes_on { NeverWaits image_load }
+    ensures sound { (dialect : TheDialect) → AreSound (part_stream dialect) }
+    ensures pieces { (dialect : TheDialect) → ComesInPieces (part_stream dialect) }
+    ensures goes_on { (dialect : TheDialect) → NeverWaits (image_load dialect) }
 {}
 
 /// What is read as an image was spelled so, and a spelling is read, whatever follows and however the bytes are cut. A

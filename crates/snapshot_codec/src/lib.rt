@@ -8,11 +8,11 @@
 //! `specs/Dialects.antt` tells apart. The laws in `law` relate them: what is written is read back and gives the tree.
 //!
 //! ```text
-//! let (image, used) = read_image(alloc, bytes)?;     // or: part by part
+//! let (image, used) = read_image_in(dialect, alloc, bytes)?;     // or: part by part
 //! let mut phase = PartPhase::SessionCount;
-//! let mut loader = Loader::new(alloc);
+//! let mut loader = Loader::in_dialect(dialect, alloc);
 //! while !loader.has_ended() {
-//!     if let Some(part) = read_part(alloc, &mut phase, &mut reader)? {
+//!     if let Some(part) = read_part(dialect, alloc, &mut phase, &mut reader)? {
 //!         loader.part(alloc, part)?;
 //!     }
 //! }

@@ -1,6 +1,7 @@
 //! Reading the parts of an image from the front of bytes.
 
 ghost use Rattle.std.specs.Prelude.{◌≡◌};
+ghost use Rattle.settings.specs.declared.dialect.Dialect.{Dialect as TheDialect};
 ghost use Rattle.snapshot_codec.specs.Parts.{IsBody};
 ghost use Rattle.snapshot_codec.specs.Reads.{ReadsPart};
 
@@ -10,21 +11,23 @@ use crate::fields::{
 };
 use crate::part::{ImagePart, PartPhase};
 use jute::Reader;
+use settings::Dialect;
 use std::alloc::Global;
 use std::mem;
 use values::ReadError;
 
-/// Reads the next value of an image, and moves the phase on. It returns a part, or `None` for a value that only moves
-/// the phase on: a count, a path, and the "/" after the last node.
+/// Reads the next value of an image of this dialect, and moves the phase on. It returns a part, or `None` for a value
+/// that only moves the phase on: a count, a path, and the "/" after the last node.
 ///
 /// The faults are those of the fields, the first one first: `Short`, `BadLength`, `BadText`, `BadPath`, and `BadImage`
 /// for a first path "/" and for a wrong signature. A refused read leaves the place and the phase.
 pub fn read_part(
+    dialect: Dialect,
     alloc: Global,
     phase: &mut PartPhase,
     reader: &mut Reader<'_>,
 ) -> Result<Option<ImagePart>, ReadError>
-    ensures { ReadsPart result phase.old phase.new reader.old reader.new }
+    ensures { ReadsPart dialect result phase.old phase.new reader.old reader.new }
 {
     match phase {
         PartPhase::SessionCount => {
@@ -43,7 +46,7 @@ pub fn read_part(
             Ok(None)
         }
         PartPhase::Acls(left) => {
-            let entry = read_acl(alloc, reader)?;
+            let entry = read_acl(dialect, alloc, reader)?;
             *phase = acls_from(left.saturating_sub(1));
             Ok(Some(ImagePart::Acl(entry)))
         }
@@ -77,7 +80,7 @@ fn read_node(
     reader: &mut Reader<'_>,
 ) -> Result<Option<ImagePart>, ReadError>
     requires { IsBody phase.old }
-    ensures { ReadsPart result phase.old phase.new reader.old reader.new }
+    ensures { (dialect : TheDialect) → ReadsPart dialect result phase.old phase.new reader.old reader.new }
 {
     let body = read_body(alloc, reader)?;
     match mem::replace(phase, PartPhase::Nodes) {

@@ -95,13 +95,13 @@ fn put_nodes(
     table: &KeyTable,
     rows: &BTreeMap<WalkPath<'_>, &Node>,
 ) -> Result<(), WriteError>
-    requires { IsTable table.now (lists_from [] (shown_rows rows.now.entries)) }
+    requires { IsTable dialect table.now (lists_from [] (shown_rows rows.now.entries)) }
     ensures { let walked = shown_rows rows.now.entries in
         WritesBytes result (nodes_bytes (lists_from [] walked) walked) out.old.items out.new.items
         (FitNodes dialect (lists_from [] walked) walked) }
 {
     for (path, node) in rows {
-        let key = table.key(alloc, &node.acl)?;
+        let key = table.key(dialect, alloc, &node.acl)?;
         put_node(dialect, out, path.text, node, &key)?;
     }
     Ok(())
@@ -123,7 +123,7 @@ pub fn write_image_in(dialect: Dialect, alloc: Global, tree: &Tree) -> Result<Ve
         return Err(WriteError::NotWhole);
     }
     let rows = depth_first(alloc, tree)?;
-    let table = KeyTable::of(alloc, &rows)?;
+    let table = KeyTable::of(dialect, alloc, &rows)?;
     let mut out = Vec::new(alloc);
     put_sessions(&mut out, tree.sessions())?;
     table.put(&mut out)?;

@@ -3,6 +3,7 @@
 use crate::joined;
 use crate::pieces::{A, BARE, CLOSE, NONE, ONE, OWNED, READ_5, ROOT, SESSION, SIGNATURE};
 use quorum_packet::{Item, PacketFeed};
+use settings::Dialect;
 use snapshot_codec::ImagePart;
 use std::alloc::Global;
 use std::test::Fail;
@@ -192,5 +193,34 @@ fn a_list_is_refused_at_its_text(rt: HostRuntime) -> Result<(), Fail> {
     feed.feed(b"\xff")?;
     let refused = feed.next(rt.alloc()).err();
     assert!(rt; refused == Some(ReadError::Fault(Fault::BadText)));
+    Ok(())
+}
+
+/// An image up to the last byte of an entry's id: U+1F600 as two halves.
+const HALVES: &[u8] =
+    b"\0\0\0\0\0\0\0\x05\0\0\0\x01\0\0\0\x01\0\0\0\x01s\0\0\0\x06\xed\xa0\xbd\xed\xb8";
+
+// A feed that waits for that byte.
+fn waiting_for_a_half(dialect: Dialect, alloc: Global) -> Result<PacketFeed, Fail> {
+    let mut feed = PacketFeed::in_dialect(dialect, alloc);
+    let bytes = joined(alloc, &[SNAP, NONE, ONE, HALVES])?;
+    taken_by_bytes(alloc, &mut feed, bytes.as_slice())?;
+    Ok(feed)
+}
+
+// What comes with it: a list, or a fault.
+fn with_the_half(dialect: Dialect, alloc: Global) -> Result<Result<Option<Item>, ReadError>, Fail> {
+    let mut feed = waiting_for_a_half(dialect, alloc)?;
+    feed.feed(b"\x80")?;
+    Ok(feed.next(alloc))
+}
+
+/// The halves of a character are taken in a later dialect, and refused at their last byte in that of ZooKeeper 3.4.
+#[test]
+fn halves_in_a_list(rt: HostRuntime) -> Result<(), Fail> {
+    let later = with_the_half(Dialect::Zk38, rt.alloc())?;
+    assert!(rt; matches!(later, Ok(Some(Item::Part(ImagePart::Acl(_))))));
+    let earlier = with_the_half(Dialect::Zk34, rt.alloc())?.err();
+    assert!(rt; earlier == Some(ReadError::Fault(Fault::BadText)));
     Ok(())
 }

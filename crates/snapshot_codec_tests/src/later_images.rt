@@ -1,7 +1,7 @@
 //! Images of leaders of ZooKeeper 3.5 to 3.9.
 
 use crate::joined;
-use crate::pieces::{A, B, BARE, CLOSE, KEY_7, NONE, NUMBERS, ONE, READ_8, ROOT, SIGNATURE};
+use crate::pieces::{A, B, BARE, CLOSE, KEY_1, KEY_7, NONE, NUMBERS, ONE, READ_8, ROOT, SIGNATURE};
 use data_tree::Tree;
 use jute::StatPersisted;
 use paths_and_acls::Path;
@@ -192,5 +192,43 @@ fn takes_late_list(dialect: Dialect, alloc: Global) -> Result<bool, Fail> {
 fn no_list_comes_after_a_node(rt: HostRuntime) -> Result<(), Fail> {
     assert!(rt; takes_late_list(Dialect::Zk34, rt.alloc())?);
     assert!(rt; !takes_late_list(Dialect::Zk38, rt.alloc())?);
+    Ok(())
+}
+
+/// A list with key 1, which lets an id of the scheme "digest" read: U+1F600 as two halves, and ":x".
+const WITH_HALVES: &[u8] = b"\0\0\0\0\0\0\0\x01\0\0\0\x01\0\0\0\x01\0\0\0\x06digest\
+    \0\0\0\x08\xed\xa0\xbd\xed\xb8\x80:x";
+
+/// A list with key 1 and a text that is none in any dialect.
+const WITH_OVERLONG: &[u8] = b"\0\0\0\0\0\0\0\x01\0\0\0\x01\0\0\0\x01\0\0\0\x02\xc0\xaf\0\0\0\0";
+
+// An image with the list, which /a has.
+fn listed(alloc: Global, list: &[u8]) -> Result<Vec<u8>, Fail> {
+    Ok(joined(
+        alloc,
+        &[
+            NONE, ONE, list, ROOT, BARE, A, KEY_1, NUMBERS, CLOSE, SIGNATURE,
+        ],
+    )?)
+}
+
+// Whether an image of this dialect is refused for a text.
+fn is_bad_text(dialect: Dialect, alloc: Global, bytes: &[u8]) -> bool {
+    matches!(
+        read_image_in(dialect, alloc, bytes),
+        Err(ReadError::Fault(Fault::BadText))
+    )
+}
+
+#[test]
+fn surrogates_in_lists(rt: HostRuntime) -> Result<(), Fail> {
+    let alloc = rt.alloc();
+    let bytes = listed(alloc, WITH_HALVES)?;
+    let tree = later_tree(alloc, &bytes)?;
+    assert!(rt; has_list(&tree, "/a"));
+    assert!(rt; write_image_in(Dialect::Zk38, alloc, &tree)? == bytes);
+    assert!(rt; write_image(alloc, &tree).is_err());
+    assert!(rt; is_bad_text(Dialect::Zk34, alloc, &bytes));
+    assert!(rt; is_bad_text(Dialect::Zk38, alloc, &listed(alloc, WITH_OVERLONG)?));
     Ok(())
 }

@@ -2,6 +2,7 @@
 
 use crate::pieces::{SESSION, session_image};
 use jute::Reader;
+use settings::Dialect;
 use snapshot_codec::{ImagePart, ImageSession, Loader, PartPhase, read_part};
 use std::alloc::Global;
 use std::test::Fail;
@@ -13,7 +14,7 @@ fn load_all(alloc: Global, loader: &mut Loader, bytes: &[u8]) -> Result<u32, Rea
     let mut phase = PartPhase::SessionCount;
     let mut parts = 0_u32;
     for _ in 0..bytes.len() {
-        if let Some(part) = read_part(alloc, &mut phase, &mut reader)? {
+        if let Some(part) = read_part(Dialect::Zk34, alloc, &mut phase, &mut reader)? {
             parts = parts.saturating_add(1);
             if part.is_end() {
                 loader.part(alloc, part)?;
@@ -66,10 +67,10 @@ fn a_refused_part(rt: HostRuntime) -> Result<(), Fail> {
 fn a_refused_read(rt: HostRuntime) -> Result<(), Fail> {
     let mut reader = Reader::new(SESSION);
     let mut phase = PartPhase::Sessions(2);
-    let part = read_part(rt.alloc(), &mut phase, &mut reader)?;
+    let part = read_part(Dialect::Zk34, rt.alloc(), &mut phase, &mut reader)?;
     assert!(rt; matches!(part, Some(ImagePart::Session(_))));
     assert!(rt; matches!(phase, PartPhase::Sessions(1)));
-    let refused = read_part(rt.alloc(), &mut phase, &mut reader);
+    let refused = read_part(Dialect::Zk34, rt.alloc(), &mut phase, &mut reader);
     assert!(rt; matches!(refused, Err(ReadError::Fault(Fault::Short))));
     assert!(rt; matches!(phase, PartPhase::Sessions(1)));
     Ok(())

@@ -21,29 +21,30 @@ use Rattle.txn_codec.specs.Kinds.{create_kind, operation_kind, body_kind}
 use Rattle.paths_and_acls.specs.Paths.{is_child_path}
 use Rattle.txn_codec.specs.Endings.{with_trailer_if, closing_if}
 use Rattle.paths_and_acls.specs.Fields.{child_path}
-use Rattle.txn_codec.specs.Spelling.{last_field, kind_format_in, part_kind_in, owner_if, owner_format, shows_stat, create_with, set_data, set_acl, check_format, header_in, as_create, as_delete, as_set_data, as_check, as_error, created_operation, operation_format, is_lenient, part_content, part_format_in, parts_format_in, as_single, as_set_acl, as_multi, as_session, as_close, has_own_end, body_fields, body_content, body_in, txn_in}
+use Rattle.txn_codec.specs.Spelling.{last_field, kind_format_in, part_kind_in, owner_if, owner_format, shows_stat, create_with, set_data, set_acl_in, check_format, header_in, as_create, as_delete, as_set_data, as_check, as_error, created_operation, operation_format, is_lenient, part_content, part_format_in, parts_format_in, as_single, as_set_acl, as_multi, as_session, as_close, has_own_end, body_fields, body_content, body_in, txn_in}
 use Rattle.txn_codec.proofs.Closing.{closing_if_sound}
 use Rattle.txn_codec.proofs.Endings.{trailer_if_sound, in_buffer_sound, before_trailer, buffered}
 use Rattle.txn_codec.proofs.Spelled.{path_sound, last_sound, kind_sound, part_kind_sound, create_sound, create_at_end, set_data_sound, set_acl_sound, check_sound, header_sound}
 
 -- ---- operations
 
-created_sound : (k : TxnKind) → IsSound (created_operation int k)
-created_sound k = case_sound operations.Create as_create (create_with int k) (λ c. refl) (create_sound k)
+created_sound : (surrogates : Bool) (k : TxnKind) → IsSound (created_operation surrogates int k)
+created_sound surrogates k =
+    case_sound operations.Create as_create (create_with surrogates int k) (λ c. refl) (create_sound surrogates k)
 
-pub operation_sound : (k : TxnKind) → IsSound (operation_format int k)
-operation_sound kinds.Create = created_sound kinds.Create
-operation_sound kinds.Create2 = created_sound kinds.Create2
-operation_sound kinds.CreateContainer = created_sound kinds.CreateContainer
-operation_sound kinds.CreateTtl = created_sound kinds.CreateTtl
-operation_sound kinds.Delete = case_sound operations.Delete as_delete child_path (λ p. refl) (path_sound is_child_path)
-operation_sound kinds.SetData = case_sound operations.SetData as_set_data set_data (λ s. refl) set_data_sound
-operation_sound kinds.Check = case_sound operations.Check as_check check_format (λ c. refl) check_sound
-operation_sound kinds.Error = case_sound operations.Error as_error int (λ e. refl) int_sound
-operation_sound kinds.SetAcl = refusal_sound BadTxnType
-operation_sound kinds.Multi = refusal_sound BadTxnType
-operation_sound kinds.CreateSession = refusal_sound BadTxnType
-operation_sound kinds.CloseSession = refusal_sound BadTxnType
+pub operation_sound : (surrogates : Bool) (k : TxnKind) → IsSound (operation_format surrogates int k)
+operation_sound surrogates kinds.Create = created_sound surrogates kinds.Create
+operation_sound surrogates kinds.Create2 = created_sound surrogates kinds.Create2
+operation_sound surrogates kinds.CreateContainer = created_sound surrogates kinds.CreateContainer
+operation_sound surrogates kinds.CreateTtl = created_sound surrogates kinds.CreateTtl
+operation_sound surrogates kinds.Delete = case_sound operations.Delete as_delete child_path (λ p. refl) (path_sound is_child_path)
+operation_sound surrogates kinds.SetData = case_sound operations.SetData as_set_data set_data (λ s. refl) set_data_sound
+operation_sound surrogates kinds.Check = case_sound operations.Check as_check check_format (λ c. refl) check_sound
+operation_sound surrogates kinds.Error = case_sound operations.Error as_error int (λ e. refl) int_sound
+operation_sound surrogates kinds.SetAcl = refusal_sound BadTxnType
+operation_sound surrogates kinds.Multi = refusal_sound BadTxnType
+operation_sound surrogates kinds.CreateSession = refusal_sound BadTxnType
+operation_sound surrogates kinds.CloseSession = refusal_sound BadTxnType
 
 flag_tells : (b : Bool) → create_kind (owner_if b) false ≡ kinds.Create
 flag_tells true = refl
@@ -72,42 +73,43 @@ owner_tells last kinds.CreateSession v text s = absurd s
 owner_tells last kinds.CloseSession v text s = absurd s
 owner_tells last kinds.Error v text s = absurd s
 
-created_tells : (last : Format ℤ) (k : TxnKind) (o : Operation) (text : List ℕ) → (created_operation last k).Spells o text
+created_tells : (surrogates : Bool) (last : Format ℤ) (k : TxnKind) (o : Operation) (text : List ℕ)
+    → (created_operation surrogates last k).Spells o text
     → operation_kind o ≡ k
-created_tells last k o text s =
+created_tells surrogates last k o text s =
     ap operation_kind (sym (ok_is (operations.Create s.0) o s.1))
     ∙ ap (λ (c : Create). create_kind c.owner c.asks_stat) (sym (ok_is _ s.0 s.2.1))
     ∙ owner_tells last k s.2.0.1.1.1 s.2.2.4.4.1 s.2.2.4.4.4
 
 -- An operation that is spelled after a type is of that type.
-operation_tells : (last : Format ℤ) (k : TxnKind) (o : Operation) (text : List ℕ)
-    → (operation_format last k).Spells o text
+operation_tells : (surrogates : Bool) (last : Format ℤ) (k : TxnKind) (o : Operation) (text : List ℕ)
+    → (operation_format surrogates last k).Spells o text
     → operation_kind o ≡ k
-operation_tells last kinds.Create o text s = created_tells last kinds.Create o text s
-operation_tells last kinds.Create2 o text s = created_tells last kinds.Create2 o text s
-operation_tells last kinds.CreateContainer o text s = created_tells last kinds.CreateContainer o text s
-operation_tells last kinds.CreateTtl o text s = created_tells last kinds.CreateTtl o text s
-operation_tells last kinds.Delete o text s = ap operation_kind (sym (ok_is (operations.Delete s.0) o s.1))
-operation_tells last kinds.SetData o text s = ap operation_kind (sym (ok_is (operations.SetData s.0) o s.1))
-operation_tells last kinds.Check o text s = ap operation_kind (sym (ok_is (operations.Check s.0) o s.1))
-operation_tells last kinds.Error o text s = ap operation_kind (sym (ok_is (operations.Error s.0) o s.1))
-operation_tells last kinds.SetAcl o text s = absurd s
-operation_tells last kinds.Multi o text s = absurd s
-operation_tells last kinds.CreateSession o text s = absurd s
-operation_tells last kinds.CloseSession o text s = absurd s
+operation_tells surrogates last kinds.Create o text s = created_tells surrogates last kinds.Create o text s
+operation_tells surrogates last kinds.Create2 o text s = created_tells surrogates last kinds.Create2 o text s
+operation_tells surrogates last kinds.CreateContainer o text s = created_tells surrogates last kinds.CreateContainer o text s
+operation_tells surrogates last kinds.CreateTtl o text s = created_tells surrogates last kinds.CreateTtl o text s
+operation_tells surrogates last kinds.Delete o text s = ap operation_kind (sym (ok_is (operations.Delete s.0) o s.1))
+operation_tells surrogates last kinds.SetData o text s = ap operation_kind (sym (ok_is (operations.SetData s.0) o s.1))
+operation_tells surrogates last kinds.Check o text s = ap operation_kind (sym (ok_is (operations.Check s.0) o s.1))
+operation_tells surrogates last kinds.Error o text s = ap operation_kind (sym (ok_is (operations.Error s.0) o s.1))
+operation_tells surrogates last kinds.SetAcl o text s = absurd s
+operation_tells surrogates last kinds.Multi o text s = absurd s
+operation_tells surrogates last kinds.CreateSession o text s = absurd s
+operation_tells surrogates last kinds.CloseSession o text s = absurd s
 
 -- ---- parts
 
 part_tells : (reads : Reads) (k : TxnKind) (o : Operation) (text : List ℕ) → (part_content reads k).Spells o text
     → operation_kind o ≡ k
 part_tells reads k o text s =
-    let held = buffered (is_lenient reads k) (operation_format int k) o text s in
-    operation_tells int k o held.0 held.1
+    let held = buffered (is_lenient reads k) (operation_format reads.surrogates int k) o text s in
+    operation_tells reads.surrogates int k o held.0 held.1
 
 pub part_sound : (reads : Reads) → IsSound (part_format_in reads)
 part_sound reads =
     tagged_sound (part_kind_in reads) operation_kind (part_content reads) (part_tells reads) (part_kind_sound reads)
-    (λ k. in_buffer_sound (operation_format int k) (operation_sound k) (is_lenient reads k))
+    (λ k. in_buffer_sound (operation_format reads.surrogates int k) (operation_sound reads.surrogates k) (is_lenient reads k))
 
 pub parts_sound : (reads : Reads) → IsSound (parts_format_in reads)
 parts_sound reads = null_vector_sound (part_format_in reads) (part_sound reads)
@@ -127,40 +129,40 @@ module _ (reads : Reads) where
   content_at_end : (k : TxnKind) → IsSoundAtEnd (body_content reads k)
   content_at_end kinds.Create =
       untrailed reads.trailer (body_fields reads kinds.Create)
-      (case_at_end bodies.Single as_single (operation_format (last_field reads Alone) kinds.Create) (λ o. refl)
-      (case_at_end operations.Create as_create (create_with (last_field reads Alone) kinds.Create) (λ c. refl)
-      (create_at_end (last_field reads Alone) (last_sound reads.trailer))))
+      (case_at_end bodies.Single as_single (operation_format reads.surrogates (last_field reads Alone) kinds.Create) (λ o. refl)
+      (case_at_end operations.Create as_create (create_with reads.surrogates (last_field reads Alone) kinds.Create) (λ c. refl)
+      (create_at_end reads.surrogates (last_field reads Alone) (last_sound reads.trailer))))
   content_at_end kinds.Create2 =
       trailed reads.trailer (body_fields reads kinds.Create2)
-      (case_sound bodies.Single as_single (operation_format (last_field reads Alone) kinds.Create2) (λ o. refl)
-      (operation_sound kinds.Create2))
+      (case_sound bodies.Single as_single (operation_format reads.surrogates (last_field reads Alone) kinds.Create2) (λ o. refl)
+      (operation_sound reads.surrogates kinds.Create2))
   content_at_end kinds.CreateContainer =
       trailed reads.trailer (body_fields reads kinds.CreateContainer)
-      (case_sound bodies.Single as_single (operation_format (last_field reads Alone) kinds.CreateContainer) (λ o. refl)
-      (operation_sound kinds.CreateContainer))
+      (case_sound bodies.Single as_single (operation_format reads.surrogates (last_field reads Alone) kinds.CreateContainer) (λ o. refl)
+      (operation_sound reads.surrogates kinds.CreateContainer))
   content_at_end kinds.CreateTtl =
       trailed reads.trailer (body_fields reads kinds.CreateTtl)
-      (case_sound bodies.Single as_single (operation_format (last_field reads Alone) kinds.CreateTtl) (λ o. refl)
-      (operation_sound kinds.CreateTtl))
+      (case_sound bodies.Single as_single (operation_format reads.surrogates (last_field reads Alone) kinds.CreateTtl) (λ o. refl)
+      (operation_sound reads.surrogates kinds.CreateTtl))
   content_at_end kinds.Delete =
       trailed reads.trailer (body_fields reads kinds.Delete)
-      (case_sound bodies.Single as_single (operation_format (last_field reads Alone) kinds.Delete) (λ o. refl)
-      (operation_sound kinds.Delete))
+      (case_sound bodies.Single as_single (operation_format reads.surrogates (last_field reads Alone) kinds.Delete) (λ o. refl)
+      (operation_sound reads.surrogates kinds.Delete))
   content_at_end kinds.SetData =
       trailed reads.trailer (body_fields reads kinds.SetData)
-      (case_sound bodies.Single as_single (operation_format (last_field reads Alone) kinds.SetData) (λ o. refl)
-      (operation_sound kinds.SetData))
+      (case_sound bodies.Single as_single (operation_format reads.surrogates (last_field reads Alone) kinds.SetData) (λ o. refl)
+      (operation_sound reads.surrogates kinds.SetData))
   content_at_end kinds.Check =
       trailed reads.trailer (body_fields reads kinds.Check)
-      (case_sound bodies.Single as_single (operation_format (last_field reads Alone) kinds.Check) (λ o. refl)
-      (operation_sound kinds.Check))
+      (case_sound bodies.Single as_single (operation_format reads.surrogates (last_field reads Alone) kinds.Check) (λ o. refl)
+      (operation_sound reads.surrogates kinds.Check))
   content_at_end kinds.Error =
       trailed reads.trailer (body_fields reads kinds.Error)
-      (case_sound bodies.Single as_single (operation_format (last_field reads Alone) kinds.Error) (λ o. refl)
-      (operation_sound kinds.Error))
+      (case_sound bodies.Single as_single (operation_format reads.surrogates (last_field reads Alone) kinds.Error) (λ o. refl)
+      (operation_sound reads.surrogates kinds.Error))
   content_at_end kinds.SetAcl =
       trailed reads.trailer (body_fields reads kinds.SetAcl)
-      (case_sound bodies.SetAcl as_set_acl set_acl (λ s. refl) set_acl_sound)
+      (case_sound bodies.SetAcl as_set_acl (set_acl_in reads.surrogates) (λ s. refl) (set_acl_sound reads.surrogates))
   content_at_end kinds.Multi =
       trailed reads.trailer (body_fields reads kinds.Multi)
       (case_sound bodies.Multi as_multi (parts_format_in reads) (λ ps. refl) (parts_sound reads))
@@ -173,8 +175,8 @@ module _ (reads : Reads) where
       (closing_if_sound reads.lists_paths))
 
   single_tells : (k : TxnKind) (o : Operation) (b : Body) (text : List ℕ) → bodies.Single o ≡ b
-      → (operation_format (last_field reads Alone) k).Spells o text → body_kind b ≡ k
-  single_tells k o b text is s = ap body_kind (sym is) ∙ operation_tells (last_field reads Alone) k o text s
+      → (operation_format reads.surrogates (last_field reads Alone) k).Spells o text → body_kind b ≡ k
+  single_tells k o b text is s = ap body_kind (sym is) ∙ operation_tells reads.surrogates (last_field reads Alone) k o text s
 
   fields_tell : (k : TxnKind) (b : Body) (text : List ℕ) → (body_fields reads k).Spells b text → body_kind b ≡ k
   fields_tell kinds.Create b text s = single_tells kinds.Create s.0 b text (ok_is (bodies.Single s.0) b s.1) s.2

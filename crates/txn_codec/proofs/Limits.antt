@@ -1,5 +1,5 @@
 -- A decoded transaction is within the limits, and each node that it creates or deletes has a parent.
-use Rattle.std.proofs.Common.{◌≡◌, ℕ, ◌&&◌, List, [], ◌∷◌, Option, Some, None, Result, Ok, Err, sym, subst}
+use Rattle.std.proofs.Common.{◌≡◌, ℕ, Bool, ◌&&◌, List, [], ◌∷◌, Option, Some, None, Result, Ok, Err, subst}
 use Rattle.std.specs.Prelude.{ℤ, IfOk, IsTrue, not}
 use Rattle.std.specs.List.{AllByRecursion}
 use Rattle.std.proofs.lemmas.List.Elements.{All-from_recursion}
@@ -22,7 +22,7 @@ use Rattle.txn_codec.specs.Kinds.{operation_kind, body_kind}
 use Rattle.txn_codec.specs.Parents.{HasParent, HaveParents}
 use Rattle.paths_and_acls.specs.Paths.{is_child_path}
 use Rattle.paths_and_acls.specs.Fields.{child_path}
-use Rattle.txn_codec.specs.Spelling.{last_field, created_operation, operation_format, is_lenient, part_format_in, parts_format_in, has_own_end, body_fields, body_in, txn_in}
+use Rattle.txn_codec.specs.Spelling.{last_field, created_operation, operation_format, is_lenient, part_format_in, has_own_end, body_fields, body_in, txn_in}
 use Rattle.txn_codec.proofs.Bodies.{txn_at_end}
 use Rattle.txn_codec.proofs.Closing.{closing_children}
 use Rattle.txn_codec.proofs.Endings.{before_trailer, buffered}
@@ -31,34 +31,34 @@ use Rattle.txn_codec.proofs.Spelled.{tested_is}
 child_spelled : (p text : List ℕ) → child_path.Spells p text → IsTrue (is_child_path p)
 child_spelled p text s = (tested_is is_child_path s.0 p s.1).0
 
-created_parent : (last : Format ℤ) (k : TxnKind) (o : Operation) (text : List ℕ) → (created_operation last k).Spells o text
-    → HasParent o
-created_parent last k o text s =
+created_parent : (surrogates : Bool) (last : Format ℤ) (k : TxnKind) (o : Operation) (text : List ℕ)
+    → (created_operation surrogates last k).Spells o text → HasParent o
+created_parent surrogates last k o text s =
     subst HasParent (ok_is (operations.Create s.0) o s.1)
     (subst (λ (c : Create). IsTrue (is_child_path c.path)) (ok_is _ s.0 s.2.1)
     (child_spelled s.2.0.0 s.2.2.0 s.2.2.3))
 
-operation_parent : (last : Format ℤ) (k : TxnKind) (o : Operation) (text : List ℕ)
-    → (operation_format last k).Spells o text → HasParent o
-operation_parent last kinds.Create o text s = created_parent last kinds.Create o text s
-operation_parent last kinds.Create2 o text s = created_parent last kinds.Create2 o text s
-operation_parent last kinds.CreateContainer o text s = created_parent last kinds.CreateContainer o text s
-operation_parent last kinds.CreateTtl o text s = created_parent last kinds.CreateTtl o text s
-operation_parent last kinds.Delete o text s =
+operation_parent : (surrogates : Bool) (last : Format ℤ) (k : TxnKind) (o : Operation) (text : List ℕ)
+    → (operation_format surrogates last k).Spells o text → HasParent o
+operation_parent surrogates last kinds.Create o text s = created_parent surrogates last kinds.Create o text s
+operation_parent surrogates last kinds.Create2 o text s = created_parent surrogates last kinds.Create2 o text s
+operation_parent surrogates last kinds.CreateContainer o text s = created_parent surrogates last kinds.CreateContainer o text s
+operation_parent surrogates last kinds.CreateTtl o text s = created_parent surrogates last kinds.CreateTtl o text s
+operation_parent surrogates last kinds.Delete o text s =
     subst HasParent (ok_is (operations.Delete s.0) o s.1) (child_spelled s.0 text s.2)
-operation_parent last kinds.SetData o text s = subst HasParent (ok_is (operations.SetData s.0) o s.1) tt
-operation_parent last kinds.Check o text s = subst HasParent (ok_is (operations.Check s.0) o s.1) tt
-operation_parent last kinds.Error o text s = subst HasParent (ok_is (operations.Error s.0) o s.1) tt
-operation_parent last kinds.SetAcl o text s = absurd s
-operation_parent last kinds.Multi o text s = absurd s
-operation_parent last kinds.CreateSession o text s = absurd s
-operation_parent last kinds.CloseSession o text s = absurd s
+operation_parent surrogates last kinds.SetData o text s = subst HasParent (ok_is (operations.SetData s.0) o s.1) tt
+operation_parent surrogates last kinds.Check o text s = subst HasParent (ok_is (operations.Check s.0) o s.1) tt
+operation_parent surrogates last kinds.Error o text s = subst HasParent (ok_is (operations.Error s.0) o s.1) tt
+operation_parent surrogates last kinds.SetAcl o text s = absurd s
+operation_parent surrogates last kinds.Multi o text s = absurd s
+operation_parent surrogates last kinds.CreateSession o text s = absurd s
+operation_parent surrogates last kinds.CloseSession o text s = absurd s
 
 module _ (reads : Reads) where
   part_parent : (o : Operation) (text : List ℕ) → (part_format_in reads).Spells o text → HasParent o
   part_parent o text s =
-      let held = buffered (is_lenient reads (operation_kind o)) (operation_format int (operation_kind o)) o s.1 s.4 in
-      operation_parent int (operation_kind o) o held.0 held.1
+      let held = buffered (is_lenient reads (operation_kind o)) (operation_format reads.surrogates int (operation_kind o)) o s.1 s.4 in
+      operation_parent reads.surrogates int (operation_kind o) o held.0 held.1
 
   each_parent : (ps : List Operation) (text : List ℕ) → SpellsEach (part_format_in reads).Spells ps text
       → AllByRecursion HasParent ps
@@ -71,9 +71,9 @@ module _ (reads : Reads) where
   parts_parents (Some ps) text s = each_parent ps s.1 s.3
 
   single_parent : (k : TxnKind) (o : Operation) (b : Body) (text : List ℕ) → bodies.Single o ≡ b
-      → (operation_format (last_field reads Alone) k).Spells o text → HaveParents b
+      → (operation_format reads.surrogates (last_field reads Alone) k).Spells o text → HaveParents b
   single_parent k o b text is s =
-      subst HaveParents is (operation_parent (last_field reads Alone) k o text s)
+      subst HaveParents is (operation_parent reads.surrogates (last_field reads Alone) k o text s)
 
   fields_parents : (k : TxnKind) (b : Body) (text : List ℕ) → (body_fields reads k).Spells b text → HaveParents b
   fields_parents kinds.Create b text s = single_parent kinds.Create s.0 b text (ok_is (bodies.Single s.0) b s.1) s.2

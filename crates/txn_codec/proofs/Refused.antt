@@ -1,5 +1,5 @@
 -- A transaction is refused as its header or its body is.
-use Rattle.std.proofs.Common.{◌≡◌, ℕ, List, Result, Ok, Err, refl}
+use Rattle.std.proofs.Common.{◌≡◌, ℕ, List, Ok, refl}
 use Rattle.settings.specs.Dialects.{reads_of}
 use Rattle.settings.specs.declared.dialect.Dialect.{Dialect}
 use Rattle.values.specs.declared.fault.ReadError.{ReadError}

@@ -9,8 +9,8 @@ use Rattle.settings.specs.declared.dialect.Dialect.{Dialect}
 use Rattle.settings.specs.declared.dialect.Reads.{Reads}
 use Rattle.jute.specs.Format.{Format, int, long, boolean, buffer, text_format, vector_of, pair_of}
 use Rattle.jute.specs.Laws.{IsSound, IsSoundAtEnd}
-use Rattle.jute.specs.Owned.{acl_format}
-use Rattle.jute.proofs.Public.{guard_ended, int_sound, long_sound, boolean_sound, buffer_sound, text_sound, acl_sound, both_sound, both_at_end, mapped_sound, case_sound, case_at_end, refusal_sound, judged_sound, judged_back_sound, vector_sound}
+use Rattle.jute.specs.Owned.{acl_in}
+use Rattle.jute.proofs.Public.{guard_ended, int_sound, long_sound, boolean_sound, buffer_sound, text_sound, acl_in_sound, both_sound, both_at_end, mapped_sound, case_sound, case_at_end, refusal_sound, judged_sound, judged_back_sound, vector_sound}
 use Rattle.txn_codec.specs.declared.kind.TxnKind.{TxnKind}
 use Rattle.txn_codec.specs.declared.kind.TxnKind.TheVariants as kinds
 use Rattle.txn_codec.specs.declared.place.Place.{Place}
@@ -19,7 +19,7 @@ use Rattle.txn_codec.specs.Kinds.{txn_kinds, kind_of, later_kind_of, kind_at, co
 use Rattle.txn_codec.specs.Endings.{or_end, with_trailer_if}
 use Rattle.paths_and_acls.specs.Paths.{is_path, is_child_path}
 use Rattle.paths_and_acls.specs.Fields.{tested_text, path_by, path_format, child_path}
-use Rattle.txn_codec.specs.Spelling.{kind_format_in, part_kind_in, owner_if, with_flag, flagged_owner, owner_format, fields_of, create_with, set_data, set_acl, check_format, header_of, header_numbers, header_in}
+use Rattle.txn_codec.specs.Spelling.{kind_format_in, part_kind_in, owner_if, with_flag, flagged_owner, owner_format, fields_of, create_with, set_data, set_acl_in, check_format, header_of, header_numbers, header_in}
 use Rattle.txn_codec.proofs.Endings.{number_long, trailer_if_sound, last_at_end}
 
 -- ---- paths
@@ -133,8 +133,8 @@ part_kind_sound reads =
 
 -- ---- records
 
-acls_sound : IsSound (vector_of acl_format)
-acls_sound = vector_sound acl_format acl_sound
+acls_sound : (surrogates : Bool) → IsSound (vector_of (acl_in surrogates))
+acls_sound surrogates = vector_sound (acl_in surrogates) (acl_in_sound surrogates)
 
 flag_back : (b : Bool) (z : ℤ) → with_flag (owner_if b) z ≡ Some (b, z)
 flag_back true z = refl
@@ -162,27 +162,29 @@ owner_sound kinds.CreateSession = refusal_sound BadTxnType
 owner_sound kinds.CloseSession = refusal_sound BadTxnType
 owner_sound kinds.Error = refusal_sound BadTxnType
 
-pub create_sound : (k : TxnKind) → IsSound (create_with int k)
-create_sound k =
+pub create_sound : (surrogates : Bool) (k : TxnKind) → IsSound (create_with surrogates int k)
+create_sound surrogates k =
     case_sound _ fields_of _ (λ v. refl)
     (both_sound child_path _ (path_sound is_child_path)
     (both_sound buffer _ buffer_sound
-    (both_sound (vector_of acl_format) (owner_format int k) acls_sound (owner_sound k))))
+    (both_sound (vector_of (acl_in surrogates)) (owner_format int k) (acls_sound surrogates) (owner_sound k))))
 
-pub create_at_end : (last : Format ℤ) → IsSoundAtEnd last → IsSoundAtEnd (create_with last kinds.Create)
-create_at_end last s =
+pub create_at_end : (surrogates : Bool) (last : Format ℤ) → IsSoundAtEnd last
+    → IsSoundAtEnd (create_with surrogates last kinds.Create)
+create_at_end surrogates last s =
     case_at_end _ fields_of _ (λ v. refl)
     (both_at_end child_path _ (path_sound is_child_path)
     (both_at_end buffer _ buffer_sound
-    (both_at_end (vector_of acl_format) (flagged_owner last) acls_sound (flagged_at_end last s))))
+    (both_at_end (vector_of (acl_in surrogates)) (flagged_owner last) (acls_sound surrogates) (flagged_at_end last s))))
 
 pub set_data_sound : IsSound set_data
 set_data_sound = mapped_sound _ _ _ (λ v. refl) (λ s. refl)
     (both_sound path_format _ (path_sound is_path) (both_sound buffer int buffer_sound int_sound))
 
-pub set_acl_sound : IsSound set_acl
-set_acl_sound = mapped_sound _ _ _ (λ v. refl) (λ s. refl)
-    (both_sound path_format _ (path_sound is_path) (both_sound (vector_of acl_format) int acls_sound int_sound))
+pub set_acl_sound : (surrogates : Bool) → IsSound (set_acl_in surrogates)
+set_acl_sound surrogates = mapped_sound _ _ _ (λ v. refl) (λ s. refl)
+    (both_sound path_format _ (path_sound is_path)
+    (both_sound (vector_of (acl_in surrogates)) int (acls_sound surrogates) int_sound))
 
 pub check_sound : IsSound check_format
 check_sound = mapped_sound _ _ _ (λ v. refl) (λ c. refl) (both_sound path_format int (path_sound is_path) int_sound)

@@ -25,7 +25,7 @@ front_bytes c last = buffer.written (Some c.path)
     ++ (buffer.written c.bytes ++ ((vector_of acl_format).written c.acl ++ last))
 
 front_written : (o : Owner) (s : Bool) (c : Create)
-    → (operation_format int (create_kind o s)).written (operations.Create c)
+    → (operation_format false int (create_kind o s)).written (operations.Create c)
     ≡ front_bytes c ((owner_format int (create_kind o s)).written (c.owner, c.parent_cversion))
 front_written Nobody true c = refl
 front_written Nobody false c = refl
@@ -44,7 +44,7 @@ abbrev pub AreWritable : Create → Type 0
 AreWritable c = (length c.path < 2 ^ 31) × buffer.Writable c.bytes × (vector_of acl_format).Writable c.acl
 
 front_writable : (o : Owner) (s : Bool) (c : Create)
-    → (operation_format int (create_kind o s)).Writable (operations.Create c) → AreWritable c
+    → (operation_format false int (create_kind o s)).Writable (operations.Create c) → AreWritable c
 front_writable Nobody true c h = (h.0, h.1.0, h.1.1.0)
 front_writable Nobody false c h = (h.0, h.1.0, h.1.1.0)
 front_writable Client true c h = (h.0, h.1.0, h.1.1.0)

@@ -7,7 +7,7 @@ use Rattle.settings.specs.declared.dialect.Dialect.{Dialect}
 use Rattle.settings.specs.declared.dialect.Dialect.TheVariants.{Zk34}
 use Rattle.settings.specs.declared.dialect.Reads.{Reads}
 use Rattle.jute.specs.Format.{Format, int, long, boolean, buffer, vector_of, pair_of, mapped_format, judged_format, case_of, or_null}
-use Rattle.jute.specs.Owned.{acl_format}
+use Rattle.jute.specs.Owned.{acl_in}
 use Rattle.jute.specs.declared.owned.Acl.{Acl}
 use Rattle.jute.specs.Sums.{refusal_format, tagged_format, whole_value as whole_by}
 use Rattle.txn_codec.specs.declared.kind.TxnKind.{TxnKind}
@@ -94,8 +94,9 @@ abbrev pub fields_of : Create → Option (List ℕ × (Option (List ℕ) × (Opt
 fields_of c = Some (c.path, (c.bytes, (c.acl, (c.owner, c.parent_cversion))))
 
 -- A CreateTxn, with a last field that may be missing also a CreateTxnV0; a CreateContainerTxn; or a CreateTTLTxn.
-abbrev pub create_with : Format ℤ → TxnKind → Format Create
-create_with last k = case_of
+-- The texts of its list may have surrogates or not.
+abbrev pub create_with : Bool → Format ℤ → TxnKind → Format Create
+create_with surrogates last k = case_of
     (λ v. record {
       path = v.0;
       bytes = v.1.0;
@@ -105,10 +106,10 @@ create_with last k = case_of
       parent_cversion = v.1.1.1.1;
     })
     fields_of
-    (pair_of child_path (pair_of buffer (pair_of (vector_of acl_format) (owner_format last k))))
+    (pair_of child_path (pair_of buffer (pair_of (vector_of (acl_in surrogates)) (owner_format last k))))
 
 abbrev pub create_format : Format Create
-create_format = create_with int kinds.Create
+create_format = create_with false int kinds.Create
 
 -- ---- records
 
@@ -118,11 +119,15 @@ set_data = mapped_format
     (λ s. (s.path, (s.bytes, s.version)))
     (pair_of path_format (pair_of buffer int))
 
-abbrev pub set_acl : Format SetAcl
-set_acl = mapped_format
+-- The texts of its list may have surrogates or not.
+abbrev pub set_acl_in : Bool → Format SetAcl
+set_acl_in surrogates = mapped_format
     (λ v. record { path = v.0; acl = v.1.0; version = v.1.1 })
     (λ s. (s.path, (s.acl, s.version)))
-    (pair_of path_format (pair_of (vector_of acl_format) int))
+    (pair_of path_format (pair_of (vector_of (acl_in surrogates)) int))
+
+abbrev pub set_acl : Format SetAcl
+set_acl = set_acl_in false
 
 abbrev pub check_format : Format Check
 check_format = mapped_format (λ v. record { path = v.0; version = v.1 }) (λ s. (s.path, s.version))
@@ -141,7 +146,7 @@ header_numbers h = Some (h.client_id, (h.cxid, (h.zxid, h.time)))
 abbrev pub header_in : Dialect → Format TxnHeader
 header_in rules = case_of (header_of rules) header_numbers (pair_of long (pair_of int (pair_of long long)))
 
--- ---- operations after their type; a create's last field is a parameter
+-- ---- operations after their type; a create's last field, and whether its texts may have surrogates, are parameters
 
 abbrev pub as_create : Operation → Option Create
 as_create (operations.Create c) = Some c
@@ -163,26 +168,26 @@ abbrev pub as_error : Operation → Option ℤ
 as_error (operations.Error e) = Some e
 as_error o = None
 
-abbrev pub created_operation : Format ℤ → TxnKind → Format Operation
-created_operation last k = case_of operations.Create as_create (create_with last k)
+abbrev pub created_operation : Bool → Format ℤ → TxnKind → Format Operation
+created_operation surrogates last k = case_of operations.Create as_create (create_with surrogates last k)
 
-abbrev pub operation_format : Format ℤ → TxnKind → Format Operation
-operation_format last kinds.Create = created_operation last kinds.Create
-operation_format last kinds.Create2 = created_operation last kinds.Create2
-operation_format last kinds.CreateContainer = created_operation last kinds.CreateContainer
-operation_format last kinds.CreateTtl = created_operation last kinds.CreateTtl
-operation_format last kinds.Delete = case_of operations.Delete as_delete child_path
-operation_format last kinds.SetData = case_of operations.SetData as_set_data set_data
-operation_format last kinds.Check = case_of operations.Check as_check check_format
-operation_format last kinds.Error = case_of operations.Error as_error int
-operation_format last kinds.SetAcl = refusal_format BadTxnType
-operation_format last kinds.Multi = refusal_format BadTxnType
-operation_format last kinds.CreateSession = refusal_format BadTxnType
-operation_format last kinds.CloseSession = refusal_format BadTxnType
+abbrev pub operation_format : Bool → Format ℤ → TxnKind → Format Operation
+operation_format surrogates last kinds.Create = created_operation surrogates last kinds.Create
+operation_format surrogates last kinds.Create2 = created_operation surrogates last kinds.Create2
+operation_format surrogates last kinds.CreateContainer = created_operation surrogates last kinds.CreateContainer
+operation_format surrogates last kinds.CreateTtl = created_operation surrogates last kinds.CreateTtl
+operation_format surrogates last kinds.Delete = case_of operations.Delete as_delete child_path
+operation_format surrogates last kinds.SetData = case_of operations.SetData as_set_data set_data
+operation_format surrogates last kinds.Check = case_of operations.Check as_check check_format
+operation_format surrogates last kinds.Error = case_of operations.Error as_error int
+operation_format surrogates last kinds.SetAcl = refusal_format BadTxnType
+operation_format surrogates last kinds.Multi = refusal_format BadTxnType
+operation_format surrogates last kinds.CreateSession = refusal_format BadTxnType
+operation_format surrogates last kinds.CloseSession = refusal_format BadTxnType
 
 -- The format in which an operation is written after its type.
 abbrev pub format_of_operation : Operation → Format Operation
-format_of_operation o = operation_format int (operation_kind o)
+format_of_operation o = operation_format false int (operation_kind o)
 
 -- ---- parts of a multi (Txn of MultiTxn): a type, and a buffer that holds just the operation
 
@@ -195,7 +200,7 @@ abbrev pub is_lenient : Reads → TxnKind → Bool
 is_lenient reads k = reads.lenient_parts && is_error k
 
 abbrev pub part_content : Reads → TxnKind → Format Operation
-part_content reads k = in_buffer (is_lenient reads k) (operation_format int k)
+part_content reads k = in_buffer (is_lenient reads k) (operation_format reads.surrogates int k)
 
 abbrev pub part_format_in : Reads → Format Operation
 part_format_in reads = tagged_format (part_kind_in reads) operation_kind (part_content reads)
@@ -227,10 +232,10 @@ as_close (bodies.CloseSession listed) = Some listed
 as_close b = None
 
 abbrev pub single_body : Reads → TxnKind → Format Body
-single_body reads k = case_of bodies.Single as_single (operation_format (last_field reads Alone) k)
+single_body reads k = case_of bodies.Single as_single (operation_format reads.surrogates (last_field reads Alone) k)
 
 abbrev pub body_fields : Reads → TxnKind → Format Body
-body_fields reads kinds.SetAcl = case_of bodies.SetAcl as_set_acl set_acl
+body_fields reads kinds.SetAcl = case_of bodies.SetAcl as_set_acl (set_acl_in reads.surrogates)
 body_fields reads kinds.Multi = case_of bodies.Multi as_multi (parts_format_in reads)
 body_fields reads kinds.CreateSession = case_of bodies.CreateSession as_session int
 body_fields reads kinds.CloseSession = case_of bodies.CloseSession as_close (closing_if reads.lists_paths)

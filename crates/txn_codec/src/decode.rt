@@ -5,7 +5,7 @@ ghost use Rattle.jute.specs.Reads.{ReadsOwned, ReadsOwnedWhole};
 ghost use Rattle.jute.specs.Format.{int, read_n};
 ghost use Rattle.txn_codec.specs.Endings.{value_in_buffer};
 ghost use Rattle.paths_and_acls.specs.Fields.{path_format, child_path};
-ghost use Rattle.txn_codec.specs.Spelling.{last_field, kind_format_in, part_kind_in, flagged_owner, timed_owner, owner_format, create_with, created_operation, create_format, set_data as set_data_format, set_acl as set_acl_format, check_format, header_in, operation_format, is_lenient, multi_part, part_content, part_format_in, parts_format_in, body_fields, body_content, body_in, txn_in, txn_format, value_of_whole};
+ghost use Rattle.txn_codec.specs.Spelling.{last_field, kind_format_in, part_kind_in, flagged_owner, timed_owner, owner_format, create_with, created_operation, create_format, set_data as set_data_format, set_acl_in, set_acl as set_acl_format, check_format, header_in, operation_format, is_lenient, multi_part, part_content, part_format_in, parts_format_in, body_fields, body_content, body_in, txn_in, txn_format, value_of_whole};
 ghost use Rattle.txn_codec.specs.Parents.{HaveParents};
 ghost use Rattle.txn_codec.specs.Refusals.{IfFault, AgainstIn, AgainstTxn};
 ghost use Rattle.txn_codec.specs.declared.txn.Txn.{Txn as TheTxn};
@@ -14,7 +14,7 @@ use crate::ending::{pass_trailer, read_closing};
 use crate::kind::TxnKind;
 use crate::place::Place;
 use crate::txn::{Body, Check, Create, Operation, Owner, SetAcl, SetData, Txn, TxnHeader};
-use jute::{Acl, ReadRecord, Reader, read_blob, read_vector};
+use jute::{ReadRecord, Reader, read_acls, read_blob};
 use paths_and_acls::Path;
 use settings::{Dialect, Reads};
 use std::alloc::Global;
@@ -174,12 +174,12 @@ fn read_create(
     place: Place,
     reader: &mut Reader<'_>,
 ) -> Result<Create, ReadError>
-    ensures { ReadsOwned (create_with (last_field reads place) kind).read (λ c. c) result reader.old reader.new }
+    ensures { ReadsOwned (create_with reads.surrogates (last_field reads place) kind).read (λ c. c) result reader.old reader.new }
 {
     let mut ahead = reader.ahead();
     let path = read_child_path(alloc, &mut ahead)?;
     let bytes = read_blob(alloc, &mut ahead)?;
-    let acl = read_vector::<Acl>(alloc, &mut ahead)?;
+    let acl = read_acls(reads.surrogates, alloc, &mut ahead)?;
     let (owner, parent_cversion) = read_owner(reads, kind, place, &mut ahead)?;
     *reader = ahead;
     Ok(Create {
@@ -223,16 +223,26 @@ impl<'a> ReadRecord<'a> for SetData {
     }
 }
 
+fn read_set_acl(
+    surrogates: bool,
+    alloc: Global,
+    reader: &mut Reader<'_>,
+) -> Result<SetAcl, ReadError>
+    ensures { ReadsOwned (set_acl_in surrogates).read (λ s. s) result reader.old reader.new }
+{
+    let mut ahead = reader.ahead();
+    let path = read_path(alloc, &mut ahead)?;
+    let acl = read_acls(surrogates, alloc, &mut ahead)?;
+    let version = ahead.read_int()?;
+    *reader = ahead;
+    Ok(SetAcl { path, acl, version })
+}
+
 impl<'a> ReadRecord<'a> for SetAcl {
     ghost read_of = { set_acl_format.read };
 
     fn read(alloc: Global, reader: &mut Reader<'a>) -> Result<SetAcl, ReadError> {
-        let mut ahead = reader.ahead();
-        let path = read_path(alloc, &mut ahead)?;
-        let acl = read_vector::<Acl>(alloc, &mut ahead)?;
-        let version = ahead.read_int()?;
-        *reader = ahead;
-        Ok(SetAcl { path, acl, version })
+        read_set_acl(false, alloc, reader)
     }
 }
 
@@ -256,7 +266,7 @@ fn read_created(
     place: Place,
     reader: &mut Reader<'_>,
 ) -> Result<Operation, ReadError>
-    ensures { ReadsOwned (created_operation (last_field reads place) kind).read (λ o. o) result reader.old reader.new }
+    ensures { ReadsOwned (created_operation reads.surrogates (last_field reads place) kind).read (λ o. o) result reader.old reader.new }
 {
     Ok(Operation::Create(read_create(reads, alloc, kind, place, reader)?))
 }
@@ -270,7 +280,7 @@ fn read_operation(
     place: Place,
     reader: &mut Reader<'_>,
 ) -> Result<Operation, ReadError>
-    ensures { ReadsOwned (operation_format (last_field reads place) kind).read (λ o. o) result reader.old reader.new }
+    ensures { ReadsOwned (operation_format reads.surrogates (last_field reads place) kind).read (λ o. o) result reader.old reader.new }
 {
     match kind {
         TxnKind::Create | TxnKind::Create2 | TxnKind::CreateContainer | TxnKind::CreateTtl =>
@@ -294,7 +304,7 @@ fn read_held(
     bytes: &[u8],
 ) -> Result<Operation, ReadError>
     ensures { ReadsOwnedWhole
-        (value_in_buffer (is_lenient reads kind) (operation_format int kind) (Some bytes.now)) result }
+        (value_in_buffer (is_lenient reads kind) (operation_format reads.surrogates int kind) (Some bytes.now)) result }
 {
     let mut ahead = Reader::new(bytes);
     let operation = read_operation(reads, alloc, kind, Place::Part, &mut ahead)?;
@@ -402,7 +412,7 @@ fn read_fields(
         | TxnKind::Error => {
             Ok(Body::Single(read_operation(reads, alloc, kind, Place::Alone, reader)?))
         }
-        TxnKind::SetAcl => Ok(Body::SetAcl(SetAcl::read(alloc, reader)?)),
+        TxnKind::SetAcl => { Ok(Body::SetAcl(read_set_acl(reads.surrogates, alloc, reader)?)) }
         TxnKind::Multi => Ok(Body::Multi(read_parts(reads, alloc, reader)?)),
         TxnKind::CreateSession => Ok(Body::CreateSession(reader.read_int()?)),
         TxnKind::CloseSession => {

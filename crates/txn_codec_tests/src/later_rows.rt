@@ -31,7 +31,14 @@ a null list | fffffff5 ffffffff | close
 a list of one path in 12 bytes | fffffff5 00000001 00000004 2f616263 | close /abc
 an error with a digest | ffffffff ffffff9b 00000002 00000000a5ad3dbe | error -101
 a failed multi of a DIFF | 0000000e 00000004 ffffffff 0000002d 00000003 2f7a31 00000002 7a7a 00000001 0000001f 00000005 776f726c64 00000006 616e796f6e65 00 0000000c ffffffff 00000004 ffffff99 ffffffff 00000004 fffffffe ffffffff 00000004 fffffffe 00000002 00000000a5ad3dbe | multi, error 3, error -103, error -2, error -2
-a container and its end in a multi | 0000000e 00000002 00000013 00000012 00000002 2f63 ffffffff ffffffff 00000004 00000014 00000006 00000002 2f63 | multi, create /c Container true 4, delete /c";
+a container and its end in a multi | 0000000e 00000002 00000013 00000012 00000002 2f63 ffffffff ffffffff 00000004 00000014 00000006 00000002 2f63 | multi, create /c Container true 4, delete /c
+an id of two halves | 00000001 00000003 2f6561 00000000 00000001 0000001f 00000006 646967657374 00000008 eda0bdedb8803a78 00 00000001 | create /ea Nobody false 1
+an id of two halves, and a digest | 0000000f 00000003 2f6561 00000000 00000001 0000001f 00000006 646967657374 00000008 eda0bdedb8803a78 00 00000001 00000002 0000000283c3b12e | create /ea Nobody true 1
+a container with such an id | 00000013 00000003 2f6561 00000000 00000001 0000001f 00000006 646967657374 00000008 eda0bdedb8803a78 00000001 | create /ea Container true 1
+a node with a time to live with such an id | 00000015 00000003 2f6561 00000000 00000001 0000001f 00000006 646967657374 00000008 eda0bdedb8803a78 00000001 00000000000186a0 | create /ea Ttl(100000) true 1
+a list with such an id | 00000007 00000003 2f6561 00000001 0000001f 00000006 646967657374 00000008 eda0bdedb8803a78 00000001 | set-acl /ea
+a half in a scheme | 00000007 00000003 2f6561 00000001 0000001f 00000003 edb080 00000000 00000001 | set-acl /ea
+such an id in a multi | 0000000e 00000001 00000001 0000002e 00000003 2f6561 00000000 00000001 0000001f 00000006 646967657374 00000008 eda0bdedb8803a78 00 00000001 | multi, create /ea Nobody false 1";
 
 const REFUSED: &str = "\
 a trailer of 1 byte | 00000002 00000002 2f70 00 | TrailingBytes
@@ -48,7 +55,14 @@ a setACL in a multi | 0000000e 00000001 00000007 0000000e 00000002 2f70 ffffffff
 three bytes of an error in a multi | 0000000e 00000001 ffffffff 00000003 ffffff | Short
 a byte after a delete in a multi | 0000000e 00000001 00000014 00000007 00000002 2f63 00 | TrailingBytes
 a container of the root | 00000013 00000001 2f ffffffff ffffffff 00000004 | BadPath
-a type that is not listed | 00000011 | BadTxnType";
+a type that is not listed | 00000011 | BadTxnType
+a half without its end | 00000007 00000003 2f6561 00000001 0000001f 00000000 00000002 eda0 00000001 | BadText
+a half before a letter | 00000007 00000003 2f6561 00000001 0000001f 00000000 00000003 eda061 00000001 | BadText
+a half within a character | 00000007 00000003 2f6561 00000001 0000001f 00000000 00000006 e282eda080ac 00000001 | BadText
+an overlong form in an id | 00000007 00000003 2f6561 00000001 0000001f 00000000 00000002 c0af 00000001 | BadText
+an id past U+10FFFF | 00000007 00000003 2f6561 00000001 0000001f 00000000 00000004 f4908080 00000001 | BadText
+two halves in a path | 00000007 00000007 2feda0bdedb880 ffffffff 00000001 | BadText
+two halves in the path of a create | 00000001 00000007 2feda0bdedb880 00000000 ffffffff 00 00000001 | BadText";
 
 // What ZooKeeper 3.4 doesn't write is refused in its dialect.
 const EARLIER: &str = "\
@@ -56,7 +70,10 @@ a digest | 00000002 00000002 2f70 00000002 00000000a5ad3dbe | TrailingBytes
 create2 | 0000000f 00000002 2f70 ffffffff ffffffff 00 00000002 | BadTxnType
 a reconfig | 00000010 00000002 2f70 ffffffff ffffffff | BadTxnType
 a list of paths | fffffff5 00000001 00000003 2f6578 | TrailingBytes
-bytes after an error in a multi | 0000000e 00000001 ffffffff 00000005 ffffff9b 00 | TrailingBytes";
+bytes after an error in a multi | 0000000e 00000001 ffffffff 00000005 ffffff9b 00 | TrailingBytes
+an id of two halves | 00000001 00000003 2f6561 00000000 00000001 0000001f 00000006 646967657374 00000008 eda0bdedb8803a78 00 00000001 | BadText
+a list with such an id | 00000007 00000003 2f6561 00000001 0000001f 00000006 646967657374 00000008 eda0bdedb8803a78 00000001 | BadText
+a half in a scheme | 00000007 00000003 2f6561 00000001 0000001f 00000003 edb080 00000000 00000001 | BadText";
 
 // The bytes, after the header.
 fn behind_header(alloc: Global, body: &[u8]) -> Result<Vec<u8>, Fail> {

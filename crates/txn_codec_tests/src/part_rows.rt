@@ -86,7 +86,7 @@ fn is_set_acl(alloc: Global, bytes: &[u8]) -> Result<bool, ReadError> {
     Ok(is_set && is_open(alloc, &set.acl)?)
 }
 
-#[tactic(auto, unfolding(jute::specs::Owned::acl_format, jute::specs::Owned::id_format))]
+#[tactic(auto, unfolding(jute::specs::Owned::acl_in, jute::specs::Owned::id_in))]
 fn set_acl_written(alloc: Global) -> Result<Vec<u8>, Fail> {
     let set = SetAcl {
         path: a_path(alloc)?,
@@ -107,7 +107,7 @@ fn is_create(alloc: Global, bytes: &[u8]) -> Result<bool, ReadError> {
     Ok(is_of_session && is_whole && holds)
 }
 
-#[tactic(auto, unfolding(jute::specs::Owned::acl_format, jute::specs::Owned::id_format))]
+#[tactic(auto, unfolding(jute::specs::Owned::acl_in, jute::specs::Owned::id_in))]
 fn create_written(alloc: Global) -> Result<Vec<u8>, Fail> {
     let create = Create {
         path: a_path(alloc)?,

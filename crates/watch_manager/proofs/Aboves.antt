@@ -1,5 +1,6 @@
 -- The connections that watch a path or one above it.
-use Rattle.std.proofs.Common.{◌≡◌, ℕ, List, [], ◌∷◌, ◌++◌, Bool, true, false, cond, not, ◌||◌, ◌&&◌, Some, None, refl, sym, ap, ◌∙◌, map, take, drop}
+use Rattle.std.proofs.Common.{◌≡◌, ℕ, List, [], ◌∷◌, ◌++◌, Bool, true, false, cond, not, ◌||◌, ◌&&◌, Some, None, refl, sym, ap, ◌∙◌, map, take, drop, length, T, subst, eqb→eq}
+use Rattle.std.proofs.lemmas.List.{nil_from_length}
 use mathlib.Core.Bool.{true≢false}
 use Rattle.std.specs.Prelude.{nat_eq, ◌==◌}
 use Rattle.std.specs.Str.Pattern.{RFindsChar}
@@ -17,7 +18,7 @@ use Rattle.paths_and_acls.specs.Paths.{has_slash}
 use Rattle.paths_and_acls.proofs.Slashes.{is_cut, uncut}
 use Rattle.watch_manager.specs.Pairs.{ConnectionSet, WatchPairs, watch_cmp, same_path, watchers_of, sorted_connections}
 use Rattle.watch_manager.specs.Lasting.{root_path, is_above, watchers_above}
-use Rattle.watch_manager.specs.Inner.Lasting.{with_connections, with_watchers_on, fronts_before_slash}
+use Rattle.watch_manager.specs.Inner.Lasting.{with_connections, with_watchers_on, fronts_before_slash, is_nonempty, named_fronts}
 use Rattle.watch_manager.proofs.Watchers.{contains-watchers}
 
 -- ---- sets of connections
@@ -152,14 +153,34 @@ fronts-cut [] name none = ap (λ fs. map (λ (f : Bytes). 47 ∷ f) fs ++ [] ∷
 fronts-cut (b ∷ front) name none =
     ap (λ fs. map (λ (f : Bytes). b ∷ f) fs ++ cond (b == 47) ([] ∷ []) []) (fronts-cut front name none)
 
-pub fronts-found : (text : Bytes) (i j : ℕ) → RFindsChar 47 text (Some (i, j))
+fronts-found : (text : Bytes) (i j : ℕ) → RFindsChar 47 text (Some (i, j))
     → fronts_before_slash text ≡ take i text ∷ fronts_before_slash (take i text)
 fronts-found text i j found =
     let cut = is_cut text i j found in
     ap fronts_before_slash cut.0 ∙ fronts-cut (take i text) (drop j text) cut.1
 
-pub fronts-none : (text : Bytes) → RFindsChar 47 text None → fronts_before_slash text ≡ []
-fronts-none text found = no_fronts text (uncut text found)
+pub named-found : (text : Bytes) (i j : ℕ) → RFindsChar 47 text (Some (i, j)) → is_nonempty (take i text) ≡ true
+    → named_fronts text ≡ take i text ∷ named_fronts (take i text)
+named-found text i j found named =
+    ap (filter is_nonempty) (fronts-found text i j found)
+    ∙ ap (λ b. cond b (take i text ∷ named_fronts (take i text)) (named_fronts (take i text))) named
+
+-- Before the last slash there is nothing.
+pub named-empty : (text : Bytes) (i j : ℕ) → RFindsChar 47 text (Some (i, j)) → take i text ≡ []
+    → named_fronts text ≡ []
+named-empty text i j found empty =
+    ap (filter is_nonempty) (fronts-found text i j found)
+    ∙ ap (λ front. filter is_nonempty (front ∷ fronts_before_slash front)) empty
+
+pub is_nonempty-true : (front : Bytes) → nat_eq (length front) 0 ≡ false → is_nonempty front ≡ true
+is_nonempty-true [] e = absurd (true≢false e)
+is_nonempty-true (b ∷ front) e = refl
+
+pub is_empty-true : (front : Bytes) → nat_eq (length front) 0 ≡ true → front ≡ []
+is_empty-true front e = nil_from_length front (eqb→eq (length front) 0 (subst T (sym e) tt))
+
+pub named-none : (text : Bytes) → RFindsChar 47 text None → named_fronts text ≡ []
+named-none text found = ap (filter is_nonempty) (no_fronts text (uncut text found))
 
 -- ---- the watchers at several paths
 
@@ -190,16 +211,31 @@ contains-with_watchers_on (p ∷ ps) pairs conns q =
 
 -- A path, "/", and the fronts of the path.
 abbrev pub paths_up : Bytes → List Bytes
-paths_up path = path ∷ root_path ∷ fronts_before_slash path
+paths_up path = path ∷ root_path ∷ named_fronts path
+
+none_empty : (fronts : List Bytes) → list_any (same_path []) (filter is_nonempty fronts) ≡ false
+none_empty [] = refl
+none_empty ([] ∷ fs) = none_empty fs
+none_empty ((b ∷ f) ∷ fs) = none_empty fs
+
+any-named : (x : ℕ) (a : Bytes) (fronts : List Bytes)
+    → list_any (same_path (x ∷ a)) (filter is_nonempty fronts) ≡ list_any (same_path (x ∷ a)) fronts
+any-named x a [] = refl
+any-named x a ([] ∷ fs) = any-named x a fs
+any-named x a ((b ∷ f) ∷ fs) = ap (λ t. same_path (x ∷ a) (b ∷ f) || t) (any-named x a fs)
 
 -- A path is one of these where it is the path or above it.
 pub is_up : (a path : Bytes) → (same_path a path || is_above a path) ≡ list_any (same_path a) (paths_up path)
-is_up a path =
+is_up [] path = ap (λ t. same_path [] path || t) (sym (none_empty (fronts_before_slash path)))
+is_up (x ∷ front) path =
     ap (λ t. same_path a path || ((same_path a root_path && not (same_path path root_path)) || t))
-    (sym (any-front a path))
+    (sym (any-named x front (fronts_before_slash path) ∙ any-front a path))
     ∙ by (same_path a path) (same_path a root_path) (same_path path root_path)
-    (list_any (same_path a) (fronts_before_slash path)) (λ t u. both t u)
+    (list_any (same_path a) (named_fronts path)) (λ t u. both t u)
   where
+    a : Bytes
+    a = x ∷ front
+
     both : same_path a root_path ≡ true → same_path path root_path ≡ true → same_path a path ≡ true
     both t u =
         ap (λ x. same_path a x) (tells_apart exact_bytes path root_path u) ∙ t
@@ -279,7 +315,7 @@ contains-watchers_above path pairs c =
 
 -- The watchers of the path and of "/", and then those of the fronts.
 pub gathered_above : (path : Bytes) (pairs : WatchPairs) (conns : ConnectionSet)
-    → with_watchers_on (fronts_before_slash path) pairs
+    → with_watchers_on (named_fronts path) pairs
     (set.union (set.union conns (watchers_of path pairs)) (watchers_of root_path pairs))
     ≡ set.union conns (watchers_above path pairs)
 gathered_above path pairs conns = set.same_set nat_cmp_total exact_unsigned _ _ (λ q.

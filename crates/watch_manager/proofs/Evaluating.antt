@@ -1,11 +1,8 @@
 -- Firing, evaluated on watches given as a list.
-use Rattle.std.proofs.Common.{◌≡◌, ℕ, List, [], ◌∷◌, ◌++◌, Bool, true, false, cond, not, ◌||◌, ◌&&◌, Option, Some, None, refl, sym, ap, ◌∙◌, map}
-use Rattle.std.specs.Prelude.{is_some}
+use Rattle.std.proofs.Common.{◌≡◌, ℕ, List, [], ◌∷◌, ◌++◌, Bool, true, false, cond, not, ◌||◌, ◌&&◌, refl, sym, ap, ◌∙◌, map}
 use Rattle.std.specs.List.{list_any, filter}
 use Rattle.std.specs.Ordering.{eq_by_cmp, nat_cmp}
 use Rattle.std.specs.Cmp.{nat_cmp_total}
-use Rattle.std.specs.FinMap as finmap
-use Rattle.std.specs.FinMap.Entries.{is_some-find}
 use Rattle.std.proofs.lemmas.List.Folds.{list_any-append}
 use Rattle.std.proofs.lemmas.Map.Views.{tells_apart}
 use Rattle.std.proofs.lemmas.Map.Lookups.{exact_unsigned}
@@ -14,25 +11,23 @@ use Rattle.ephemerals.specs.Orders.{Bytes}
 use Rattle.data_tree.specs.declared.outcome.Trigger.{Trigger}
 use Rattle.data_tree.specs.declared.outcome.Trigger.TheVariants.{Created, Deleted, DataChanged, ChildrenChanged}
 use Rattle.watch_manager.specs.Pairs.{ConnectionSet, watch_cmp, same_path, sorted_connections, watchers_of, without_watches_on}
-use Rattle.watch_manager.specs.Lasting.{is_above, is_in_mode, watches_in, watchers_above, persistent_watchers, lasting_watchers}
+use Rattle.watch_manager.specs.Lasting.{LastingWatches, is_above, watchers_above, persistent_watchers, lasting_watchers}
 use Rattle.watch_manager.specs.Watching.{WatchTables}
 use Rattle.watch_manager.specs.Watches.{FireResult, events_for, connections_not_told, node_watchers, children_watchers, events_of_trigger, watches_after, fire}
 use Rattle.watch_manager.specs.Rows.{watches_on, lasting_on}
 use Rattle.watch_manager.specs.declared.event.Event.{Event}
 use Rattle.watch_manager.specs.declared.event.EventKind.TheVariants.{NodeCreated, NodeDeleted, NodeDataChanged, NodeChildrenChanged}
-use Rattle.watch_manager.specs.declared.mode.WatchMode.{WatchMode}
-use Rattle.watch_manager.specs.declared.mode.WatchMode.TheVariants.{Persistent, Recursive}
 use Rattle.watch_manager.proofs.Totals.{watch_total, watch_exact}
 use Rattle.watch_manager.proofs.Ascending.{placed, ascending-placed, same_ascending}
 use Rattle.watch_manager.proofs.Watchers.{any-watcher, contains-watchers, contains-without_path}
-use Rattle.watch_manager.proofs.Lastings.{contains-watches_in}
 use Rattle.watch_manager.proofs.Aboves.{paths_up, any-watchers_above, contains-watchers_above}
 
 abbrev Listed : Type 0
 Listed = List (Bytes × ℕ)
 
+-- The persistent watches, and the recursive ones.
 abbrev LastingListed : Type 0
-LastingListed = List ((Bytes × ℕ) × WatchMode)
+LastingListed = Listed × Listed
 
 -- The connections that watch the path, in the order of the list.
 abbrev pub at : Bytes → Listed → List ℕ
@@ -47,18 +42,12 @@ above path ps =
 abbrev pub but : Bytes → Listed → Listed
 but path ps = filter (λ (p : Bytes × ℕ). not (same_path path p.0)) ps
 
--- The watches of a mode.
-abbrev pub in_mode : WatchMode → LastingListed → Listed
-in_mode mode ls =
-    filter (λ (p : Bytes × ℕ). is_in_mode mode (finmap.find watch_cmp p ls))
-    (map (λ (e : (Bytes × ℕ) × WatchMode). e.0) ls)
-
 abbrev pub node_at : Bytes → Listed → LastingListed → List ℕ
 node_at path data_watches ls = at path data_watches ++
-    (at path (in_mode Persistent ls) ++ above path (in_mode Recursive ls))
+    (at path ls.0 ++ above path ls.1)
 
 abbrev pub children_at : Bytes → Listed → LastingListed → List ℕ
-children_at path child ls = at path child ++ at path (in_mode Persistent ls)
+children_at path child ls = at path child ++ at path ls.0
 
 -- In ascending order of their numbers.
 abbrev pub in_number : List ℕ → List ℕ
@@ -90,8 +79,11 @@ child_after child (Deleted path) = but path child
 child_after child (DataChanged path) = child
 child_after child (ChildrenChanged path) = but path child
 
+abbrev lasting_listed : LastingListed → LastingWatches
+lasting_listed ls = record { persistent = set.from_list ls.0; recursive = set.from_list ls.1 }
+
 abbrev pub watches_listed : Listed → Listed → LastingListed → WatchTables
-watches_listed data_watches child ls = lasting_on ls (watches_on data_watches child)
+watches_listed data_watches child ls = lasting_on ls.0 ls.1 (watches_on data_watches child)
 
 abbrev pub fire_listed : Listed → Listed → LastingListed → List Trigger → FireResult
 fire_listed data_watches child ls [] = record { events = []; left = watches_listed data_watches child ls }
@@ -161,21 +153,6 @@ any-kept keep q (p ∷ ps) = by (any-kept keep q ps) (keep p) refl (eq_by_cmp wa
     by rest false e x is =
         rest ∙ or_and x (list_any (eq_by_cmp watch_cmp q) ps) (keep q) (λ t. same (is ∙ t) ∙ e)
 
-in_mode-listed : (mode : WatchMode) (ls : LastingListed)
-    → watches_in mode (finmap.from_entries {R = watch_cmp} ls) ≡ set.from_list (in_mode mode ls)
-in_mode-listed mode ls = set.same_set watch_total watch_exact _ _ (λ q.
-    contains-watches_in mode (finmap.from_entries {R = watch_cmp} ls) q
-    ∙ ap (is_in_mode mode) (finmap.get-from_entries watch_total ls q)
-    ∙ by (finmap.find watch_cmp q ls)
-    ∙ ap (λ b. b && is_in_mode mode (finmap.find watch_cmp q ls)) (is_some-find watch_cmp q ls)
-    ∙ sym (any-kept (λ (p : Bytes × ℕ). is_in_mode mode (finmap.find watch_cmp p ls)) q
-    (map (λ (e : (Bytes × ℕ) × WatchMode). e.0) ls))
-    ∙ sym (set.contains-from_list watch_total (in_mode mode ls) q))
-  where
-    by : (found : Option WatchMode) → is_in_mode mode found ≡ (is_some found && is_in_mode mode found)
-    by None = refl
-    by (Some m) = refl
-
 without-listed : (path : Bytes) (ps : Listed) → without_watches_on path (set.from_list ps) ≡ set.from_list (but path ps)
 without-listed path ps = set.same_set watch_total watch_exact _ _ (λ q.
     contains-without_path path (set.from_list ps) q
@@ -183,31 +160,20 @@ without-listed path ps = set.same_set watch_total watch_exact _ _ (λ q.
     ∙ sym (any-kept (λ (p : Bytes × ℕ). not (same_path path p.0)) q ps)
     ∙ sym (set.contains-from_list watch_total (but path ps) q))
 
-persistent-listed : (path : Bytes) (ls : LastingListed)
-    → HasMembers (persistent_watchers path (finmap.from_entries ls)) (at path (in_mode Persistent ls))
-unfolding HasMembers
-persistent-listed path ls c =
-    ap (λ s. set.contains (watchers_of path s) c) (in_mode-listed Persistent ls)
-    ∙ watchers-listed path (in_mode Persistent ls) c
-
 node-listed : (path : Bytes) (data_watches child : Listed) (ls : LastingListed)
     → HasMembers (node_watchers path (watches_listed data_watches child ls)) (node_at path data_watches ls)
 unfolding HasMembers
 node-listed path data_watches child ls =
-    union-members (watchers_of path (set.from_list data_watches)) (lasting_watchers path (finmap.from_entries ls))
-    (at path data_watches)
-    (at path (in_mode Persistent ls) ++ above path (in_mode Recursive ls)) (watchers-listed path data_watches)
-    (union-members (persistent_watchers path (finmap.from_entries ls))
-    (watchers_above path (watches_in Recursive (finmap.from_entries ls))) (at path (in_mode Persistent ls))
-    (above path (in_mode Recursive ls)) (persistent-listed path ls) (λ c.
-    ap (λ s. set.contains (watchers_above path s) c) (in_mode-listed Recursive ls)
-    ∙ above-listed path (in_mode Recursive ls) c))
+    union-members (watchers_of path (set.from_list data_watches)) (lasting_watchers path (lasting_listed ls))
+    (at path data_watches) (at path ls.0 ++ above path ls.1) (watchers-listed path data_watches)
+    (union-members (persistent_watchers path (lasting_listed ls)) (watchers_above path (set.from_list ls.1))
+    (at path ls.0) (above path ls.1) (watchers-listed path ls.0) (above-listed path ls.1))
 
 children-listed : (path : Bytes) (data_watches child : Listed) (ls : LastingListed)
     → HasMembers (children_watchers path (watches_listed data_watches child ls)) (children_at path child ls)
 children-listed path data_watches child ls =
-    union-members (watchers_of path (set.from_list child)) (persistent_watchers path (finmap.from_entries ls))
-    (at path child) (at path (in_mode Persistent ls)) (watchers-listed path child) (persistent-listed path ls)
+    union-members (watchers_of path (set.from_list child)) (persistent_watchers path (lasting_listed ls))
+    (at path child) (at path ls.0) (watchers-listed path child) (watchers-listed path ls.0)
 
 each_but-at : (path : Bytes) (data_watches child : Listed) (ls : LastingListed)
     → connections_not_told (node_watchers path (watches_listed data_watches child ls))

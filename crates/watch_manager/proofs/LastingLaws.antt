@@ -16,15 +16,13 @@ use Rattle.ephemerals.proofs.Ascending.{any-ascending}
 use Rattle.data_tree.specs.declared.outcome.Trigger.{Trigger}
 use Rattle.data_tree.specs.declared.outcome.Trigger.TheVariants.{Created, Deleted, DataChanged, ChildrenChanged}
 use Rattle.watch_manager.specs.Pairs.{ConnectionSet, WatchPairs, sorted_connections, watchers_of, same_path}
-use Rattle.watch_manager.specs.Lasting.{is_in_mode, watches_in, watchers_above, persistent_watchers, lasting_watchers}
+use Rattle.watch_manager.specs.Lasting.{watchers_above, persistent_watchers, lasting_watchers}
 use Rattle.watch_manager.specs.Watching.{WatchTables}
 use Rattle.watch_manager.specs.Watches.{event_for, events_for, connections_not_told, node_watchers, children_watchers, watches_after}
 use Rattle.watch_manager.specs.Laws.{LastingWatchesStay, WatchesRecursively, RecursiveWatchersAreTold, IsInConnectionOrder, PartsAscend}
 use Rattle.watch_manager.specs.declared.event.Event.{Event}
 use Rattle.watch_manager.specs.declared.event.EventKind.{EventKind}
 use Rattle.watch_manager.specs.declared.event.EventKind.TheVariants.{NodeCreated, NodeDeleted, NodeDataChanged}
-use Rattle.watch_manager.specs.declared.mode.WatchMode.TheVariants.{Recursive}
-use Rattle.watch_manager.proofs.Lastings.{contains-watches_in}
 use Rattle.watch_manager.proofs.Aboves.{watched_at, paths_up, is_up, contains-watchers_above}
 use Rattle.watch_manager.proofs.Told.{all_filter, told-connections, in_number-sorted}
 
@@ -57,11 +55,10 @@ watched-at pairs on c (p ∷ ps) here e =
     ] refl e
 
 above-watched : (w : WatchTables) (path : Bytes) (connection : ℕ) → WatchesRecursively w path connection
-    → set.contains (watchers_above path (watches_in Recursive w.lasting)) connection ≡ true
+    → set.contains (watchers_above path w.lasting.recursive) connection ≡ true
 above-watched w path connection h =
-    contains-watchers_above path (watches_in Recursive w.lasting) connection
-    ∙ watched-at (watches_in Recursive w.lasting) h.on connection (paths_up path)
-    (contains-watches_in Recursive w.lasting (h.on, connection) ∙ ap (is_in_mode Recursive) h.is_set)
+    contains-watchers_above path w.lasting.recursive connection
+    ∙ watched-at w.lasting.recursive h.on connection (paths_up path) h.is_set
     (sym (is_up h.on path) ∙ h.reaches)
 
 node-watched : (w : WatchTables) (path : Bytes) (connection : ℕ) → WatchesRecursively w path connection
@@ -70,7 +67,7 @@ node-watched w path connection h =
     set.contains-union nat_cmp_total (watchers_of path w.data_watches) (lasting_watchers path w.lasting) connection
     ∙ ap (λ b. set.contains (watchers_of path w.data_watches) connection || b)
     (set.contains-union nat_cmp_total (persistent_watchers path w.lasting)
-    (watchers_above path (watches_in Recursive w.lasting)) connection
+    (watchers_above path w.lasting.recursive) connection
     ∙ ap (λ b. set.contains (persistent_watchers path w.lasting) connection || b) (above-watched w path connection h)
     ∙ or-true (set.contains (persistent_watchers path w.lasting) connection))
     ∙ or-true (set.contains (watchers_of path w.data_watches) connection)

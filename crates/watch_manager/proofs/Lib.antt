@@ -28,8 +28,6 @@ mod Others
 pub mod Ascending
 -- The watches of a table, listed.
 mod Listing
--- Lasting watches, stored as a table for each mode.
-pub mod Lastings
 -- The connections that watch a path or one above it.
 pub mod Aboves
 -- The lengths of the paths that are watched.

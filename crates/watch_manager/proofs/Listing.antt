@@ -1,10 +1,9 @@
 -- The watches of a table, listed.
-use Rattle.std.proofs.Common.{◌≡◌, ℕ, List, [], ◌∷◌, ◌++◌, Bool, true, false, cond, T, ◌||◌, ◌&&◌, Option, Some, None, map, refl, sym, ap, subst, ◌∙◌, append_assoc}
-use Rattle.std.specs.Prelude.{◌==◌, is_some}
+use Rattle.std.proofs.Common.{◌≡◌, ℕ, List, [], ◌∷◌, ◌++◌, Bool, true, false, cond, T, ◌||◌, ◌&&◌, map, refl, sym, ap, subst, ◌∙◌}
+use Rattle.std.specs.Prelude.{◌==◌}
 use Rattle.std.specs.declared.cmp.Ordering.{Ordering}
 use Rattle.std.specs.declared.cmp.Ordering.TheVariants.{Less, Equal, Greater}
 use Rattle.std.specs.BTreeSet.{insert_key}
-use Rattle.std.specs.FinMap as finmap
 use Rattle.std.specs.FinSet as set
 use Rattle.std.specs.List.{list_any}
 use Rattle.std.specs.Ordering.{eq_by_cmp, is_eq, nat_cmp, ordering_then}
@@ -16,18 +15,14 @@ use Rattle.ephemerals.specs.Grouped.{all_pairs}
 use Rattle.ephemerals.proofs.Ascending.{any-ascending}
 use Rattle.ephemerals.proofs.Ties.{tied_then}
 use Rattle.watch_manager.specs.Pairs.{ConnectionSet, WatchPairs, watch_cmp, sorted_connections}
-use Rattle.watch_manager.specs.Lasting.{LastingWatches, is_in_mode, watches_in}
 use Rattle.watch_manager.specs.Summary.{table_rank, watched_cmp, watched_in}
-use Rattle.watch_manager.specs.Ascending.{sorted_distinct, with_inserted_keys}
+use Rattle.watch_manager.specs.Ascending.{with_inserted_keys}
 use Rattle.watch_manager.specs.Totals.{watched_total}
 use Rattle.watch_manager.specs.Inner.Listing.{path_rows, rows_of, AddsInOrder}
-use Rattle.watch_manager.specs.declared.mode.WatchMode.{WatchMode}
-use Rattle.watch_manager.specs.declared.mode.WatchMode.TheVariants.{Persistent, Recursive}
 use Rattle.watch_manager.specs.declared.watched.Table.{Table}
 use Rattle.watch_manager.specs.declared.watched.Table.TheVariants.{Own, Child, Lasting}
 use Rattle.watch_manager.specs.declared.watched.Watched.{Watched}
 use Rattle.watch_manager.proofs.Totals.{watch_total, watch_exact}
-use Rattle.watch_manager.proofs.Lastings.{contains-watches_in}
 use Rattle.watch_manager.proofs.Ascending.{same_ascending, inserted-ascending}
 
 -- ---- the order of watches
@@ -204,48 +199,3 @@ ends table watches old now h before is =
     list_any-append (eq_by_cmp watched_cmp q) before (rows_of table h.all)
     ∙ ap (λ b. list_any (eq_by_cmp watched_cmp q) before || b) (any-table table h.all watches h.are q)
     ∙ sym (list_any-append (eq_by_cmp watched_cmp q) before (map (watched_in table) (set.items watches))))
-
--- ---- lasting watches, mode by mode
-
-any-lasting : (lasting : LastingWatches) (q : Watched)
-    → (list_any (eq_by_cmp watched_cmp q) (map (watched_in Lasting) (set.items (watches_in Persistent lasting)))
-    || list_any (eq_by_cmp watched_cmp q) (map (watched_in Lasting) (set.items (watches_in Recursive lasting))))
-    ≡ list_any (eq_by_cmp watched_cmp q) (map (watched_in Lasting) (finmap.keys lasting))
-any-lasting lasting q =
-    (λ i. of_mode Persistent i || of_mode Recursive i)
-    ∙ and_or (is_in_mode Persistent (finmap.get lasting (q.path, q.connection)))
-    (is_in_mode Recursive (finmap.get lasting (q.path, q.connection))) (same_table q Lasting)
-    ∙ ap (λ b. b && same_table q Lasting)
-    (either (finmap.get lasting (q.path, q.connection)) ∙ finmap.contains_key-keys lasting (q.path, q.connection))
-    ∙ sym (any-watched_in Lasting (finmap.keys lasting) q)
-  where
-    of_mode : (mode : WatchMode)
-        → list_any (eq_by_cmp watched_cmp q) (map (watched_in Lasting) (set.items (watches_in mode lasting)))
-        ≡ (is_in_mode mode (finmap.get lasting (q.path, q.connection)) && same_table q Lasting)
-    of_mode mode =
-        any-watched_in Lasting (set.items (watches_in mode lasting)) q
-        ∙ ap (λ b. b && same_table q Lasting)
-        (sym (set.contains-items (watches_in mode lasting) (q.path, q.connection))
-        ∙ contains-watches_in mode lasting (q.path, q.connection))
-
-    either : (found : Option WatchMode) → (is_in_mode Persistent found || is_in_mode Recursive found) ≡ is_some found
-    either None = refl
-    either (Some Persistent) = refl
-    either (Some Recursive) = refl
-
--- The watches of both modes are the lasting watches.
-pub lasting_rows : (before : List Watched) (lasting : LastingWatches)
-    → sorted_distinct watched_cmp
-    ((before ++ map (watched_in Lasting) (set.items (watches_in Persistent lasting)))
-    ++ map (watched_in Lasting) (set.items (watches_in Recursive lasting)))
-    ≡ sorted_distinct watched_cmp (before ++ map (watched_in Lasting) (finmap.keys lasting))
-lasting_rows before lasting =
-    let persistent = map (watched_in Lasting) (set.items (watches_in Persistent lasting)) in
-    let recursive = map (watched_in Lasting) (set.items (watches_in Recursive lasting)) in
-    ap (sorted_distinct watched_cmp) (append_assoc before persistent recursive)
-    ∙ same_ascending watched_total watched_exact (before ++ (persistent ++ recursive))
-    (before ++ map (watched_in Lasting) (finmap.keys lasting)) (λ q.
-    list_any-append (eq_by_cmp watched_cmp q) before (persistent ++ recursive)
-    ∙ ap (λ b. list_any (eq_by_cmp watched_cmp q) before || b)
-    (list_any-append (eq_by_cmp watched_cmp q) persistent recursive ∙ any-lasting lasting q)
-    ∙ sym (list_any-append (eq_by_cmp watched_cmp q) before (map (watched_in Lasting) (finmap.keys lasting))))

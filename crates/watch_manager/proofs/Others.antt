@@ -1,20 +1,17 @@
--- What one connection does with its watches leaves those of every other.
-use Rattle.std.proofs.Common.{◌≡◌, ◌≢◌, ℕ, Bool, true, false, cond, not, ◌&&◌, ◌||◌, Some, None, refl, sym, ap, ◌∙◌}
+-- What one connection does with its watches leaves those of every other, and what it removes is gone.
+use Rattle.std.proofs.Common.{◌≡◌, ◌≢◌, ℕ, Bool, true, false, not, ◌&&◌, ◌||◌, refl, sym, ap, ◌∙◌}
 use mathlib.Core.Bool.{and-true}
-use Rattle.std.specs.Ordering.{eq_by_cmp}
+use Rattle.std.specs.Ordering.{eq_by_cmp, is_eq}
+use Rattle.std.specs.Cmp.{tied_itself}
 use Rattle.std.proofs.lemmas.Map.Views.{tells_apart}
 use Rattle.std.proofs.lemmas.Map.Lookups.{exact_unsigned}
-use Rattle.std.specs.FinMap as finmap
 use Rattle.std.specs.FinSet as set
 use Rattle.ephemerals.specs.Orders.{Bytes}
 use Rattle.watch_manager.specs.Pairs.{WatchPairs, watch_cmp, without_connection, same_connection}
-use Rattle.watch_manager.specs.Lasting.{LastingWatches}
-use Rattle.watch_manager.specs.Watching.{without_lasting_of}
-use Rattle.watch_manager.specs.Laws.{OthersKeepWatches}
-use Rattle.watch_manager.specs.declared.mode.WatchMode.{WatchMode}
+use Rattle.watch_manager.specs.Laws.{OthersKeepWatches, RemovedIsGone}
+use Rattle.watch_manager.specs.declared.kind.WatchKind.TheVariants.{Child, Data, Any, Persistent, Recursive}
 use Rattle.watch_manager.proofs.Totals.{watch_total, watch_exact}
 use Rattle.watch_manager.proofs.Watchers.{contains-without_connection}
-use Rattle.watch_manager.proofs.Lastings.{get-without_lasting}
 
 sets : (pairs : WatchPairs) (path : Bytes) (connection : ℕ) (p : Bytes) (other : ℕ) → other ≢ connection
     → set.contains (set.insert pairs (path, connection)) (p, other) ≡ set.contains pairs (p, other)
@@ -23,6 +20,18 @@ sets pairs path connection p other apart =
     ∙ by (eq_by_cmp watch_cmp (p, other) (path, connection)) refl
   where
     by : (b : Bool) → eq_by_cmp watch_cmp (p, other) (path, connection) ≡ b → (b || set.contains pairs (p, other))
+        ≡ set.contains pairs (p, other)
+    by true same = absurd (apart (ap (λ (q : Bytes × ℕ). q.1)
+        (tells_apart watch_exact (p, other) (path, connection) same)))
+    by false differ = refl
+
+removes : (pairs : WatchPairs) (path : Bytes) (connection : ℕ) (p : Bytes) (other : ℕ) → other ≢ connection
+    → set.contains (set.remove pairs (path, connection)) (p, other) ≡ set.contains pairs (p, other)
+removes pairs path connection p other apart =
+    set.contains-remove watch_total pairs (path, connection) (p, other)
+    ∙ by (eq_by_cmp watch_cmp (p, other) (path, connection)) refl
+  where
+    by : (b : Bool) → eq_by_cmp watch_cmp (p, other) (path, connection) ≡ b → (not b && set.contains pairs (p, other))
         ≡ set.contains pairs (p, other)
     by true same = absurd (apart (ap (λ (q : Bytes × ℕ). q.1)
         (tells_apart watch_exact (p, other) (path, connection) same)))
@@ -38,33 +47,23 @@ drops pairs connection p other apart = contains-without_connection connection pa
     by true same = absurd (apart (sym (tells_apart exact_unsigned connection other same)))
     by false differ = and-true (set.contains pairs (p, other))
 
-sets_lasting : (lasting : LastingWatches) (path : Bytes) (connection : ℕ) (mode : WatchMode) (p : Bytes) (other : ℕ)
-    → other ≢ connection → finmap.get (finmap.insert lasting (path, connection) mode) (p, other) ≡ finmap.get lasting
-    (p, other)
-sets_lasting lasting path connection mode p other apart =
-    finmap.get-insert watch_total lasting (path, connection) mode (p, other)
-    ∙ by (eq_by_cmp watch_cmp (p, other) (path, connection)) refl
-  where
-    by : (b : Bool) → eq_by_cmp watch_cmp (p, other) (path, connection) ≡ b
-        → cond b (Some mode) (finmap.get lasting (p, other)) ≡ finmap.get lasting (p, other)
-    by true same = absurd (apart (ap (λ (q : Bytes × ℕ). q.1)
-        (tells_apart watch_exact (p, other) (path, connection) same)))
-    by false differ = refl
+gone : (pairs : WatchPairs) (p : Bytes × ℕ) → set.contains (set.remove pairs p) p ≡ false
+gone pairs p =
+    set.contains-remove watch_total pairs p p
+    ∙ ap (λ r. not (is_eq r) && set.contains pairs p) (tied_itself watch_total p)
 
-drops_lasting : (lasting : LastingWatches) (connection : ℕ) (p : Bytes) (other : ℕ) → other ≢ connection
-    → finmap.get (without_lasting_of connection lasting) (p, other) ≡ finmap.get lasting (p, other)
-drops_lasting lasting connection p other apart =
-    get-without_lasting connection lasting (p, other) ∙ by (same_connection connection other) refl
-  where
-    by : (b : Bool) → same_connection connection other ≡ b
-        → cond (not b) (finmap.get lasting (p, other)) None ≡ finmap.get lasting (p, other)
-    by true same = absurd (apart (sym (tells_apart exact_unsigned connection other same)))
-    by false differ = refl
+pub removed_is_gone : RemovedIsGone
+removed_is_gone w Child connection path = gone w.child (path, connection)
+removed_is_gone w Data connection path = gone w.data_watches (path, connection)
+removed_is_gone w Persistent connection path = gone w.lasting.persistent (path, connection)
+removed_is_gone w Recursive connection path = gone w.lasting.recursive (path, connection)
+removed_is_gone w Any connection path =
+    λ i. gone w.child (path, connection) i || gone w.data_watches (path, connection) i
+    || gone w.lasting.persistent (path, connection) i || gone w.lasting.recursive (path, connection) i
 
 pub others_keep_watches : OthersKeepWatches
 others_keep_watches = record {
   sets = sets;
+  removes = removes;
   drops = drops;
-  sets_lasting = sets_lasting;
-  drops_lasting = drops_lasting;
 }

@@ -228,28 +228,6 @@ module _ {K : Type 0} {R : K → K → Ordering} (o : IsTotalOrder R) (exact : C
         by true found = refl
         by false found = refl
 
-    len-entries-listed : (es : List (K × X))
-        → finmap.len (finmap.from_entries {R = R} es) ≡ set.len (set.from_list {R = R} (map (λ (e : K × X). e.0) es))
-    len-entries-listed [] = finmap.len-empty R X ∙ sym (set.len-empty R)
-    len-entries-listed (e ∷ es) =
-        finmap.len-insert o (finmap.from_entries es) e.0 e.1
-        ∙ (λ i. cond (there i) (len-entries-listed es i) (len-entries-listed es i + 1))
-        ∙ sym (set.len-insert o (set.from_list (map (λ (x : K × X). x.0) es)) e.0)
-      where
-        there : finmap.contains_key (finmap.from_entries {R = R} es) e.0
-            ≡ set.contains (set.from_list {R = R} (map (λ (x : K × X). x.0) es)) e.0
-        there =
-            ap is_some (finmap.get-from_entries o es e.0)
-            ∙ found-named e.0 es
-            ∙ sym (set.contains-from_list o (map (λ (x : K × X). x.0) es) e.0)
-
-    -- A map has as many entries as keys.
-    pub len-keys : (m : finmap.FinMap R X) → finmap.len m ≡ set.len (set.from_list {R = R} (finmap.keys m))
-    len-keys m =
-        ap finmap.len (finmap.same_map o exact m (finmap.from_entries (finmap.entries m)) (λ q.
-        finmap.get-entries m q ∙ sym (finmap.get-from_entries o (finmap.entries m) q)))
-        ∙ len-entries-listed (finmap.entries m)
-
 -- ---- an image
 
 module _ {K L : Type 0} {R : K → K → Ordering} {S : L → L → Ordering} (o : IsTotalOrder R) (exact : CmpEqualImpliesEq R)

@@ -178,17 +178,6 @@ any-second : (d : ℕ) (ps : List (Bytes × ℕ))
 any-second d [] = refl
 any-second d (p ∷ ps) = ap (λ b. eq_by_cmp nat_cmp d p.1 || b) (any-second d ps)
 
--- Two lists with the same watches have the same connections.
-pub same-seconds : (us vs : List (Bytes × ℕ))
-    → ((r : Bytes × ℕ) → list_any (eq_by_cmp watch_cmp r) us ≡ list_any (eq_by_cmp watch_cmp r) vs) → (d : ℕ)
-    → list_any (eq_by_cmp nat_cmp d) (map (λ (p : Bytes × ℕ). p.1) us)
-    ≡ list_any (eq_by_cmp nat_cmp d) (map (λ (p : Bytes × ℕ). p.1) vs)
-same-seconds us vs same d =
-    any-second d us
-    ∙ same-keys nat_cmp_total path_total exact_unsigned exact_bytes (swapped us) (swapped vs)
-    (λ r. any-swapped r us ∙ same (r.1, r.0) ∙ sym (any-swapped r vs)) d
-    ∙ sym (any-second d vs)
-
 pub same-connections : (pairs : WatchPairs) (turn : ConnPairs) → AgreeOn pairs turn
     → keys_in nat_cmp turn ≡ connections_in pairs
 same-connections pairs turn agree = set.same_set nat_cmp_total exact_unsigned _ _ (λ d.

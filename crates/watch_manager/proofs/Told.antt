@@ -1,7 +1,6 @@
 -- The connections that get an event, and how often.
-use Rattle.std.proofs.Common.{◌≡◌, ℕ, List, [], ◌∷◌, ◌++◌, Bool, true, false, cond, not, ◌||◌, ◌&&◌, T, None, refl, sym, ap, subst, ◌∙◌, map}
+use Rattle.std.proofs.Common.{◌≡◌, ℕ, List, [], ◌∷◌, ◌++◌, Bool, true, false, cond, not, ◌||◌, ◌&&◌, T, refl, sym, ap, subst, ◌∙◌, map}
 use mathlib.Core.Bool.{true≢false}
-use Rattle.std.specs.Prelude.{is_some}
 use Rattle.std.proofs.Math.Bool.{or-true}
 use Rattle.std.specs.declared.cmp.Ordering.{Ordering}
 use Rattle.std.specs.declared.cmp.Ordering.TheVariants.{Less, Equal, Greater}
@@ -19,8 +18,8 @@ use Rattle.ephemerals.specs.Orders.{Bytes}
 use Rattle.data_tree.specs.declared.outcome.Trigger.{Trigger}
 use Rattle.data_tree.specs.declared.outcome.Trigger.TheVariants.{Created, Deleted, DataChanged, ChildrenChanged}
 use Rattle.watch_manager.specs.Pairs.{ConnectionSet, WatchPairs, sorted_connections, watchers_of, without_watches_on, without_connection, same_connection}
-use Rattle.watch_manager.specs.Lasting.{LastingWatches, watches_in, watchers_above, persistent_watchers, lasting_watchers}
-use Rattle.watch_manager.specs.Watching.{WatchTables, without_watches_of, without_lasting_of}
+use Rattle.watch_manager.specs.Lasting.{LastingWatches, watchers_above, persistent_watchers, lasting_watchers}
+use Rattle.watch_manager.specs.Watching.{WatchTables, without_watches_of}
 use Rattle.watch_manager.specs.Watches.{events_for, connections_not_told, node_watchers, children_watchers, events_of_trigger, watches_after, fire}
 use Rattle.watch_manager.specs.Laws.{AllPass, AllLastingPass, WatchersPass}
 use Rattle.watch_manager.specs.declared.event.Event.{Event}
@@ -28,10 +27,7 @@ use Rattle.watch_manager.specs.declared.event.EventKind.{EventKind}
 use Rattle.watch_manager.specs.declared.event.EventKind.TheVariants.{NodeDeleted}
 use Rattle.ephemerals.proofs.Ascending.{any-ascending}
 use Rattle.ephemerals.proofs.Grouped.{front_holds, rest_holds}
-use Rattle.watch_manager.specs.declared.mode.WatchMode.{WatchMode}
-use Rattle.watch_manager.specs.declared.mode.WatchMode.TheVariants.{Persistent, Recursive}
 use Rattle.watch_manager.proofs.Watchers.{contains-watchers, contains-without_path, contains-without_connection}
-use Rattle.watch_manager.proofs.Lastings.{in_mode-is_set, get-without_lasting}
 use Rattle.watch_manager.proofs.Aboves.{watched_at, paths_up, contains-watchers_above}
 
 -- Lists in which each element has a property.
@@ -100,14 +96,9 @@ of_both test conns others h k q t =
     by true first e = first refl
     by false first e = k q e
 
-in_mode-all : (test : ℕ → Bool) (mode : WatchMode) (lasting : LastingWatches) → AllLastingPass test lasting
-    → AllPass test (watches_in mode lasting)
-in_mode-all test mode lasting h path connection t = h path connection (in_mode-is_set mode lasting (path, connection) t)
-
 persistent-all : (test : ℕ → Bool) (path : Bytes) (lasting : LastingWatches) → AllLastingPass test lasting → (q : ℕ)
     → set.contains (persistent_watchers path lasting) q ≡ true → test q ≡ true
-persistent-all test path lasting h =
-    child-all test path (watches_in Persistent lasting) (in_mode-all test Persistent lasting h)
+persistent-all test path lasting h = child-all test path lasting.persistent h.0
 
 above-all : (test : ℕ → Bool) (path : Bytes) (pairs : WatchPairs) → AllPass test pairs → (q : ℕ)
     → set.contains (watchers_above path pairs) q ≡ true → test q ≡ true
@@ -127,9 +118,9 @@ node-all : (test : ℕ → Bool) (path : Bytes) (w : WatchTables) → WatchersPa
 node-all test path w h =
     of_both test (watchers_of path w.data_watches) (lasting_watchers path w.lasting)
     (child-all test path w.data_watches h.0)
-    (of_both test (persistent_watchers path w.lasting) (watchers_above path (watches_in Recursive w.lasting))
+    (of_both test (persistent_watchers path w.lasting) (watchers_above path w.lasting.recursive)
     (persistent-all test path w.lasting h.2)
-    (above-all test path (watches_in Recursive w.lasting) (in_mode-all test Recursive w.lasting h.2)))
+    (above-all test path w.lasting.recursive h.2.1))
 
 children-all : (test : ℕ → Bool) (path : Bytes) (w : WatchTables) → WatchersPass test w → (q : ℕ)
     → set.contains (children_watchers path w) q ≡ true → test q ≡ true
@@ -193,26 +184,16 @@ without_connection-all test connection pairs h p c t =
     by true false false h e = h refl
     by false same passes h e = absurd (true≢false (sym e))
 
-without_lasting-all : (test : ℕ → Bool) (connection : ℕ) (lasting : LastingWatches)
-    → AllLastingPass (λ c. test c || same_connection connection c) lasting
-    → AllLastingPass test (without_lasting_of connection lasting)
-without_lasting-all test connection lasting h p c t =
-    by (same_connection connection c) (test c) (h p c)
-    (sym (ap (λ found. is_some found) (get-without_lasting connection lasting (p, c))) ∙ t)
-  where
-    by : (same passes : Bool) → (finmap.contains_key lasting (p, c) ≡ true → (passes || same) ≡ true)
-        → is_some (cond (not same) (finmap.get lasting (p, c)) None) ≡ true → passes ≡ true
-    by true passes h e = absurd (true≢false (sym e))
-    by false true h e = refl
-    by false false h e = h e
-
 pub dropped-all : (test : ℕ → Bool) (w : WatchTables) (connection : ℕ)
     → WatchersPass (λ c. test c || same_connection connection c) w
     → WatchersPass test (without_watches_of connection w)
 dropped-all test w connection h = (
   without_connection-all test connection w.data_watches h.0,
   without_connection-all test connection w.child h.1,
-  without_lasting-all test connection w.lasting h.2,
+  (
+    without_connection-all test connection w.lasting.persistent h.2.0,
+    without_connection-all test connection w.lasting.recursive h.2.1,
+  ),
 )
 
 -- The list of a set has each connection once.

@@ -4,22 +4,18 @@ use Rattle.std.specs.List.{filter}
 use Rattle.std.specs.Ordering.{nat_cmp}
 use Rattle.std.specs.Cmp.{nat_cmp_total}
 use Rattle.std.proofs.lemmas.Map.Lookups.{exact_unsigned}
-use Rattle.std.specs.FinMap as finmap
 use Rattle.std.specs.FinSet as set
 use Rattle.ephemerals.specs.Orders.{Bytes}
 use Rattle.ephemerals.proofs.Ascending.{any-ascending}
 use Rattle.data_tree.specs.declared.outcome.Trigger.{Trigger}
 use Rattle.data_tree.specs.declared.outcome.Trigger.TheVariants.{Created, Deleted, DataChanged, ChildrenChanged}
-use Rattle.watch_manager.specs.Pairs.{ConnectionSet, WatchPairs, watch_cmp, same_path, sorted_connections, watchers_of}
-use Rattle.watch_manager.specs.Lasting.{is_above, watches_in, watchers_above, persistent_watchers, lasting_watchers}
-use Rattle.watch_manager.specs.Inner.Lasting.{lasting_of, HaveOneMode}
+use Rattle.watch_manager.specs.Pairs.{ConnectionSet, watch_cmp, same_path, sorted_connections, watchers_of}
+use Rattle.watch_manager.specs.Lasting.{no_lasting_watch, is_above, watchers_above, lasting_watchers}
 use Rattle.watch_manager.specs.Watching.{no_watch}
 use Rattle.watch_manager.specs.Watches.{events_for, connections_not_told, node_watchers, events_of_trigger, watches_after, fire}
 use Rattle.watch_manager.specs.declared.event.EventKind.{EventKind}
 use Rattle.watch_manager.specs.declared.event.EventKind.TheVariants.{NodeDeleted}
-use Rattle.watch_manager.specs.declared.mode.WatchMode.TheVariants.{Persistent, Recursive}
 use Rattle.watch_manager.proofs.Totals.{watch_total}
-use Rattle.watch_manager.proofs.Lastings.{are_persistent, are_recursive, lasting-empty, apart-empty}
 use Rattle.watch_manager.proofs.Emptiness.{nothing_found, nobody}
 use Rattle.watch_manager.proofs.Silent.{after-silent, silent}
 
@@ -32,24 +28,13 @@ nobody_above path =
     ap (λ ps. set.from_list (map (λ (p : Bytes × ℕ). p.1)
     (filter (λ (p : Bytes × ℕ). same_path p.0 path || is_above p.0 path) ps))) no_pairs
 
-none_persistent : watches_in Persistent finmap.empty ≡ set.empty
-none_persistent = sym (are_persistent set.empty set.empty ∙ ap (λ l. watches_in Persistent l) lasting-empty)
-
-none_recursive : watches_in Recursive finmap.empty ≡ set.empty
-none_recursive = sym (are_recursive set.empty set.empty apart-empty ∙ ap (λ l. watches_in Recursive l) lasting-empty)
-
 neither : set.union (set.empty {R = nat_cmp}) set.empty ≡ set.empty
 neither = set.same_set nat_cmp_total exact_unsigned _ _ (λ q.
     set.contains-union nat_cmp_total set.empty set.empty q
     ∙ ap (λ b. b || set.contains (set.empty {R = nat_cmp}) q) (set.contains-empty nat_cmp q))
 
-nobody_persistent : (path : Bytes) → persistent_watchers path finmap.empty ≡ set.empty
-nobody_persistent path = ap (watchers_of path) none_persistent ∙ nobody path
-
-nobody_lasting : (path : Bytes) → lasting_watchers path finmap.empty ≡ set.empty
-nobody_lasting path =
-    (λ i. set.union (nobody_persistent path i) (watchers_above path (none_recursive i)))
-    ∙ ap (set.union set.empty) (nobody_above path) ∙ neither
+nobody_lasting : (path : Bytes) → lasting_watchers path no_lasting_watch ≡ set.empty
+nobody_lasting path = (λ i. set.union (nobody path i) (nobody_above path i)) ∙ neither
 
 nobody_at : (path : Bytes) → node_watchers path no_watch ≡ set.empty
 nobody_at path = (λ i. set.union (nobody path i) (nobody_lasting path i)) ∙ neither
@@ -74,7 +59,7 @@ no_event (Deleted path) =
     (filter (λ (connection : ℕ). not (set.contains (node_watchers path no_watch) connection)) ns)) none_sorted
 no_event (DataChanged path) = none_told _ path _ (nobody_at path)
 no_event (ChildrenChanged path) =
-    none_told _ path _ ((λ i. set.union (nobody path i) (nobody_persistent path i)) ∙ neither)
+    none_told _ path _ ((λ i. set.union (nobody path i) (nobody path i)) ∙ neither)
 
 pub no_events : (ts : List Trigger) → (fire no_watch ts).events ≡ []
 no_events [] = refl
@@ -86,15 +71,3 @@ no_events (t ∷ ts) =
 -- Nothing is left, either.
 pub none_left : (ts : List Trigger) → no_watch ≡ (fire no_watch ts).left
 none_left ts = silent no_watch ts (no_events ts)
-
--- No watch of either mode.
-pub no_lasting : (persistent recursive : WatchPairs) → persistent ≡ set.empty → recursive ≡ set.empty
-    → lasting_of persistent recursive ≡ finmap.empty
-no_lasting persistent recursive p r = (λ i. lasting_of (p i) (r i)) ∙ lasting-empty
-
-pub none_of_lasting : (persistent recursive : WatchPairs) → HaveOneMode persistent recursive
-    → lasting_of persistent recursive ≡ finmap.empty → (persistent ≡ set.empty) × (recursive ≡ set.empty)
-none_of_lasting persistent recursive apart none = (
-  are_persistent persistent recursive ∙ ap (λ l. watches_in Persistent l) none ∙ none_persistent,
-  are_recursive persistent recursive apart ∙ ap (λ l. watches_in Recursive l) none ∙ none_recursive,
-)

@@ -1,20 +1,20 @@
 -- How much is watched, and by how many connections.
 use Rattle.std.specs.Prelude.{ℕ, ◌+◌, List, ◌++◌, map}
-use Rattle.std.specs.FinMap as finmap
 use Rattle.std.specs.FinSet as set
 use Rattle.ephemerals.specs.Orders.{Bytes, Names}
-use Rattle.watch_manager.specs.Pairs.{ConnectionSet, pairs_of_connection, same_connection}
+use Rattle.watch_manager.specs.Pairs.{ConnectionSet, pairs_of_connection}
 use Rattle.watch_manager.specs.Lasting.{LastingWatches}
 use Rattle.watch_manager.specs.Watching.{WatchTables}
 use Rattle.watch_manager.specs.declared.counts.WatchCounts.{WatchCounts}
 
--- A connection that watches a path in two tables has two watches on it.
+-- A connection that watches a path in two tables, or in both modes, has two watches on it.
 abbrev pub watch_count : WatchTables → ℕ
-watch_count w = set.len w.data_watches + set.len w.child + finmap.len w.lasting
+watch_count w = set.len w.data_watches + set.len w.child + set.len w.lasting.persistent + set.len w.lasting.recursive
 
 -- The path and the connection of each watch.
 abbrev pub pairs_watched : WatchTables → List (Bytes × ℕ)
-pairs_watched w = set.items w.data_watches ++ set.items w.child ++ finmap.keys w.lasting
+pairs_watched w =
+    set.items w.data_watches ++ set.items w.child ++ set.items w.lasting.persistent ++ set.items w.lasting.recursive
 
 -- The paths that are watched in any table.
 abbrev pub watched_paths : WatchTables → Names
@@ -32,8 +32,10 @@ counts_of w = record {
 }
 
 abbrev pub lasting_of_connection : ℕ → LastingWatches → LastingWatches
-lasting_of_connection connection lasting = finmap.retain_keys lasting
-    (λ (p : Bytes × ℕ). same_connection connection p.1)
+lasting_of_connection connection lasting = record {
+  persistent = pairs_of_connection connection lasting.persistent;
+  recursive = pairs_of_connection connection lasting.recursive;
+}
 
 -- The watches of one connection.
 abbrev pub watches_of : ℕ → WatchTables → WatchTables

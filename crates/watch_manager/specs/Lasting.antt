@@ -1,46 +1,45 @@
--- Watches that no change uses up. A persistent watch is on a path, a recursive one on a path and on all below it.
-use Rattle.std.specs.Prelude.{◌≡◌, ℕ, ◌++◌, Bool, true, false, not, ◌&&◌, ◌||◌, Option, Some, None, nat_eq, codes, map, refl}
-use Rattle.std.specs.Coded.{Coded, code_by, coded_bool}
+-- Watches that no change uses up. A persistent watch is on a path, a recursive one on a path and on all below it. A
+-- connection may have both on one path.
+use Rattle.std.specs.Prelude.{ℕ, [], ◌∷◌, ◌++◌, Bool, false, not, ◌&&◌, ◌||◌, nat_eq, codes, map, refl}
+use Rattle.std.specs.Coded.{Coded, code_by, coded×, coded_ℕ, coded_list}
 use Rattle.std.specs.List.{filter, starts_with}
-use Rattle.std.specs.FinMap as finmap
 use Rattle.std.specs.FinSet as set
 use Rattle.ephemerals.specs.Orders.{Bytes}
 use Rattle.watch_manager.specs.Pairs.{ConnectionSet, WatchPairs, watch_cmp, same_path, watchers_of}
 use Rattle.watch_manager.specs.declared.mode.WatchMode.{WatchMode}
 use Rattle.watch_manager.specs.declared.mode.WatchMode.TheVariants.{Persistent, Recursive}
 
-abbrev pub mode_of : Bool → WatchMode
-mode_of true = Recursive
-mode_of false = Persistent
+pub record LastingWatches : Type 0 where
+  pub persistent : WatchPairs
+  pub recursive : WatchPairs
 
-abbrev pub is_recursive : WatchMode → Bool
-is_recursive Persistent = false
-is_recursive Recursive = true
+abbrev pub no_lasting_watch : LastingWatches
+no_lasting_watch = record { persistent = set.empty; recursive = set.empty }
 
-abbrev pub same_mode : WatchMode → WatchMode → Bool
-same_mode Persistent mode = not (is_recursive mode)
-same_mode Recursive mode = is_recursive mode
+abbrev pub watches_in : WatchMode → LastingWatches → WatchPairs
+watches_in Persistent lasting = lasting.persistent
+watches_in Recursive lasting = lasting.recursive
 
--- From a path and a connection to the mode.
-abbrev pub LastingWatches : Type 0
-LastingWatches = finmap.FinMap watch_cmp WatchMode
+-- With these watches in the mode, in place of those that it had.
+abbrev pub put_in : WatchMode → WatchPairs → LastingWatches → LastingWatches
+put_in Persistent pairs lasting = record lasting { persistent = pairs }
+put_in Recursive pairs lasting = record lasting { recursive = pairs }
+
+abbrev pub with_watch_in : WatchMode → Bytes × ℕ → LastingWatches → LastingWatches
+with_watch_in mode p lasting = put_in mode (set.insert (watches_in mode lasting) p) lasting
+
+abbrev pub without_watch_in : WatchMode → Bytes × ℕ → LastingWatches → LastingWatches
+without_watch_in mode p lasting = put_in mode (set.remove (watches_in mode lasting) p) lasting
 
 abbrev pub root_path : Bytes
 root_path = codes "/"
 
 -- Whether the first path is a proper ancestor of the second. The ancestors of a path are its proper fronts that end
--- just before a "/", and "/". So "/a" isn't above "/ab", and "/a/" isn't above "/a/b".
+-- just before a "/", and "/". So "/a" isn't above "/ab", "/a/" isn't above "/a/b", and the empty text is above nothing.
 abbrev pub is_above : Bytes → Bytes → Bool
-is_above a q = (same_path a root_path && not (same_path q root_path)) || starts_with nat_eq q (a ++ root_path)
-
-abbrev pub is_in_mode : WatchMode → Option WatchMode → Bool
-is_in_mode mode None = false
-is_in_mode mode (Some found) = same_mode mode found
-
--- The watches of this mode.
-abbrev pub watches_in : WatchMode → LastingWatches → WatchPairs
-watches_in mode lasting =
-    set.retain (set.from_list (finmap.keys lasting)) (λ (p : Bytes × ℕ). is_in_mode mode (finmap.get lasting p))
+is_above [] q = false
+is_above (b ∷ a) q =
+    (same_path (b ∷ a) root_path && not (same_path q root_path)) || starts_with nat_eq q (b ∷ a ++ root_path)
 
 -- The connections that watch the path or one above it.
 abbrev pub watchers_above : Bytes → WatchPairs → ConnectionSet
@@ -50,16 +49,17 @@ watchers_above path pairs =
 
 -- The connections with a persistent watch on the path.
 abbrev pub persistent_watchers : Bytes → LastingWatches → ConnectionSet
-persistent_watchers path lasting = watchers_of path (watches_in Persistent lasting)
+persistent_watchers path lasting = watchers_of path lasting.persistent
 
 -- The connections with a watch of either mode on the path, or with a recursive watch above it.
 abbrev pub lasting_watchers : Bytes → LastingWatches → ConnectionSet
 lasting_watchers path lasting =
-    set.union (persistent_watchers path lasting) (watchers_above path (watches_in Recursive lasting))
+    set.union (persistent_watchers path lasting) (watchers_above path lasting.recursive)
 
-pub recursive_again : (mode : WatchMode) → mode_of (is_recursive mode) ≡ mode
-recursive_again Persistent = refl
-recursive_again Recursive = refl
+abbrev pub watch_pairs_code : Coded WatchPairs
+watch_pairs_code = set.code {R = watch_cmp} (coded× (coded_list coded_ℕ) coded_ℕ)
 
-abbrev pub watch_mode_code : Coded WatchMode
-watch_mode_code = code_by Bool coded_bool is_recursive mode_of recursive_again
+abbrev pub lasting_watches_code : Coded LastingWatches
+lasting_watches_code =
+    code_by (WatchPairs × WatchPairs) (coded× watch_pairs_code watch_pairs_code)
+    (λ l. (l.persistent, l.recursive)) (λ p. record { persistent = p.0; recursive = p.1 }) (λ _. refl)

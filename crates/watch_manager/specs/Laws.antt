@@ -1,21 +1,20 @@
 -- What holds for each firing, with any watches and any triggers.
-use Rattle.std.specs.Prelude.{◌≡◌, ◌≢◌, ℕ, List, [], ◌++◌, Bool, true, ◌||◌, map, Some, Contains}
+use Rattle.std.specs.Prelude.{◌≡◌, ◌≢◌, ℕ, List, [], ◌++◌, Bool, true, false, ◌||◌, map, Contains}
 use Rattle.std.specs.List.{AllByRecursion, IsDistinct}
 use Rattle.std.specs.List.Sorted.{IsStrictlySortedBy}
 use Rattle.std.specs.Ordering.{nat_cmp}
-use Rattle.std.specs.FinMap as finmap
 use Rattle.std.specs.FinSet as set
 use Rattle.ephemerals.specs.Orders.{Bytes}
 use Rattle.data_tree.specs.declared.outcome.Trigger.{Trigger}
 use Rattle.data_tree.specs.declared.outcome.Trigger.TheVariants.{Created, Deleted, DataChanged, ChildrenChanged}
 use Rattle.watch_manager.specs.Pairs.{WatchPairs, without_connection, same_connection, same_path}
 use Rattle.watch_manager.specs.Lasting.{LastingWatches, is_above}
-use Rattle.watch_manager.specs.Watching.{WatchTables, without_watches_of, without_lasting_of}
+use Rattle.watch_manager.specs.Watching.{WatchTables, without_watches_of}
+use Rattle.watch_manager.specs.Kinds.{has_watch, without_watch}
 use Rattle.watch_manager.specs.Watches.{event_for, events_of_trigger, fire}
 use Rattle.watch_manager.specs.declared.event.Event.{Event}
+use Rattle.watch_manager.specs.declared.kind.WatchKind.{WatchKind}
 use Rattle.watch_manager.specs.declared.event.EventKind.TheVariants.{NodeCreated, NodeDeleted, NodeDataChanged}
-use Rattle.watch_manager.specs.declared.mode.WatchMode.{WatchMode}
-use Rattle.watch_manager.specs.declared.mode.WatchMode.TheVariants.{Recursive}
 
 -- A trigger sends a connection at most one event.
 abbrev pub ConnectionsAreToldOnce : Type 0
@@ -30,8 +29,7 @@ AllPass test pairs = (path : Bytes) (connection : ℕ) → set.contains pairs (p
 
 -- Each connection with a lasting watch passes the test.
 abbrev pub AllLastingPass : (ℕ → Bool) → LastingWatches → Type 0
-AllLastingPass test lasting =
-    (path : Bytes) (connection : ℕ) → finmap.contains_key lasting (path, connection) ≡ true → test connection ≡ true
+AllLastingPass test lasting = AllPass test lasting.persistent × AllPass test lasting.recursive
 
 -- Each connection that watches something passes the test.
 abbrev pub WatchersPass : (ℕ → Bool) → WatchTables → Type 0
@@ -56,18 +54,20 @@ DroppedWatchesNothing =
     (test : ℕ → Bool) (w : WatchTables) (connection : ℕ) → WatchersPass (λ c. test c || same_connection connection c) w
     → WatchersPass test (without_watches_of connection w)
 
--- Setting a watch and dropping a connection leave the watches of every other connection.
+-- Setting a watch, removing one and dropping a connection leave the watches of every other connection.
 pub record OthersKeepWatches : Type 0 where
   pub sets : (pairs : WatchPairs) (path : Bytes) (connection : ℕ) (p : Bytes) (other : ℕ) → other ≢ connection
       → set.contains (set.insert pairs (path, connection)) (p, other) ≡ set.contains pairs (p, other)
+  pub removes : (pairs : WatchPairs) (path : Bytes) (connection : ℕ) (p : Bytes) (other : ℕ) → other ≢ connection
+      → set.contains (set.remove pairs (path, connection)) (p, other) ≡ set.contains pairs (p, other)
   pub drops : (pairs : WatchPairs) (connection : ℕ) (p : Bytes) (other : ℕ) → other ≢ connection
       → set.contains (without_connection connection pairs) (p, other) ≡ set.contains pairs (p, other)
-  pub sets_lasting : (lasting : LastingWatches) (path : Bytes) (connection : ℕ) (mode : WatchMode) (p : Bytes)
-      (other : ℕ)
-      → other ≢ connection → finmap.get (finmap.insert lasting (path, connection) mode) (p, other)
-      ≡ finmap.get lasting (p, other)
-  pub drops_lasting : (lasting : LastingWatches) (connection : ℕ) (p : Bytes) (other : ℕ) → other ≢ connection
-      → finmap.get (without_lasting_of connection lasting) (p, other) ≡ finmap.get lasting (p, other)
+
+-- A connection has no watch of a kind that was removed.
+abbrev pub RemovedIsGone : Type 0
+RemovedIsGone =
+    (w : WatchTables) (kind : WatchKind) (connection : ℕ) (path : Bytes)
+    → has_watch kind connection path (without_watch kind connection path w) ≡ false
 
 -- No trigger uses up a lasting watch.
 abbrev pub LastingWatchesStay : Type 0
@@ -76,7 +76,7 @@ LastingWatchesStay = (w : WatchTables) (triggers : List Trigger) → (fire w tri
 -- The connection has a recursive watch on the path or above it.
 pub record WatchesRecursively (w : WatchTables) (path : Bytes) (connection : ℕ) : Type 0 where
   pub on : Bytes
-  pub is_set : finmap.get w.lasting (on, connection) ≡ Some Recursive
+  pub is_set : set.contains w.lasting.recursive (on, connection) ≡ true
   pub reaches : (same_path on path || is_above on path) ≡ true
 
 -- It is told of each creation, deletion and change of data.

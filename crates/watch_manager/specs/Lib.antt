@@ -1,6 +1,7 @@
 pub mod Pairs
 pub mod Lasting
 pub mod Watching
+pub mod Kinds
 pub mod Events
 pub mod Watches
 pub mod Ascending

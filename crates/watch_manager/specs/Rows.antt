@@ -1,16 +1,13 @@
 -- Rows that were worked out by hand: watches, triggers, and the events that they cause.
 use Rattle.std.specs.Prelude.{◌≡◌, ℕ, List, [], ◌∷◌, codes}
-use Rattle.std.specs.FinMap as finmap
 use Rattle.std.specs.FinSet as set
 use Rattle.ephemerals.specs.Orders.{Bytes}
 use Rattle.data_tree.specs.declared.outcome.Trigger.TheVariants.{Created, Deleted, DataChanged, ChildrenChanged}
 use Rattle.watch_manager.specs.Watching.{WatchTables, no_watch}
-use Rattle.watch_manager.specs.Lasting.{root_path}
+use Rattle.watch_manager.specs.Lasting.{no_lasting_watch, root_path}
 use Rattle.watch_manager.specs.Watches.{FireResult, event_for, fire}
 use Rattle.watch_manager.specs.declared.event.Event.{Event}
 use Rattle.watch_manager.specs.declared.event.EventKind.TheVariants.{NodeCreated, NodeDeleted, NodeDataChanged, NodeChildrenChanged}
-use Rattle.watch_manager.specs.declared.mode.WatchMode.{WatchMode}
-use Rattle.watch_manager.specs.declared.mode.WatchMode.TheVariants.{Persistent, Recursive}
 
 abbrev pub path_a : Bytes
 path_a = codes "/a"
@@ -35,12 +32,14 @@ abbrev pub watches_on : List (Bytes × ℕ) → List (Bytes × ℕ) → WatchTab
 watches_on data_watches child = record {
   data_watches = set.from_list data_watches;
   child = set.from_list child;
-  lasting = finmap.empty;
+  lasting = no_lasting_watch;
 }
 
--- With these lasting watches.
-abbrev pub lasting_on : List ((Bytes × ℕ) × WatchMode) → WatchTables → WatchTables
-lasting_on lasting w = record w { lasting = finmap.from_entries lasting }
+-- With these persistent watches and recursive watches.
+abbrev pub lasting_on : List (Bytes × ℕ) → List (Bytes × ℕ) → WatchTables → WatchTables
+lasting_on persistent recursive w = record w {
+  lasting = record { persistent = set.from_list persistent; recursive = set.from_list recursive };
+}
 
 abbrev pub result_without_watches : List (ℕ × Event) → FireResult
 result_without_watches events = record { events = events; left = no_watch }
@@ -67,30 +66,45 @@ pub record WorkedRows : Type 0 where
       (event_for 1 NodeCreated path_a ∷ [])
   -- A create of /a tells of /a alone where the watch on "/" is recursive, and of "/" alone where it is persistent.
   pub recursive_root :
-      fire (lasting_on (((root_path, 1), Recursive) ∷ []) no_watch)
+      fire (lasting_on [] ((root_path, 1) ∷ []) no_watch)
       (Created path_a ∷ ChildrenChanged root_path ∷ []) ≡ (record {
         events = event_for 1 NodeCreated path_a ∷ [];
-        left = lasting_on (((root_path, 1), Recursive) ∷ []) no_watch;
+        left = lasting_on [] ((root_path, 1) ∷ []) no_watch;
       })
   pub persistent_root :
-      fire (lasting_on (((root_path, 1), Persistent) ∷ []) no_watch)
+      fire (lasting_on ((root_path, 1) ∷ []) [] no_watch)
       (Created path_a ∷ ChildrenChanged root_path ∷ []) ≡ (record {
         events = event_for 1 NodeChildrenChanged root_path ∷ [];
-        left = lasting_on (((root_path, 1), Persistent) ∷ []) no_watch;
+        left = lasting_on ((root_path, 1) ∷ []) [] no_watch;
       })
   -- A connection that watches /a in all three ways is told once of its delete.
   pub watched_in_each_table :
-      fire (lasting_on (((root_path, 1), Recursive) ∷ []) (watches_on ((path_a, 1) ∷ []) ((path_a, 1) ∷ [])))
+      fire (lasting_on [] ((root_path, 1) ∷ []) (watches_on ((path_a, 1) ∷ []) ((path_a, 1) ∷ [])))
       (Deleted path_a ∷ ChildrenChanged root_path ∷ []) ≡ (record {
         events = event_for 1 NodeDeleted path_a ∷ [];
-        left = lasting_on (((root_path, 1), Recursive) ∷ []) no_watch;
+        left = lasting_on [] ((root_path, 1) ∷ []) no_watch;
       })
   -- Neither /ab nor "/" is below /a, and a watch on "/a/" is on no path. Connections are told in ascending number.
   pub below_a :
-      fire (lasting_on (((path_a, 3), Recursive) ∷ ((codes "/a/", 1), Recursive) ∷ ((path_a_e, 2), Persistent) ∷ [])
-      no_watch)
+      fire (lasting_on ((path_a_e, 2) ∷ []) ((path_a, 3) ∷ (codes "/a/", 1) ∷ []) no_watch)
       (Created path_ab ∷ ChildrenChanged root_path ∷ DataChanged path_a_e ∷ DataChanged root_path ∷ []) ≡ (record {
         events = event_for 2 NodeDataChanged path_a_e ∷ event_for 3 NodeDataChanged path_a_e ∷ [];
-        left = lasting_on (((path_a, 3), Recursive) ∷ ((codes "/a/", 1), Recursive) ∷ ((path_a_e, 2), Persistent) ∷ [])
-            no_watch;
+        left = lasting_on ((path_a_e, 2) ∷ []) ((path_a, 3) ∷ (codes "/a/", 1) ∷ []) no_watch;
+      })
+  -- A connection with both lasting watches on /a is told once of each change, of those below /a by the recursive one and
+  -- of the children of /a by the persistent one.
+  pub both_modes :
+      fire (lasting_on ((path_a, 1) ∷ []) ((path_a, 1) ∷ []) no_watch)
+      (Created path_a ∷ ChildrenChanged root_path ∷ Created path_a_e ∷ ChildrenChanged path_a ∷ Deleted path_a_e
+      ∷ ChildrenChanged path_a ∷ []) ≡ (record {
+        events = event_for 1 NodeCreated path_a ∷ event_for 1 NodeCreated path_a_e ∷ event_for 1 NodeChildrenChanged path_a
+            ∷ event_for 1 NodeDeleted path_a_e ∷ event_for 1 NodeChildrenChanged path_a ∷ [];
+        left = lasting_on ((path_a, 1) ∷ []) ((path_a, 1) ∷ []) no_watch;
+      })
+  -- Nothing is below the empty text.
+  pub below_nothing :
+      fire (lasting_on [] (([], 1) ∷ []) no_watch)
+      (Created path_a ∷ ChildrenChanged root_path ∷ Created path_a_e ∷ ChildrenChanged path_a ∷ []) ≡ (record {
+        events = [];
+        left = lasting_on [] (([], 1) ∷ []) no_watch;
       })

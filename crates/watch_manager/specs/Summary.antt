@@ -2,7 +2,6 @@
 use Rattle.std.specs.Prelude.{ℕ, List, ◌++◌, map}
 use Rattle.std.specs.declared.cmp.Ordering.{Ordering}
 use Rattle.std.specs.Ordering.{nat_cmp, then_cmp, on}
-use Rattle.std.specs.FinMap as finmap
 use Rattle.std.specs.FinSet as set
 use Rattle.ephemerals.specs.Orders.{Bytes, path_cmp}
 use Rattle.watch_manager.specs.Ascending.{sorted_distinct}
@@ -27,8 +26,9 @@ watched_cmp =
 abbrev pub watched_in : Table → Bytes × ℕ → Watched
 watched_in table pair = record { path = pair.0; connection = pair.1; table = table }
 
--- Each watch of the three tables once, in ascending order.
+-- Each watch of the three tables once, in ascending order. The lasting watches of both modes on a path are one.
 abbrev pub summary : WatchTables → List Watched
 summary w = sorted_distinct watched_cmp
     (map (watched_in Own) (set.items w.data_watches) ++ map (watched_in Child) (set.items w.child)
-    ++ map (watched_in Lasting) (finmap.keys w.lasting))
+    ++ map (watched_in Lasting) (set.items w.lasting.persistent)
+    ++ map (watched_in Lasting) (set.items w.lasting.recursive))

@@ -79,16 +79,6 @@ impl ConnSet {
         Ok(())
     }
 
-    /// The connections of both sets.
-    pub fn union(&self, alloc: Global, others: &ConnSet) -> Result<ConnSet, NoMemory>
-        ensures { IfOk result (λ all. all ≡ set.union self.now others.now) }
-    {
-        let mut all = ConnSet::new(alloc);
-        all.add_all(self)?;
-        all.add_all(others)?;
-        Ok(all)
-    }
-
     /// Removes a connection.
     pub fn remove(&mut self, connection: u64)
         ensures { self.new ≡ set.remove self.old connection }

@@ -1,10 +1,8 @@
 //! The watches that aren't used up.
 
-ghost use Rattle.std.specs.Prelude.{◌≡◌, ◌↔◌, OnOk, OnErr, IfOk, IsTrue};
-ghost use Rattle.std.specs.FinMap as finmap;
-ghost use Rattle.watch_manager.specs.Lasting.{watches_in, persistent_watchers, lasting_watchers};
+ghost use Rattle.std.specs.Prelude.{◌≡◌, OnOk, OnErr, IfOk};
+ghost use Rattle.watch_manager.specs.Lasting.{no_lasting_watch, with_watch_in, without_watch_in, persistent_watchers, lasting_watchers};
 ghost use Rattle.watch_manager.specs.Watching.{without_lasting_of};
-ghost use Rattle.watch_manager.specs.declared.mode.WatchMode.TheVariants.{Persistent, Recursive};
 
 use crate::conn_set::ConnSet;
 use crate::mode::WatchMode;
@@ -14,8 +12,7 @@ use std::alloc::Global;
 use std::marker::Model;
 use values::NoMemory;
 
-/// A mode for each watched path and its connection, stored as a table for each mode. A change looks at its path and at
-/// those above it, and at no other.
+/// The watches of either mode. A change looks at its path and at those above it, and at no other.
 #[derive(Drop)]
 pub struct LastingTable {
     persistent: WatchTable,
@@ -23,24 +20,19 @@ pub struct LastingTable {
 }
 
 impl Model for LastingTable {
-    ghost use Rattle.watch_manager.specs.Lasting.{LastingWatches, watch_mode_code};
-    ghost use Rattle.watch_manager.specs.Inner.Lasting.{lasting_of, HaveOneMode};
-    ghost use Rattle.std.specs.FinMap as finmap;
-    ghost use Rattle.std.specs.Coded.{coded_ℕ, coded_list, coded×};
+    ghost use Rattle.watch_manager.specs.Lasting.{LastingWatches, lasting_watches_code};
 
     ghost Value = { LastingWatches };
 
-    ghost coded = { finmap.code (coded× (coded_list coded_ℕ) coded_ℕ) watch_mode_code };
+    ghost coded = { lasting_watches_code };
 
-    ghost view = { λ t. lasting_of t.persistent t.recursive };
-
-    ghost invariant = { λ t. HaveOneMode t.persistent t.recursive };
+    ghost view = { λ t. record { persistent = t.persistent; recursive = t.recursive } };
 }
 
 impl LastingTable {
     /// No watch. Allocates nothing.
     pub fn new(alloc: Global) -> LastingTable
-        ensures { result ≡ finmap.empty }
+        ensures { result ≡ no_lasting_watch }
     {
         LastingTable {
             persistent: WatchTable::new(alloc),
@@ -48,23 +40,16 @@ impl LastingTable {
         }
     }
 
-    /// Whether there is no watch.
-    pub fn is_empty(&self) -> bool
-        ensures { IsTrue result ↔ (self.now ≡ finmap.empty) }
-    {
-        self.persistent.is_empty() && self.recursive.table().is_empty()
-    }
-
     /// The persistent watches.
     pub fn persistent(&self) -> &WatchTable
-        ensures { result.now ≡ watches_in Persistent self.now }
+        ensures { result.now ≡ self.now.persistent }
     {
         &self.persistent
     }
 
     /// The recursive watches.
     pub fn recursive(&self) -> &WatchTable
-        ensures { result.now ≡ watches_in Recursive self.now }
+        ensures { result.now ≡ self.now.recursive }
     {
         self.recursive.table()
     }
@@ -87,7 +72,7 @@ impl LastingTable {
         Ok(conns)
     }
 
-    /// Sets a watch, or replaces its mode. A refused allocation changes nothing.
+    /// Sets a watch; it may be set already, and one of the other mode stays. A refused allocation changes nothing.
     pub fn set(
         &mut self,
         alloc: Global,
@@ -95,20 +80,23 @@ impl LastingTable {
         path: &str,
         mode: WatchMode,
     ) -> Result<(), NoMemory>
-        ensures ok { OnOk result (self.new ≡ finmap.insert self.old (path.now, connection) mode) }
+        ensures ok { OnOk result (self.new ≡ with_watch_in mode (path.now, connection) self.old) }
         ensures err { OnErr result (self.new ≡ self.old) }
     {
         match mode {
-            WatchMode::Persistent => {
-                self.persistent.set(alloc, connection, path)?;
-                self.recursive.remove(connection, path);
-            }
-            WatchMode::Recursive => {
-                self.recursive.set(alloc, connection, path)?;
-                self.persistent.remove(connection, path);
-            }
+            WatchMode::Persistent => self.persistent.set(alloc, connection, path),
+            WatchMode::Recursive => self.recursive.set(alloc, connection, path),
         }
-        Ok(())
+    }
+
+    /// Removes a watch. Allocates nothing.
+    pub fn remove(&mut self, connection: u64, path: &str, mode: WatchMode)
+        ensures { self.new ≡ without_watch_in mode (path.now, connection) self.old }
+    {
+        match mode {
+            WatchMode::Persistent => self.persistent.remove(connection, path),
+            WatchMode::Recursive => self.recursive.remove(connection, path),
+        }
     }
 
     /// Removes the watches of a connection. Allocates nothing.

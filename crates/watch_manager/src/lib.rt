@@ -2,7 +2,7 @@
 //!
 //! There are three tables. Data watches and child watches (ZooKeeper Programmer's Guide, "Watches") are finite sets of
 //! pairs of a path and a connection. Lasting watches aren't used up: a persistent one is on a path, and a recursive one
-//! on a path and all below it. `fire` takes the triggers of transactions, uses up the data and child watches on them,
+//! on a path and all below it; a connection may have both on one path. `fire` takes the triggers of transactions, uses up the data and child watches on them,
 //! and returns each event with its connection. `specs/Watches.antt` defines this, and `fire` is proved to do it.
 //!
 //! ```text
@@ -18,6 +18,7 @@ mod by_path;
 mod conn_set;
 mod counts;
 mod event;
+mod kind;
 mod lasting;
 pub mod law;
 mod left;
@@ -31,6 +32,7 @@ mod watches;
 
 pub use counts::WatchCounts;
 pub use event::{Event, EventKind};
+pub use kind::WatchKind;
 pub use mode::WatchMode;
 pub use watched::{Table, Watched};
 pub use watches::Watches;

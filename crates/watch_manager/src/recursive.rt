@@ -4,7 +4,7 @@ ghost use Rattle.std.specs.Prelude.{◌≡◌, OnOk, OnErr};
 ghost use Rattle.std.specs.FinSet as set;
 ghost use Rattle.watch_manager.specs.Pairs.{watchers_of, without_connection};
 ghost use Rattle.watch_manager.specs.Lasting.{watchers_above};
-ghost use Rattle.watch_manager.specs.Inner.Lasting.{with_watchers_on, fronts_before_slash};
+ghost use Rattle.watch_manager.specs.Inner.Lasting.{with_watchers_on, named_fronts};
 
 use crate::conn_set::ConnSet;
 use crate::table::WatchTable;
@@ -68,10 +68,14 @@ impl RecursiveTable {
     // Adds the connections that watch a path above this one, except "/".
     fn add_watchers_between(&self, conns: &mut ConnSet, path: &str) -> Result<(), NoMemory>
         ensures { OnOk result
-            (conns.new ≡ with_watchers_on (fronts_before_slash path.now) self.now conns.old) }
+            (conns.new ≡ with_watchers_on (named_fronts path.now) self.now conns.old) }
     {
         let mut rest = path;
         while let Some((above, _)) = rest.rsplit_once('/') {
+            // The empty text is above nothing.
+            if above.is_empty() {
+                return Ok(());
+            }
             self.add_watchers(conns, above)?;
             rest = above;
         }

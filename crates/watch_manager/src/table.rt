@@ -128,6 +128,16 @@ impl WatchTable {
         self.by_path.of(path)
     }
 
+    /// Whether the connection watches the path.
+    pub fn contains(&self, connection: u64, path: &str) -> bool
+        ensures { result ≡ set.contains self.now (path.now, connection) }
+    {
+        match self.watchers(path) {
+            None => return false,
+            Some(conns) => conns.contains(connection),
+        }
+    }
+
     /// Adds the connections that watch the path.
     pub(crate) fn add_watchers(&self, conns: &mut ConnSet, path: &str) -> Result<(), NoMemory>
         ensures { OnOk result (conns.new ≡ set.union conns.old (watchers_of path.now self.now)) }
@@ -172,13 +182,8 @@ impl WatchTable {
     pub fn remove(&mut self, connection: u64, path: &str)
         ensures { self.new ≡ set.remove self.old (path.now, connection) }
     {
-        match self.watchers(path) {
-            None => return,
-            Some(conns) => {
-                if !conns.contains(connection) {
-                    return;
-                }
-            }
+        if !self.contains(connection, path) {
+            return;
         }
         self.count -= 1;
         self.by_conn.remove(connection, path);

@@ -79,7 +79,9 @@ fn tell_part(
     if lasting.is_empty() {
         return tell_each(events, alloc, kind, path, watchers);
     }
-    let all = watchers.union(alloc, lasting)?;
+    let mut all = ConnSet::new(alloc);
+    all.add_all(watchers)?;
+    all.add_all(lasting)?;
     tell_each(events, alloc, kind, path, &all)
 }
 

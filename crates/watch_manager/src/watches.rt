@@ -2,14 +2,15 @@
 
 ghost use Rattle.std.specs.Prelude.{◌≡◌, ◌↔◌, OnOk, OnErr, IfOk, IsTrue};
 ghost use Rattle.std.specs.FinSet as set;
-ghost use Rattle.watch_manager.specs.Lasting.{mode_of};
 ghost use Rattle.watch_manager.specs.Watching.{no_watch, with_lasting_watch, without_watches_of};
+ghost use Rattle.watch_manager.specs.Kinds.{has_watch, without_watch};
 ghost use Rattle.watch_manager.specs.Watches.{fire, watches_after};
 ghost use Rattle.watch_manager.specs.Counts.{watch_count, watch_count_of, counts_of};
 ghost use Rattle.watch_manager.specs.Summary.{summary};
 
 use crate::counts::WatchCounts;
 use crate::event::Event;
+use crate::kind::WatchKind;
 use crate::lasting::LastingTable;
 use crate::left::UnusedWatches;
 use crate::mode::WatchMode;
@@ -24,7 +25,7 @@ use std::marker::Model;
 use values::NoMemory;
 
 /// The watches of all connections. A data or child watch is set at most once, and is removed when it fires or when its
-/// connection closes. A lasting watch has one mode at a time, and is removed when its connection closes.
+/// connection closes. A lasting watch is removed when its connection closes. Any watch can be removed by its kind.
 #[derive(Drop)]
 pub struct Watches {
     // The data watches.
@@ -59,7 +60,10 @@ impl Watches {
     pub fn is_empty(&self) -> bool
         ensures { IsTrue result ↔ (self.now ≡ no_watch) }
     {
-        self.data_watches.is_empty() && self.child.is_empty() && self.lasting.is_empty()
+        self.data_watches.is_empty()
+            && self.child.is_empty()
+            && self.lasting.persistent().is_empty()
+            && self.lasting.recursive().is_empty()
     }
 
     /// Sets a data watch; it may be set already. Any text may be watched, even if it isn't a path. A refused allocation
@@ -82,21 +86,56 @@ impl Watches {
         self.child.set(alloc, connection, path)
     }
 
-    /// Sets a lasting watch, on a path or on a path and all below it; set again, it has the new mode. Any text may be
-    /// watched, even if it isn't a path. A refused allocation changes nothing.
-    pub fn set_persistent(
+    /// Sets a lasting watch; it may be set already, and one of the other mode stays. Any text may be watched, even if it
+    /// isn't a path. A refused allocation changes nothing.
+    pub fn set_lasting(
         &mut self,
         alloc: Global,
         connection: u64,
         path: &str,
-        recursive: bool,
+        mode: WatchMode,
     ) -> Result<(), NoMemory>
         ensures ok { OnOk result
-            (self.new ≡ with_lasting_watch connection path.now (mode_of recursive) self.old) }
+            (self.new ≡ with_lasting_watch connection path.now mode self.old) }
         ensures err { OnErr result (self.new ≡ self.old) }
     {
-        self.lasting
-            .set(alloc, connection, path, WatchMode::new(recursive))
+        self.lasting.set(alloc, connection, path, mode)
+    }
+
+    /// Whether the connection has a watch of this kind on the path.
+    pub fn has_watch(&self, connection: u64, path: &str, kind: WatchKind) -> bool
+        ensures { result ≡ has_watch kind connection path.now self.now }
+    {
+        let child = self.child.contains(connection, path);
+        let data = self.data_watches.contains(connection, path);
+        let persistent = self.lasting.persistent().contains(connection, path);
+        let recursive = self.lasting.recursive().contains(connection, path);
+        match kind {
+            WatchKind::Child => child,
+            WatchKind::Data => data,
+            WatchKind::Persistent => persistent,
+            WatchKind::Recursive => recursive,
+            WatchKind::Any => child || data || persistent || recursive,
+        }
+    }
+
+    /// Removes the connection's watch of this kind on the path, if it has one; all others stay. Allocates nothing.
+    pub fn remove_watch(&mut self, connection: u64, path: &str, kind: WatchKind)
+        ensures { self.new ≡ without_watch kind connection path.now self.old }
+    {
+        let (persistent, recursive) = (WatchMode::Persistent, WatchMode::Recursive);
+        match kind {
+            WatchKind::Child => self.child.remove(connection, path),
+            WatchKind::Data => self.data_watches.remove(connection, path),
+            WatchKind::Persistent => self.lasting.remove(connection, path, persistent),
+            WatchKind::Recursive => self.lasting.remove(connection, path, recursive),
+            WatchKind::Any => {
+                self.child.remove(connection, path);
+                self.data_watches.remove(connection, path);
+                self.lasting.remove(connection, path, persistent);
+                self.lasting.remove(connection, path, recursive);
+            }
+        }
     }
 
     /// Drops all watches of a connection. Allocates nothing.

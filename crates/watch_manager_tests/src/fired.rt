@@ -3,7 +3,7 @@
 use crate::trigger_of;
 use std::alloc::Global;
 use std::test::Fail;
-use watch_manager::Watches;
+use watch_manager::{WatchMode, Watches};
 
 // Sets watches by connection and path: "d" of data, "p" persistent, "r" recursive, anything else of children.
 fn watching(alloc: Global, watches: &[(char, u64, &str)]) -> Result<Watches, Fail> {
@@ -11,8 +11,8 @@ fn watching(alloc: Global, watches: &[(char, u64, &str)]) -> Result<Watches, Fai
     for (table, connection, path) in watches {
         match *table {
             'd' => all.set_data(alloc, *connection, path)?,
-            'p' => all.set_persistent(alloc, *connection, path, false)?,
-            'r' => all.set_persistent(alloc, *connection, path, true)?,
+            'p' => all.set_lasting(alloc, *connection, path, WatchMode::Persistent)?,
+            'r' => all.set_lasting(alloc, *connection, path, WatchMode::Recursive)?,
             _ => all.set_child(alloc, *connection, path)?,
         }
     }
@@ -180,23 +180,29 @@ fn a_connection_with_a_watch_in_each_table_is_told_once(rt: HostRuntime) -> Resu
 }
 
 #[test]
-fn a_lasting_watch_set_again_has_the_new_mode(rt: HostRuntime) -> Result<(), Fail> {
+fn a_path_may_have_both_lasting_watches(rt: HostRuntime) -> Result<(), Fail> {
     let alloc = rt.alloc();
-    let mut watches = watching(
-        alloc,
-        &[
-            ('r', 1, "/a"),
-            ('p', 1, "/a"),
-            ('p', 2, "/a"),
-            ('r', 2, "/a"),
-        ],
-    )?;
-    let changes = [('=', "/a/b"), ('~', "/a")];
-    assert_eq!(rt;
-        told(alloc, &mut watches, &changes)?.as_str(),
-        "2:3 /a/b; 1:4 /a; "
-    );
-    drop_conn(&mut watches, 2);
-    assert_eq!(rt; told(alloc, &mut watches, &changes)?.as_str(), "1:4 /a; ");
+    let mut watches = watching(alloc, &[('r', 1, "/a"), ('p', 1, "/a")])?;
+    let changes = [
+        ('+', "/a"),
+        ('~', "/"),
+        ('+', "/a/b"),
+        ('~', "/a"),
+        ('-', "/a/b"),
+        ('~', "/a"),
+    ];
+    let wanted = "1:1 /a; 1:1 /a/b; 1:4 /a; 1:2 /a/b; 1:4 /a; ";
+    assert_eq!(rt; told(alloc, &mut watches, &changes)?.as_str(), wanted);
+    assert_eq!(rt; told(alloc, &mut watches, &changes)?.as_str(), wanted);
+    Ok(())
+}
+
+#[test]
+fn nothing_is_below_the_empty_text(rt: HostRuntime) -> Result<(), Fail> {
+    let alloc = rt.alloc();
+    let mut watches = watching(alloc, &[('r', 1, ""), ('p', 1, "a")])?;
+    let changes = [('+', "/a"), ('~', "/"), ('+', "/a/b"), ('~', "/a")];
+    assert_eq!(rt; told(alloc, &mut watches, &changes)?.as_str(), "");
+    assert_eq!(rt; watches.count(), 2);
     Ok(())
 }

@@ -6,6 +6,8 @@
 mod counted;
 #[cfg(test)]
 mod fired;
+#[cfg(test)]
+mod kinds;
 
 use data_tree::Trigger;
 use std::alloc::Global;

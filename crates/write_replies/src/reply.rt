@@ -4,12 +4,14 @@ ghost use Rattle.std.specs.Prelude.{◌≡◌, IfOk};
 ghost use Rattle.txn_codec.specs.Row.{shown_path_of_body};
 ghost use Rattle.write_replies.specs.Replies.{stat_look, created_look, data_look, look_of_write, write_look};
 
+use crate::multi::multi_results;
 use client_records::ReadKind;
 use client_records::codes::OK;
-use data_tree::Tree;
+use data_tree::{Tree, TxnResults};
 use forwarding::WriteKind;
 use jute::codes::NO_NODE;
 use read_processor::{Look, Request, look};
+use settings::Dialect;
 use std::alloc::Global;
 use txn_codec::Body;
 use values::{NoMemory, Str};
@@ -22,6 +24,7 @@ fn stat_look(alloc: Global, tree: &Tree, path: &str) -> Result<Look, NoMemory>
         kind: ReadKind::Exists,
         path: Some(Str::new(path)),
         watch: false,
+        rules: Dialect::Zk34,
     };
     look(alloc, tree, &[], &request)
 }
@@ -60,16 +63,17 @@ fn look_of_write(alloc: Global, tree: &Tree, kind: WriteKind, body: &Body) -> Re
         }
         WriteKind::SetData | WriteKind::SetAcl => stat_look(alloc, tree, path),
         WriteKind::Reconfig => data_look(alloc, tree, path),
-        WriteKind::Delete | WriteKind::DeleteContainer | WriteKind::CloseSession => {
-            Look::without_body(alloc, OK)
-        }
+        WriteKind::Delete
+        | WriteKind::DeleteContainer
+        | WriteKind::Multi
+        | WriteKind::CloseSession => Look::without_body(alloc, OK),
     }
 }
 
 /// What the reply to a write shows, once its transaction was applied: with an error that error alone, else of a create
 /// the path, of a create2, a container and a node with a time to live the Stat too, of a setData and a setACL the Stat of
-/// the node as the tree has it now, of a reconfig its data and its Stat, and of a delete nothing. `body` is the
-/// transaction's, and `error` ZooKeeper's error code of it, 0 for success.
+/// the node as the tree has it now, of a reconfig its data and its Stat, and of a delete nothing. A multi shows the
+/// result of each part, and has no error itself. `body` is the transaction's, and `results` is what came of it.
 ///
 /// Fails only if an allocation is refused.
 pub fn write_look(
@@ -77,12 +81,16 @@ pub fn write_look(
     tree: &Tree,
     kind: WriteKind,
     body: &Body,
-    error: i32,
+    results: &TxnResults,
 ) -> Result<Look, NoMemory>
-    ensures { IfOk result (λ seen. seen ≡ write_look tree.now kind body.now error) }
+    ensures { IfOk result (λ seen. seen ≡ write_look tree.now kind body.now results.now) }
 {
-    if error != 0 {
-        return Look::without_body(alloc, error);
+    if let Body::Multi(parts) = body {
+        let body = multi_results(alloc, parts.as_slice(), results.parts.as_slice())?;
+        return Ok(Look { error: OK, body });
+    }
+    if results.err != 0 {
+        return Look::without_body(alloc, results.err);
     }
     look_of_write(alloc, tree, kind, body)
 }

@@ -5,6 +5,8 @@
 #[cfg(test)]
 mod creates;
 #[cfg(test)]
+mod multis;
+#[cfg(test)]
 mod others;
 #[cfg(test)]
 mod replies;

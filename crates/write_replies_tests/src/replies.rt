@@ -51,8 +51,8 @@ pub fn reply(
     parts: &[&str],
 ) -> Result<Blob, Fail> {
     let txn = txn_of(alloc, parts)?;
-    let error = tree.apply(alloc, &txn)?.err;
-    let seen = write_look(alloc, tree, kind, &txn.body, error)?;
+    let outcome = tree.apply(alloc, &txn)?;
+    let seen = write_look(alloc, tree, kind, &txn.body, &outcome.results)?;
     let frame = seen.into_frame(txn.header.cxid, txn.header.zxid);
     Ok(frame.ok_or("a frame")?)
 }

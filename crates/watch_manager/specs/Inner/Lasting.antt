@@ -1,30 +1,12 @@
--- Lasting watches, stored as a table for each mode.
-use Rattle.std.specs.Prelude.{◌≡◌, ℕ, ◌==◌, List, [], ◌∷◌, ◌++◌, true, false, if◌then◌else◌, map, length}
+-- Recursive watches, and the paths above a path.
+use Rattle.std.specs.Prelude.{◌≡◌, ℕ, ◌==◌, List, [], ◌∷◌, ◌++◌, Bool, true, false, if◌then◌else◌, map, length}
+use Rattle.std.specs.List.{filter}
 use Rattle.std.specs.Ordering.{nat_cmp}
 use Rattle.std.specs.BTreeSet as sorted
 use Rattle.std.specs.BTreeSet.{BTreeSet}
-use Rattle.std.specs.FinMap as finmap
 use Rattle.std.specs.FinSet as set
 use Rattle.ephemerals.specs.Orders.{Bytes}
 use Rattle.watch_manager.specs.Pairs.{ConnectionSet, WatchPairs, watchers_of}
-use Rattle.watch_manager.specs.Lasting.{LastingWatches}
-use Rattle.watch_manager.specs.declared.mode.WatchMode.{WatchMode}
-use Rattle.watch_manager.specs.declared.mode.WatchMode.TheVariants.{Persistent, Recursive}
-
--- The pairs with their mode.
-abbrev pub with_mode : WatchMode → List (Bytes × ℕ) → List ((Bytes × ℕ) × WatchMode)
-with_mode mode pairs = map (λ (p : Bytes × ℕ). (p, mode)) pairs
-
--- Both tables as one map.
-abbrev pub lasting_of : WatchPairs → WatchPairs → LastingWatches
-lasting_of persistent recursive =
-    finmap.from_entries (with_mode Persistent (set.items persistent) ++ with_mode Recursive (set.items recursive))
-
--- Each watch has one mode: it is in one table alone.
-abbrev pub HaveOneMode : WatchPairs → WatchPairs → Type 0
-HaveOneMode persistent recursive =
-    (path : Bytes) (connection : ℕ) → set.contains persistent (path, connection) ≡ true
-    → set.contains recursive (path, connection) ≡ false
 
 -- The length in bytes of each watched path is one of these.
 abbrev pub HaveLengthsIn : BTreeSet ℕ → WatchPairs → Type 0
@@ -43,8 +25,16 @@ with_watchers_on [] pairs conns = conns
 with_watchers_on (path ∷ paths) pairs conns =
     with_watchers_on paths pairs (set.union conns (watchers_of path pairs))
 
--- The proper fronts of the text that end just before a "/", the longest first.
+-- The fronts of the text that end just before a "/", the longest first.
 abbrev pub fronts_before_slash : Bytes → List Bytes
 fronts_before_slash [] = []
 fronts_before_slash (b ∷ bytes) =
     map (λ (front : Bytes). b ∷ front) (fronts_before_slash bytes) ++ (if b == 47 then [] ∷ [] else [])
+
+abbrev pub is_nonempty : Bytes → Bool
+is_nonempty [] = false
+is_nonempty (b ∷ bytes) = true
+
+-- Without the empty one.
+abbrev pub named_fronts : Bytes → List Bytes
+named_fronts path = filter is_nonempty (fronts_before_slash path)

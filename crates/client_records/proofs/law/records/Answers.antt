@@ -5,8 +5,9 @@ use Rattle.jute.specs.Owned.{acl_format}
 use Rattle.jute.specs.Laws.{IsSound}
 use Rattle.jute.proofs.Public.{int_sound, long_sound, boolean_sound, buffer_sound, text_sound, name_sound, acl_sound, stat_sound, null_vector_sound, both_sound, mapped_sound}
 use Rattle.client_records.specs.Fields.{names_format}
-use Rattle.client_records.specs.Requests.{connect_request, path_and_watch, path_alone, set_watches, add_watch, auth_packet}
-use Rattle.client_records.specs.Responses.{connect_response, exists_response, get_data_response, get_children_response, get_children2_response, get_acl_response, path_response, create2_response, watcher_event}
+use Rattle.client_records.specs.Requests.{connect_request, path_and_watch, path_alone, set_watches, set_watches2, path_and_kind, add_watch, auth_packet, sasl_request}
+use Rattle.client_records.specs.Multi.{multi_header}
+use Rattle.client_records.specs.Responses.{connect_response, exists_response, get_data_response, get_children_response, get_children2_response, get_acl_response, path_response, create2_response, error_response, all_children_number_response, client_info, who_am_i_response, sasl_response, watcher_event}
 use Rattle.client_records.proofs.law.records.Goals as goal
 
 names_sound : IsSound names_format
@@ -37,6 +38,15 @@ set_watches_sound =
     (both_sound _ _ names_sound
     (both_sound _ _ names_sound names_sound)))
 
+set_watches2_sound : IsSound set_watches2
+unfolding set_watches2
+set_watches2_sound =
+    mapped_sound _ _ _ (λ v. refl) (λ r. refl) (both_sound _ _ set_watches_sound (both_sound _ _ names_sound names_sound))
+
+path_and_kind_sound : IsSound path_and_kind
+unfolding path_and_kind
+path_and_kind_sound = mapped_sound _ _ _ (λ v. refl) (λ r. refl) (both_sound _ _ text_sound int_sound)
+
 add_watch_sound : IsSound add_watch
 unfolding add_watch
 add_watch_sound = mapped_sound _ _ _ (λ v. refl) (λ r. refl) (both_sound _ _ text_sound int_sound)
@@ -45,6 +55,15 @@ auth_packet_sound : IsSound auth_packet
 unfolding auth_packet
 auth_packet_sound =
     mapped_sound _ _ _ (λ v. refl) (λ r. refl) (both_sound _ _ int_sound (both_sound _ _ text_sound buffer_sound))
+
+multi_header_sound : IsSound multi_header
+unfolding multi_header
+multi_header_sound =
+    mapped_sound _ _ _ (λ v. refl) (λ r. refl) (both_sound _ _ int_sound (both_sound _ _ boolean_sound int_sound))
+
+sasl_request_sound : IsSound sasl_request
+unfolding sasl_request
+sasl_request_sound = mapped_sound _ _ _ (λ v. refl) (λ r. refl) buffer_sound
 
 connect_response_sound : IsSound connect_response
 unfolding connect_response
@@ -83,6 +102,27 @@ create2_response_sound : IsSound create2_response
 unfolding create2_response
 create2_response_sound = mapped_sound _ _ _ (λ v. refl) (λ r. refl) (both_sound _ _ text_sound stat_sound)
 
+error_response_sound : IsSound error_response
+unfolding error_response
+error_response_sound = mapped_sound _ _ _ (λ v. refl) (λ r. refl) int_sound
+
+all_children_number_response_sound : IsSound all_children_number_response
+unfolding all_children_number_response
+all_children_number_response_sound = mapped_sound _ _ _ (λ v. refl) (λ r. refl) int_sound
+
+client_info_sound : IsSound client_info
+unfolding client_info
+client_info_sound = mapped_sound _ _ _ (λ v. refl) (λ r. refl) (both_sound _ _ name_sound name_sound)
+
+who_am_i_response_sound : IsSound who_am_i_response
+unfolding who_am_i_response
+who_am_i_response_sound =
+    mapped_sound _ _ _ (λ v. refl) (λ r. refl) (null_vector_sound client_info client_info_sound)
+
+sasl_response_sound : IsSound sasl_response
+unfolding sasl_response
+sasl_response_sound = mapped_sound _ _ _ (λ v. refl) (λ r. refl) buffer_sound
+
 watcher_event_sound : IsSound watcher_event
 unfolding watcher_event
 watcher_event_sound =
@@ -97,8 +137,12 @@ returns c = record {
   get_children2_request = path_and_watch_sound;
   get_acl_request = path_alone_sound;
   set_watches = set_watches_sound;
+  set_watches2 = set_watches2_sound;
+  path_and_kind = path_and_kind_sound;
   add_watch = add_watch_sound;
   auth_packet = auth_packet_sound;
+  multi_header = multi_header_sound;
+  sasl_request = sasl_request_sound;
   connect_response = connect_response_sound;
   exists_response = exists_response_sound;
   get_data_response = get_data_response_sound;
@@ -107,5 +151,10 @@ returns c = record {
   get_acl_response = get_acl_response_sound;
   path_response = path_response_sound;
   create2_response = create2_response_sound;
+  error_response = error_response_sound;
+  all_children_number_response = all_children_number_response_sound;
+  client_info = client_info_sound;
+  who_am_i_response = who_am_i_response_sound;
+  sasl_response = sasl_response_sound;
   watcher_event = watcher_event_sound;
 }

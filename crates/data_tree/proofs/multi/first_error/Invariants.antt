@@ -2,5 +2,5 @@ use Rattle.std.proofs.Common.{◌≡◌, drop}
 use Rattle.data_tree.specs.Meaning.{first_error}
 use Rattle.data_tree.proofs.multi.first_error.Given as goal
 
-abbrev pub invariant-loop-error : goal.invariant-loop-error
-invariant-loop-error l = first_error (drop l.error-index l.errors) ≡ first_error l.errors
+abbrev pub invariant-loop-part : goal.invariant-loop-part
+invariant-loop-part l = first_error (drop l.part-index l.results) ≡ first_error l.results

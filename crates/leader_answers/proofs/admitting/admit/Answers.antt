@@ -1,4 +1,7 @@
 use Rattle.std.proofs.Common.{rules, ◌≡◌, ℤ, Some, w64, to_z, of_z, ap, sym, subst, ◌∙◌}
+use Rattle.std.proofs.lemmas.Result.{err_from_is_err_and}
+use Rattle.values.specs.Gains.{Gains}
+use Rattle.values.proofs.Gaining.{gains_nothing}
 use Rattle.sessions.specs.declared.request.Connected.{Connected}
 use Rattle.sessions.specs.Sessions.{close_connection, give_session}
 use Rattle.world.specs.World.{World}
@@ -10,6 +13,15 @@ use Rattle.client_service.specs.Serve.{answer_connect}
 use Rattle.leader_answers.specs.Answering.{admit_as}
 use Rattle.leader_answers.proofs.Admission.{served}
 use Rattle.leader_answers.proofs.admitting.admit.Goals as goal
+
+-- Nothing was sent yet.
+pub returns-in_err-connected : goal.returns-in_err-connected
+returns-in_err-connected c =
+    let p = err_from_is_err_and c.from_residual.result c.from_residual.ensures.1 in
+    let frames = c.args.frames.now in
+    let connect = c.args.connect.now in
+    rw p.1 (subst (λ (s : StepResult World). Gains s.outputs (admit_as c.args.number s.after frames (Some connect)).outputs
+    c.stage.inside.outputs.items) c.stage.view_is (gains_nothing _ _))
 
 pub returns : goal.returns
 returns c =

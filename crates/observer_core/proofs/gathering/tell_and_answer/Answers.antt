@@ -1,4 +1,4 @@
-use Rattle.std.proofs.Common.{rules, ◌≡◌, Some, w32, to_z, of_z, sym, ◌∙◌}
+use Rattle.std.proofs.Common.{Some, sym, ◌∙◌}
 use Rattle.world.specs.World.{World}
 use Rattle.observer_core.proofs.Batches.{told_due, told_answered}
 use Rattle.observer_core.proofs.gathering.tell_and_answer.Goals as goal
@@ -14,9 +14,8 @@ returns-in-Some c =
     let inside = c.stage-inside.inside.0.0 in
     let w : World = record { settings = inside.settings; replica = inside.replica; clients = inside.clients } in
     let outcome = c.in-Some.outcome.now in
-    let err : to_z w32 (of_z w32 outcome.err) ≡ outcome.err = search rules in
     let answered = c.answer_applied_txn in
     rw (← c.stage.view_is, ← c.stage-inside.view_is) (told_answered answered.result c.stage-inside.inside.0.1.0.items
     c.tell_each.new.outputs.items answered.new.stage.outputs w c.args.place c.args.outcomes.now c.tell_each.new.clients
     (Some outcome) answered.new.stage.after c.in_ok-tell_each.ensures c.in-Some.ensures.value
-    (rw err at answered.ensures))
+    answered.ensures)

@@ -10,12 +10,12 @@ with_text-requires c = c.loop-text.invariant.2.within
 pub returns-in_err-count : goal.returns-in_err-count
 returns-in_err-count c =
     let here = rw c.in-Some.ensures.steps at c.loop-text.invariant in
-    passed _ _ c.from_residual.ensures (too_many here.2 (rw c.deref.ensures at c.in_err-count.ensures))
+    passed _ _ c.from_residual.ensures (too_many here.2 (rw c.as_bytes.ensures.value at c.in_err-count.ensures))
 
 pub loop-text-preserved : goal.loop-text-preserved
 loop-text-preserved c =
     let here = rw c.in-Some.ensures.steps at c.loop-text.invariant in
-    (tt, tt, one_less here.2 (rw c.deref.ensures at c.in_ok-count.ensures))
+    (tt, tt, one_less here.2 (rw c.as_bytes.ensures.value at c.in_ok-count.ensures))
 
 pub returns : goal.returns
 returns c =

@@ -5,4 +5,8 @@ use Rattle.snapshot_codec.proofs.Reading.{streamed}
 use Rattle.snapshot_codec.proofs.law.image_parts.Goals as goal
 
 pub returns : goal.returns
-returns c = record { sound = parts_sound; pieces = comes_in_pieces part_stream streamed; goes_on = never_waits }
+returns c = record {
+  sound = parts_sound;
+  pieces = λ dialect. comes_in_pieces (part_stream dialect) (streamed dialect);
+  goes_on = never_waits;
+}

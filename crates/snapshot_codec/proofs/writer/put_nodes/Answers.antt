@@ -15,7 +15,8 @@ loop-path-init c =
     ap shown_rows c.into_iter-path-iterator.ensures.into_iter_gives.0 in (
       tt,
       tt,
-      begins (λ e. node_bytes e.0 e.1 (key_of lists e.1.acl)) (λ e. FitsNode c.args.dialect e.0 e.1 (key_of lists e.1.acl))
+      begins (λ e. node_bytes e.0 e.1 (key_of lists e.1.acl))
+          (λ e. FitsNode c.args.dialect e.0 e.1 (key_of lists e.1.acl))
           c.args.out.now.items walked c.args.out.now.items (shown_rows c.into_iter-path-iterator.result) refl same,
       subst (AllKeyed lists) (sym same) (all_keyed walked []),
     )
@@ -26,7 +27,8 @@ returns-in_err-key c =
     let lists = lists_from [] walked in
     let node = c.in-Some.node.now.now in
     let p = err_from_is_err_and c.from_residual.result c.from_residual.ensures.1 in
-    rw (p.1, p.2) (key_err c.in_err-key.field-0.0 c.args.table.now lists node.acl (nodes_bytes lists walked)
+    rw (p.1, p.2) (key_err c.args.dialect c.in_err-key.field-0.0 c.args.table.now lists node.acl
+    (nodes_bytes lists walked)
     c.args.out.now.items c.loop-path.out.items (FitNodes c.args.dialect lists walked) c.requires
     (keyed_head lists (c.in-Some.path.now.text.now, node) (shown_rows c.next.new.self)
     (subst (λ r. AllKeyed lists (shown_rows r)) c.in-Some.ensures.steps c.loop-path.invariant.3)).0
@@ -43,7 +45,8 @@ loop-path-preserved c =
     let keyed = own ∙ c.in_ok-key.ensures lists c.requires in (
       tt,
       tt,
-      wrote (λ e. node_bytes e.0 e.1 (key_of lists e.1.acl)) (λ e. FitsNode c.args.dialect e.0 e.1 (key_of lists e.1.acl))
+      wrote (λ e. node_bytes e.0 e.1 (key_of lists e.1.acl))
+          (λ e. FitsNode c.args.dialect e.0 e.1 (key_of lists e.1.acl))
           c.args.out.now.items walked now c.put_node.new.out.items (path, node) (shown_rows c.next.new.self)
           (c.in_ok-put_node.ensures.0 ∙ ap (λ (k : ℤ). now ++ node_bytes path node k) keyed)
           (subst (λ (k : ℤ). FitsNode c.args.dialect path node k) keyed c.in_ok-put_node.ensures.1)

@@ -25,7 +25,7 @@ returns-clause-written c =
     c.put_nodes.new.out.items c.put_string.new.out.items c.put_string-2.new.out.items
     (c.in_ok-is_whole.ensures.0 (search rules)) (ap (λ m. finmap.entries m) c.sessions.ensures) c.new-out.ensures.items
     c.in_ok-put_sessions.ensures.0
-    (c.in_ok-put.ensures (lists_from [] (shown_rows c.in_ok-rows.rows.entries)) c.in_ok-table.ensures)
+    (c.in_ok-put.ensures c.args.dialect (lists_from [] (shown_rows c.in_ok-rows.rows.entries)) c.in_ok-table.ensures)
     c.in_ok-put_nodes.ensures.0 c.in_ok-put_string.ensures c.in_ok-put_string-2.ensures
 
 pub returns-clause-fits : goal.returns-clause-fits

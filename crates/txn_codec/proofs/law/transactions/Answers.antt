@@ -1,3 +1,4 @@
+use Rattle.std.proofs.Common.{false}
 use Rattle.settings.specs.declared.dialect.Dialect.TheVariants.{Zk34}
 use Rattle.paths_and_acls.specs.Paths.{is_path, is_child_path}
 use Rattle.txn_codec.specs.declared.kind.TxnKind.TheVariants as kinds
@@ -14,9 +15,9 @@ returns c = record {
   child_path = path_sound is_child_path;
   kind = kind_sound earlier_reads Alone;
   part_kind = part_kind_sound earlier_reads;
-  create = create_sound kinds.Create;
+  create = create_sound false kinds.Create;
   set_data = set_data_sound;
-  set_acl = set_acl_sound;
+  set_acl = set_acl_sound false;
   check = check_sound;
   header = header_sound Zk34;
   part = part_sound earlier_reads;

@@ -8,8 +8,8 @@ returns c =
     rw (
       c.started.ensures,
       c.in_ok-replica.ensures,
-      c.new-2.ensures,
       c.in_dialect.ensures,
+      c.in_dialect-2.ensures,
       c.in_ok-session.ensures.clients,
       same_id,
       c.in_ok-session.ensures.session,

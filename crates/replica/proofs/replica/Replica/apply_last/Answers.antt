@@ -1,6 +1,4 @@
-use Rattle.std.proofs.Common.{rules, ◌≡◌, ◌-◌, Some, length, subst, to_z, of_z, w32}
-use mir.Val.{SFits}
-use Rattle.std.proofs.lemmas.Int.{to_z-of_z}
+use Rattle.std.proofs.Common.{◌≡◌, ◌-◌, Some, length, subst}
 use Rattle.replica.specs.declared.item_outcome.LeaderNews.TheVariants as news
 use Rattle.replica.specs.Replica.{Replica}
 use Rattle.replica.specs.Taking.{last_txn, apply_to_tree}
@@ -15,11 +13,8 @@ returns c =
     let log = c.since_base-log.result.now in
     let outcome = c.in_ok-outcome.outcome in
     let tree = c.apply.new.self in
-    let fits : SFits w32 outcome.err = search rules in
-    let err = to_z w32 (of_z w32 outcome.err) in
     subst (λ (r : Replica). apply_to_tree (with_told c.args.triggers.now c.args.news.now r) (last_txn r.learner.log)
-    ≡ with_told outcome.triggers (Some (news.Applied (length log - 1) err)) (record inside { tree = tree }))
+    ≡ with_told outcome.triggers (Some (news.Applied (length log - 1) outcome.results)) (record inside { tree = tree }))
     c.self.view_is
-    (applied-last inside c.args.triggers.now c.args.news.now log c.in-Some.txn.now tree outcome err
-    (to_z-of_z w32 outcome.err fits) c.since_base-log.ensures c.in-Some.ensures.value c.in_ok-outcome.ensures.state
-    c.in_ok-outcome.ensures.answer)
+    (applied-last inside c.args.triggers.now c.args.news.now log c.in-Some.txn.now tree outcome
+    c.since_base-log.ensures c.in-Some.ensures.value c.in_ok-outcome.ensures.state c.in_ok-outcome.ensures.answer)

@@ -15,7 +15,8 @@ use Rattle.snapshot_codec.proofs.key_table.KeyTable.add.Goals as goal
 pub returns-in_err-bytes : goal.returns-in_err-bytes
 returns-in_err-bytes c = λ lists t.
     let p = err_from_is_err_and c.from_residual.result c.from_residual.ensures.1 in
-    rw (p.1, p.2) (adds_err Global c.in_err-bytes.field-0.0 lists c.in-Some.list.now c.args.acl.now c.args.self.now
+    rw (p.1, p.2) (adds_err c.args.dialect Global c.in_err-bytes.field-0.0 lists c.in-Some.list.now c.args.acl.now
+    c.args.self.now
     c.in-Some.ensures.entries c.in-Some.ensures.not_open c.in_err-bytes.ensures)
 
 pub returns-then-count : goal.returns-then-count
@@ -24,11 +25,12 @@ returns-then-count c = λ lists t h.
     let none : option_copied c.get.result ≡ None = search rules in
     let full : count_limit ≤ c.len-count.result = search rules in
     let many : c.len-count.result ≡ length lists = c.len-count.ensures.len ∙ t.many in
-    too_many lists list c.in-Some.ensures.not_open
-    (sym (looked c.args.self.now lists list c.as_slice.result.now (option_copied c.get.result) t c.in_ok-bytes.ensures.1
+    too_many c.args.dialect lists list c.in-Some.ensures.not_open
+    (sym (looked c.args.dialect c.args.self.now lists list c.as_slice.result.now (option_copied c.get.result) t
+    c.in_ok-bytes.ensures.1
     (c.as_slice.ensures.value ∙ c.in_ok-bytes.ensures.0) c.get.ensures.value) ∙ none)
     (subst (λ n. count_limit ≤ n) many full)
-    (subst (λ l. FitLists (with_list lists l)) (sym c.in-Some.ensures.entries) h)
+    (subst (λ l. FitLists c.args.dialect (with_list lists l)) (sym c.in-Some.ensures.entries) h)
 
 pub returns : goal.returns
 returns c = λ lists t.
@@ -44,13 +46,14 @@ returns c = λ lists t.
     let next : count + 1 ≡ suc count = omega arith in
     let key : to_z w64 (of_z w64 (to_z w64 count +ℤ pos 1)) ≡ pos (suc (btree_map_len old.keys)) =
     ap (λ z. to_z w64 (of_z w64 (z +ℤ pos 1))) cast ∙ back ∙ ap pos next ∙ ap (λ n. pos (suc n)) len in
-    subst (λ l. IsTable (record { keys = c.insert.new.self; written = c.extend_from_slice.new.self })
+    subst (λ l. IsTable c.args.dialect (record { keys = c.insert.new.self; written = c.extend_from_slice.new.self })
     (with_list lists l))
     c.in-Some.ensures.entries
-    (one_more old (record { keys = c.insert.new.self; written = c.extend_from_slice.new.self }) lists list t fits
+    (one_more c.args.dialect old (record { keys = c.insert.new.self; written = c.extend_from_slice.new.self }) lists
+    list t fits
     c.in-Some.ensures.not_open
     (t.found list fits
-    ∙ sym (looked old lists list c.as_slice.result.now (option_copied c.get.result) t fits
+    ∙ sym (looked c.args.dialect old lists list c.as_slice.result.now (option_copied c.get.result) t fits
     (c.as_slice.ensures.value ∙ c.in_ok-bytes.ensures.0) c.get.ensures.value) ∙ none)
     (subst (λ n. n < count_limit) len few)
     (λ asked h.

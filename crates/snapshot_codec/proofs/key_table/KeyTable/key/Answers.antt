@@ -9,7 +9,7 @@ returns c = λ lists t.
     let key = c.in-Some-get.key.now in
     let same : to_z w64 (of_z w64 key) ≡ key = search rules in
     same
-    ∙ key_found lists list key c.in-Some.ensures.not_open
-    (sym (looked c.args.self.now lists list c.as_slice.result.now (Some key) t c.in_ok-bytes.ensures.1
+    ∙ key_found c.args.dialect lists list key c.in-Some.ensures.not_open
+    (sym (looked c.args.dialect c.args.self.now lists list c.as_slice.result.now (Some key) t c.in_ok-bytes.ensures.1
     (c.as_slice.ensures.value ∙ c.in_ok-bytes.ensures.0) c.in-Some-get.ensures.value))
     ∙ ap (key_of lists) c.in-Some.ensures.entries

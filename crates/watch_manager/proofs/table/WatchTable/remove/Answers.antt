@@ -1,33 +1,20 @@
 use Rattle.std.proofs.Common.{ap, sym, ◌∙◌}
-use Rattle.std.specs.Ordering.{nat_cmp}
 use Rattle.std.specs.FinSet as set
 use Rattle.watch_manager.proofs.Totals.{watch_total, watch_exact}
 use Rattle.watch_manager.proofs.SetCounts.{remove-absent, len-remove-present, some-present}
 use Rattle.watch_manager.proofs.Tables.{agree-remove}
-use Rattle.watch_manager.proofs.Watchers.{contains-watchers}
 use Rattle.watch_manager.proofs.table.WatchTable.remove.Goals as goal
-
-pub returns-in-None : goal.returns-in-None
-returns-in-None c =
-    remove-absent watch_total watch_exact c.args.self.now (c.args.path.now, c.args.connection)
-    (sym (contains-watchers c.args.path.now c.args.self.now c.args.connection)
-    ∙ ap (λ s. set.contains s c.args.connection) c.in-None.ensures.none
-    ∙ set.contains-empty nat_cmp c.args.connection)
 
 pub returns-then-not-contains : goal.returns-then-not-contains
 returns-then-not-contains c =
     remove-absent watch_total watch_exact c.args.self.now (c.args.path.now, c.args.connection)
-    (sym (contains-watchers c.args.path.now c.args.self.now c.args.connection)
-    ∙ ap (λ s. set.contains s c.args.connection) (sym c.in-Some.ensures.some)
-    ∙ sym c.contains.ensures ∙ c.if-not-contains.true)
+    (sym c.contains.ensures ∙ c.if-not-contains.true)
 
 pub overflow_sub-self : goal.overflow_sub-self
 overflow_sub-self c =
     some-present watch_total watch_exact c.self.inside.by_path (c.args.path.now, c.args.connection) c.self.inside.count
     c.self.invariant.1
     (ap (λ s. set.contains s (c.args.path.now, c.args.connection)) c.self.view_is
-    ∙ sym (contains-watchers c.args.path.now c.args.self.now c.args.connection)
-    ∙ ap (λ s. set.contains s c.args.connection) (sym c.in-Some.ensures.some)
     ∙ sym c.contains.ensures ∙ c.if-not-contains.false)
 
 pub invariant_of-self : goal.invariant_of-self
@@ -40,8 +27,6 @@ invariant_of-self c = (
       c.self.inside.count
       c.self.invariant.1
       (ap (λ s. set.contains s (c.args.path.now, c.args.connection)) c.self.view_is
-      ∙ sym (contains-watchers c.args.path.now c.args.self.now c.args.connection)
-      ∙ ap (λ s. set.contains s c.args.connection) (sym c.in-Some.ensures.some)
       ∙ sym c.contains.ensures ∙ c.if-not-contains.false)
       ∙ sym (ap set.len c.remove-2.ensures),
 )

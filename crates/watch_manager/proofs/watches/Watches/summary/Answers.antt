@@ -1,14 +1,11 @@
 use Rattle.std.proofs.Common.{◌≡◌, List, [], ◌++◌, map, sym, ap, subst, ◌∙◌, IfOk}
 use Rattle.std.specs.FinSet as set
 use Rattle.watch_manager.specs.Ascending.{sorted_distinct}
-use Rattle.watch_manager.specs.Lasting.{watches_in}
 use Rattle.watch_manager.specs.Summary.{watched_cmp, watched_in, summary}
 use Rattle.watch_manager.specs.Totals.{watched_total}
-use Rattle.watch_manager.specs.declared.mode.WatchMode.TheVariants.{Persistent}
 use Rattle.watch_manager.specs.declared.watched.Table.TheVariants.{Own, Child, Lasting}
 use Rattle.watch_manager.specs.declared.watched.Watched.{Watched}
 use Rattle.watch_manager.proofs.Ascending.{ascending-nil}
-use Rattle.watch_manager.proofs.Listing.{lasting_rows}
 use Rattle.watch_manager.proofs.watches.Watches.summary.Goals as goal
 
 pub returns : goal.returns
@@ -22,11 +19,10 @@ returns c =
     ∙ ap (λ s. sorted_distinct watched_cmp (both_rows ++ map (watched_in Lasting) (set.items s)))
     c.persistent.ensures in
     let all = c.in_ok-add_table-4.ensures
-    (both_rows ++ map (watched_in Lasting) (set.items (watches_in Persistent w.lasting))) persistent
+    (both_rows ++ map (watched_in Lasting) (set.items w.lasting.persistent)) persistent
     ∙ ap (λ s. sorted_distinct watched_cmp
-    ((both_rows ++ map (watched_in Lasting) (set.items (watches_in Persistent w.lasting)))
-    ++ map (watched_in Lasting) (set.items s))) c.recursive.ensures
-    ∙ lasting_rows both_rows w.lasting in
+    ((both_rows ++ map (watched_in Lasting) (set.items w.lasting.persistent))
+    ++ map (watched_in Lasting) (set.items s))) c.recursive.ensures in
     subst (λ (keys : List Watched). IfOk c.in_order.result (λ rows. rows.items ≡ keys))
     (all ∙ ap (λ w. summary w) c.self.view_is)
     c.in_order.ensures

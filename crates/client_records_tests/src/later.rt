@@ -1,0 +1,160 @@
+//! The requests of later clients and their responses. The bytes are those of a client of ZooKeeper 3.8 and of its server.
+
+use crate::is_read;
+use client_records::{
+    ClientInfo, ErrorResponse, GetAllChildrenNumberResponse, MultiHeader, Name, PathAndKind,
+    ReadKind, ReadPart, SaslRequest, SaslResponse, SetWatches, SetWatches2, WhoAmIResponse,
+    read_parts,
+};
+use jute::{Reader, WriteRecord};
+use std::alloc::Global;
+use std::test::Fail;
+use values::{Bytes, Fault, Listed, ReadError, Str};
+
+/// Each of the five lists has a path of its own, and a byte follows the record.
+#[test]
+#[tactic(auto, unfolding(client_records::specs::Requests::set_watches2, client_records::specs::Requests::set_watches))]
+fn set_watches2(rt: HostRuntime) -> Result<(), Fail> {
+    let alloc = rt.alloc();
+    let bytes = b"\x00\x00\x00\x01\x00\x00\x00\x13\
+        \x00\x00\x00\x01\x00\x00\x00\x02/d\
+        \x00\x00\x00\x01\x00\x00\x00\x02/e\
+        \x00\x00\x00\x01\x00\x00\x00\x02/c\
+        \x00\x00\x00\x01\x00\x00\x00\x02/p\
+        \x00\x00\x00\x01\x00\x00\x00\x02/r\
+        \x07";
+    let expected = SetWatches2 {
+        older: SetWatches {
+            relative_zxid: 0x1_0000_0013,
+            data_watches: Listed::from_vec(vec![in alloc; Name::new("/d")]?),
+            exist_watches: Listed::from_vec(vec![in alloc; Name::new("/e")]?),
+            child_watches: Listed::from_vec(vec![in alloc; Name::new("/c")]?),
+        },
+        persistent_watches: Listed::from_vec(vec![in alloc; Name::new("/p")]?),
+        recursive_watches: Listed::from_vec(vec![in alloc; Name::new("/r")]?),
+    };
+    assert!(rt; is_read(alloc, bytes, &expected)?);
+    let mut out = Vec::new(alloc);
+    expected.write(&mut out)?;
+    assert_eq!(rt; out.as_slice(), &bytes[..58]);
+    Ok(())
+}
+
+/// Any watch at /a.
+#[test]
+#[tactic(auto, unfolding(client_records::specs::Requests::path_and_kind))]
+fn path_and_kind(rt: HostRuntime) -> Result<(), Fail> {
+    let bytes = b"\x00\x00\x00\x02/a\x00\x00\x00\x03\x07";
+    let expected = PathAndKind {
+        path: Some(Str::new("/a")),
+        kind: 3,
+    };
+    assert!(rt; is_read(rt.alloc(), bytes, &expected)?);
+    let mut out = Vec::new(rt.alloc());
+    expected.write(&mut out)?;
+    assert_eq!(rt; out.as_slice(), &bytes[..10]);
+    Ok(())
+}
+
+#[test]
+#[tactic(auto, unfolding(client_records::specs::Requests::sasl_request))]
+fn sasl_request(rt: HostRuntime) -> Result<(), Fail> {
+    let bytes = b"\x00\x00\x00\x03abc\x07";
+    let expected = SaslRequest {
+        token: Some(Bytes::new(b"abc")),
+    };
+    assert!(rt; is_read(rt.alloc(), bytes, &expected)?);
+    let mut out = Vec::new(rt.alloc());
+    expected.write(&mut out)?;
+    assert_eq!(rt; out.as_slice(), &bytes[..7]);
+    Ok(())
+}
+
+/// The header of a getData in a multiRead.
+#[test]
+#[tactic(auto, unfolding(client_records::specs::Multi::multi_header))]
+fn multi_header(rt: HostRuntime) -> Result<(), Fail> {
+    let bytes = b"\x00\x00\x00\x04\x00\xff\xff\xff\xff\x07";
+    let expected = MultiHeader {
+        kind: 4,
+        done: false,
+        err: -1,
+    };
+    assert!(rt; is_read(rt.alloc(), bytes, &expected)?);
+    let mut out = Vec::new(rt.alloc());
+    expected.write(&mut out)?;
+    assert_eq!(rt; out.as_slice(), &bytes[..9]);
+    Ok(())
+}
+
+// Whether a part is of this kind and path.
+fn is_part(part: Option<&ReadPart<'_>>, kind: ReadKind, path: &str) -> bool {
+    let Some(part) = part else {
+        return false;
+    };
+    part.kind == kind && part.path.as_ref().is_some_and(|it| it.as_str() == path)
+}
+
+const PARTS: [u8; 42] = *b"\x00\x00\x00\x04\x00\xff\xff\xff\xff\x00\x00\x00\x02/a\x00\
+    \x00\x00\x00\x08\x00\xff\xff\xff\xff\x00\x00\x00\x02/b\x01\
+    \xff\xff\xff\xff\x01\xff\xff\xff\xff\x07";
+
+/// A getData and a getChildren, and a byte after the end.
+#[test]
+fn parts_of_a_multi_read(rt: HostRuntime) -> Result<(), Fail> {
+    let mut reader = Reader::new(&PARTS);
+    let parts = read_parts(rt.alloc(), &mut reader)?;
+    assert_eq!(rt; parts.as_slice().len(), 2);
+    assert!(rt; is_part(parts.as_slice().first(), ReadKind::GetData, "/a"));
+    assert!(rt; is_part(parts.as_slice().get(1), ReadKind::GetChildren, "/b"));
+    assert_eq!(rt; reader.rest(), b"\x07".as_slice());
+    Ok(())
+}
+
+// Whether the parts are refused with this fault.
+fn are_refused(alloc: Global, bytes: &[u8], fault: Fault) -> bool {
+    match read_parts(alloc, &mut Reader::new(bytes)) {
+        Err(ReadError::Fault(found)) => found == fault,
+        Ok(_) | Err(ReadError::NoMemory) => false,
+    }
+}
+
+/// Without the end, and with an exists.
+#[test]
+fn other_parts(rt: HostRuntime) {
+    assert!(rt; are_refused(rt.alloc(), &PARTS[..32], Fault::Short));
+    assert!(rt; are_refused(rt.alloc(), &[], Fault::Short));
+    let exists = b"\x00\x00\x00\x03\x00\xff\xff\xff\xff\x00\x00\x00\x02/a\x00";
+    assert!(rt; are_refused(rt.alloc(), exists, Fault::BadTxnType));
+}
+
+#[test]
+#[tactic(auto, unfolding(client_records::specs::Responses::error_response, client_records::specs::Responses::all_children_number_response, client_records::specs::Responses::sasl_response))]
+fn short_responses(rt: HostRuntime) -> Result<(), Fail> {
+    let mut out = Vec::new(rt.alloc());
+    ErrorResponse { err: -101 }.write(&mut out)?;
+    GetAllChildrenNumberResponse { total_number: 4 }.write(&mut out)?;
+    SaslResponse { token: None }.write(&mut out)?;
+    let expected = b"\xff\xff\xff\x9b\x00\x00\x00\x04\xff\xff\xff\xff";
+    assert_eq!(rt; out.as_slice(), expected.as_slice());
+    Ok(())
+}
+
+/// A client that has shown one digest.
+#[test]
+#[tactic(auto, unfolding(client_records::specs::Responses::who_am_i_response, client_records::specs::Responses::client_info))]
+fn who_am_i_response(rt: HostRuntime) -> Result<(), Fail> {
+    let alloc = rt.alloc();
+    let alice = ClientInfo {
+        auth_scheme: Bytes::new(b"digest"),
+        user: Bytes::new(b"alice"),
+    };
+    let response = WhoAmIResponse {
+        client_info: Listed::from_vec(vec![in alloc; alice]?),
+    };
+    let mut out = Vec::new(alloc);
+    response.write(&mut out)?;
+    let expected = b"\x00\x00\x00\x01\x00\x00\x00\x06digest\x00\x00\x00\x05alice";
+    assert_eq!(rt; out.as_slice(), expected.as_slice());
+    Ok(())
+}

@@ -1,0 +1,2 @@
+-- Results that follow others.
+mod Following
