@@ -73,9 +73,11 @@ def test_a_session_that_is_refused():
         with server.connection() as thief:
             thief.sendall(session._replace(password=forwarded.password_of(session.id + 1)).connect())
             assert forwarded.connected(thief) == REFUSED and is_closed(thief)
-        # One that has ended, as its leader knows, and one that ends while its client waits.
+        # One that has ended, as its leader knows: it ended before the PING that the observer answers. And one that
+        # ends while its client waits.
         leader.confirms = True
         leader.end(session.id)
+        leader.pinged()
         with server.connection() as late:
             late.sendall(session.connect())
             assert forwarded.connected(late) == REFUSED and is_closed(late)
