@@ -1,12 +1,10 @@
 -- The text of the scheme "digest", from the tests in the code.
-use Rattle.std.proofs.Common.{◌≡◌, ℕ, ◌<◌, ◌≤◌, Bool, true, false, not, ◌&&◌, List, length, Option, Some, None, refl, sym, ap, subst}
+use Rattle.std.proofs.Common.{◌≡◌, ℕ, ◌<◌, ◌≤◌, Bool, true, false, not, ◌&&◌, List, length, Some, None, refl, sym, ap}
 use Rattle.std.specs.Prelude.{IsUtf8, codes, nat_le, if◌then◌else◌}
 use Rattle.std.specs.Str.{bytes_eq, is_utf8}
-use Rattle.std.proofs.lemmas.Bool.{leb-true, lt-leb, le-leb}
+use Rattle.std.proofs.lemmas.Bool.{lt-leb, le-leb}
 use Rattle.std.proofs.lemmas.Str.{IsUtf8-from_is_utf8, is_utf8-from_IsUtf8}
 use Rattle.sessions.specs.Sessions.{auth_limit, is_auth_text, digest_text}
-use Rattle.std.proofs.lemmas.Option.{none-some}
-use Rattle.values.proofs.Keyed.{some-some}
 use mathlib.Core.Bool.{true≢false}
 
 is_not : (b : Bool) → false ≡ not b → b ≡ true
