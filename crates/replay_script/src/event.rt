@@ -1,7 +1,7 @@
 //! The lines of a script.
 
 use settings::{Dialect, Epochs, FirstCounter, Secret, ServerId, TimeoutBounds};
-use values::Blob;
+use values::{Blob, Text};
 
 /// An event of a script. A connection is named by its number.
 #[derive(Debug, Drop)]
@@ -39,6 +39,8 @@ pub enum Setting {
     Secret(Secret),
     /// `dialect 3.4` or `dialect 3.8`: that of ZooKeeper 3.4, or of 3.5 to 3.9.
     Dialect(Dialect),
+    /// `super TEXT`: the digest that makes a super user of a client.
+    Super(Text),
     /// `primed`
     Primed,
 }
@@ -61,6 +63,7 @@ pub enum Keyword {
     Timeouts,
     Secret,
     Dialect,
+    Super,
     Primed,
     Leader,
     Client,
