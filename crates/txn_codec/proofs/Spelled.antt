@@ -14,7 +14,7 @@ use Rattle.jute.proofs.Public.{guard_ended, int_sound, long_sound, boolean_sound
 use Rattle.txn_codec.specs.declared.kind.TxnKind.{TxnKind}
 use Rattle.txn_codec.specs.declared.kind.TxnKind.TheVariants as kinds
 use Rattle.txn_codec.specs.declared.place.Place.{Place}
-use Rattle.txn_codec.specs.declared.place.Place.TheVariants.{Alone, Part}
+use Rattle.txn_codec.specs.declared.place.Place.TheVariants.{Part}
 use Rattle.txn_codec.specs.Kinds.{txn_kinds, kinds_at, kind_of, later_kind_of, kind_at, code_of, is_part_kind, part_kind_of}
 use Rattle.txn_codec.specs.Endings.{or_end, with_trailer_if}
 use Rattle.paths_and_acls.specs.Paths.{is_path, is_child_path}
@@ -136,10 +136,10 @@ create_at_end surrogates last s =
     (both_at_end (vector_of (acl_in surrogates)) (flagged_owner last) (acls_sound surrogates) (flagged_at_end last s))))
 
 pub delete_sound : (of_container : Bool) → IsSound (delete_with of_container)
-delete_sound of_container = case_sound _ _ child_path (λ p. refl) (path_sound is_child_path)
+delete_sound of_container = case_sound _ (λ d. Some d.path) child_path (λ p. refl) (path_sound is_child_path)
 
 pub set_data_sound : (is_reconfig : Bool) → IsSound (set_data_with is_reconfig)
-set_data_sound is_reconfig = case_sound _ _ _ (λ v. refl)
+set_data_sound is_reconfig = case_sound _ (λ s. Some (s.path, (s.bytes, s.version))) _ (λ v. refl)
     (both_sound path_format _ (path_sound is_path) (both_sound buffer int buffer_sound int_sound))
 
 pub set_acl_sound : (surrogates : Bool) → IsSound (set_acl_in surrogates)
