@@ -1,7 +1,7 @@
 //! Transactions (the records of zookeeper.jute).
 
 ghost use Rattle.std.specs.Prelude.{◌≡◌};
-ghost use Rattle.txn_codec.specs.Kinds.{create_kind, operation_kind, body_kind};
+ghost use Rattle.txn_codec.specs.Kinds.{create_kind, delete_kind, set_data_kind, operation_kind, body_kind};
 
 use crate::kind::TxnKind;
 use jute::Acl;
@@ -51,6 +51,15 @@ pub struct Create {
     pub parent_cversion: i32,
 }
 
+/// A node is deleted (DeleteTxn).
+#[derive(Clone, Debug, Drop)]
+pub struct Delete {
+    pub path: Path,
+    /// Its type is deleteContainer: the leader deletes a container without children, or a node whose time is over. It
+    /// does what a delete does.
+    pub of_container: bool,
+}
+
 /// A node's data is replaced (SetDataTxn).
 #[derive(Clone, Debug, Drop)]
 pub struct SetData {
@@ -58,6 +67,8 @@ pub struct SetData {
     pub bytes: Option<Blob>,
     /// The node's version after the write.
     pub version: i32,
+    /// Its type is reconfig: it replaces the data of the ensemble's configuration.
+    pub is_reconfig: bool,
 }
 
 /// A node's access control list is replaced (SetACLTxn).
@@ -80,8 +91,7 @@ pub struct Check {
 #[derive(Debug, Drop)]
 pub enum Operation {
     Create(Create),
-    /// A node is deleted (DeleteTxn).
-    Delete(Path),
+    Delete(Delete),
     SetData(SetData),
     Check(Check),
     /// The request failed, with this error code (ErrorTxn).
@@ -127,6 +137,28 @@ impl Create {
     }
 }
 
+impl Delete {
+    fn kind(&self) -> TxnKind
+        ensures { result ≡ delete_kind self.now.of_container }
+    {
+        if self.of_container {
+            return TxnKind::DeleteContainer;
+        }
+        TxnKind::Delete
+    }
+}
+
+impl SetData {
+    fn kind(&self) -> TxnKind
+        ensures { result ≡ set_data_kind self.now.is_reconfig }
+    {
+        if self.is_reconfig {
+            return TxnKind::Reconfig;
+        }
+        TxnKind::SetData
+    }
+}
+
 impl Operation {
     /// Its type.
     pub fn kind(&self) -> TxnKind
@@ -134,8 +166,8 @@ impl Operation {
     {
         match self {
             Operation::Create(create) => create.kind(),
-            Operation::Delete(_) => TxnKind::Delete,
-            Operation::SetData(_) => TxnKind::SetData,
+            Operation::Delete(delete) => delete.kind(),
+            Operation::SetData(set_data) => set_data.kind(),
             Operation::Check(_) => TxnKind::Check,
             Operation::Error(_) => TxnKind::Error,
         }
@@ -163,7 +195,7 @@ impl Clone for Operation {
     fn clone(&self) -> Result<Operation, AllocError> {
         Ok(match self {
             Operation::Create(create) => Operation::Create(create.clone()?),
-            Operation::Delete(path) => Operation::Delete(path.clone()?),
+            Operation::Delete(delete) => Operation::Delete(delete.clone()?),
             Operation::SetData(set_data) => Operation::SetData(set_data.clone()?),
             Operation::Check(check) => Operation::Check(check.clone()?),
             Operation::Error(error) => Operation::Error(*error),
