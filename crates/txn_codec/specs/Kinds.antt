@@ -38,11 +38,11 @@ txn_kinds = kinds.Create ∷ kinds.Delete ∷ kinds.SetData ∷ kinds.SetAcl ∷
     ∷ kinds.CloseSession ∷ kinds.Error ∷ []
 
 -- The type among these with this code; any other code is refused.
-abbrev pub kind_among : List TxnKind → ℤ → Result TxnKind Fault
-kind_among ks code = ok_or (find (λ k. int_eq code (code_of k)) ks) BadTxnType
+abbrev pub found_kind : List TxnKind → ℤ → Result TxnKind Fault
+found_kind ks code = ok_or (find (λ k. int_eq code (code_of k)) ks) BadTxnType
 
 abbrev pub kind_of : ℤ → Result TxnKind Fault
-kind_of code = kind_among txn_kinds code
+kind_of code = found_kind txn_kinds code
 
 -- What later releases have besides.
 abbrev pub later_kinds : List TxnKind
@@ -54,7 +54,7 @@ kinds_at Alone = kinds.Reconfig ∷ (later_kinds ++ txn_kinds)
 kinds_at Part = later_kinds ++ txn_kinds
 
 abbrev pub later_kind_of : Place → ℤ → Result TxnKind Fault
-later_kind_of place code = kind_among (kinds_at place) code
+later_kind_of place code = found_kind (kinds_at place) code
 
 -- The type with this code at this place, where these are read.
 abbrev pub kind_at : Reads → Place → ℤ → Result TxnKind Fault

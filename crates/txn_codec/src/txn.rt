@@ -1,7 +1,7 @@
 //! Transactions (the records of zookeeper.jute).
 
 ghost use Rattle.std.specs.Prelude.{◌≡◌};
-ghost use Rattle.txn_codec.specs.Kinds.{create_kind, delete_kind, set_data_kind, operation_kind, body_kind};
+ghost use Rattle.txn_codec.specs.Kinds.{create_kind, operation_kind, body_kind};
 
 use crate::kind::TxnKind;
 use jute::Acl;
@@ -137,28 +137,6 @@ impl Create {
     }
 }
 
-impl Delete {
-    fn kind(&self) -> TxnKind
-        ensures { result ≡ delete_kind self.now.of_container }
-    {
-        if self.of_container {
-            return TxnKind::DeleteContainer;
-        }
-        TxnKind::Delete
-    }
-}
-
-impl SetData {
-    fn kind(&self) -> TxnKind
-        ensures { result ≡ set_data_kind self.now.is_reconfig }
-    {
-        if self.is_reconfig {
-            return TxnKind::Reconfig;
-        }
-        TxnKind::SetData
-    }
-}
-
 impl Operation {
     /// Its type.
     pub fn kind(&self) -> TxnKind
@@ -166,8 +144,10 @@ impl Operation {
     {
         match self {
             Operation::Create(create) => create.kind(),
-            Operation::Delete(delete) => delete.kind(),
-            Operation::SetData(set_data) => set_data.kind(),
+            Operation::Delete(delete) if delete.of_container => TxnKind::DeleteContainer,
+            Operation::Delete(_) => TxnKind::Delete,
+            Operation::SetData(set_data) if set_data.is_reconfig => TxnKind::Reconfig,
+            Operation::SetData(_) => TxnKind::SetData,
             Operation::Check(_) => TxnKind::Check,
             Operation::Error(_) => TxnKind::Error,
         }
