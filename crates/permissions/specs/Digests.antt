@@ -4,7 +4,7 @@ use Rattle.std.specs.Prelude.{ℕ, List, ◌++◌, Option, Some, None, Bool, ◌
 use Rattle.jute.specs.declared.owned.Acl.{Acl}
 use Rattle.jute.specs.declared.owned.Id.{Id}
 use Rattle.client_records.specs.declared.response.ClientInfo.{ClientInfo}
-use Rattle.read_processor.specs.Permissions.{is_same_text}
+use Rattle.permissions.specs.Permissions.{is_same_text}
 
 -- Where the user ends: at the first colon.
 abbrev pub user_end : List ℕ → Option ℕ
