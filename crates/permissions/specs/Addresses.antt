@@ -1,6 +1,6 @@
--- The addresses that an entry of the scheme "ip" names (ZooKeeper Programmer's Guide, access control lists). The id of a
--- client is the address of its peer; that of an entry is an address, or a network: an address and how many of its bits
--- count.
+-- The addresses that an entry of the scheme "ip" names (ZooKeeper Programmer's Guide, access control lists). A client's
+-- id is the address of its peer; that of an entry is an address, or a network, which is an address and how many of its
+-- bits count.
 use Rattle.std.specs.Prelude.{ℕ, ◌+◌, ◌*◌, ◌-◌, ◌/◌, ◌^◌, List, Option, Some, None, Bool, false, ◌==◌}
 use Rattle.values.specs.Maybe.{◌>>=◌}
 use Rattle.texts.specs.Cut.{cut_at}
@@ -38,7 +38,8 @@ network_of text = do
 abbrev pub has_same_bits : ℕ → ℕ → ℕ → Bool
 has_same_bits bits a b = a / 2 ^ (32 - bits) == b / 2 ^ (32 - bits)
 
--- Whether an address is in a network: their first bits are the same, as many as count. What can't be read names nothing.
+-- Whether an address is in a network: their first bits are the same, as many as count. A text that is no network names
+-- nothing, and one that is no address is in none.
 abbrev pub is_in_network : Option (ℕ × ℕ) → Option ℕ → Bool
 is_in_network None found = false
 is_in_network (Some network) None = false

@@ -1,5 +1,5 @@
--- The users of digest ids. An id of the scheme "digest" is a user, a colon, and a hash of the password; the hash is shown
--- to nobody but who may administrate the node.
+-- The users of digest ids. An id of the scheme "digest" is a user, a colon, and a hash of the password; the hash is
+-- shown to nobody but who may administrate the node.
 use Rattle.std.specs.Prelude.{ℕ, List, ◌++◌, Option, Some, None, Bool, ◌==◌, codes, position, take, if◌then◌else◌}
 use Rattle.jute.specs.declared.owned.Acl.{Acl}
 use Rattle.jute.specs.declared.owned.Id.{Id}

@@ -33,7 +33,8 @@ lets_any_of permissions acl = not (bit_and (cast_unsigned w32 acl.perms) permiss
 
 -- The entry does, and its id is `world:anyone` or means one of the given ids.
 abbrev pub grants_any_of : ℕ → List Id → Acl → Bool
-grants_any_of permissions ids acl = lets_any_of permissions acl && (list_any (means_id acl.id) ids || is_everybody acl.id)
+grants_any_of permissions ids acl =
+    lets_any_of permissions acl && (list_any (means_id acl.id) ids || is_everybody acl.id)
 
 abbrev pub any_grants : ℕ → List Id → List Acl → Bool
 any_grants permissions ids acls = list_any (grants_any_of permissions ids) acls

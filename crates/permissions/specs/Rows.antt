@@ -15,11 +15,11 @@ IsAddress text number = address_of text ≡ Some number
 abbrev pub IsNoAddress : List ℕ → Type 0
 IsNoAddress text = address_of text ≡ None
 
-abbrev pub Names : List ℕ → List ℕ → Type 0
-Names entry address = names_address entry address ≡ true
+abbrev pub NamesAddress : List ℕ → List ℕ → Type 0
+NamesAddress entry address = names_address entry address ≡ true
 
-abbrev pub NamesNot : List ℕ → List ℕ → Type 0
-NamesNot entry address = names_address entry address ≡ false
+abbrev pub DoesNotName : List ℕ → List ℕ → Type 0
+DoesNotName entry address = names_address entry address ≡ false
 
 pub record WorkedAddresses : Type 0 where
   pub address : IsAddress (codes "10.0.200.1") 167823361
@@ -32,18 +32,18 @@ pub record WorkedAddresses : Type 0 where
   pub gap : IsNoAddress (codes "10..0.1")
   pub later : IsNoAddress (codes "::1")
   -- The number of bits divides the third number, and the second.
-  pub within : Names (codes "10.0.2.0/23") (codes "10.0.3.255")
-  pub above : NamesNot (codes "10.0.2.0/23") (codes "10.0.4.0")
-  pub below : NamesNot (codes "10.0.2.0/23") (codes "10.0.1.255")
-  pub rest_of_entry : Names (codes "10.1.2.3/16") (codes "10.1.0.0")
-  pub all_bits : Names (codes "10.0.0.1/32") (codes "10.0.0.1")
-  pub last_bit : NamesNot (codes "10.0.0.1/32") (codes "10.0.0.0")
-  pub without_bits : NamesNot (codes "10.0.0.1") (codes "10.0.0.0")
-  pub no_bits : Names (codes "10.0.0.1/0") (codes "192.168.0.1")
-  pub more_bits : NamesNot (codes "10.0.0.1/33") (codes "10.0.0.1")
-  pub empty_bits : NamesNot (codes "10.0.0.1/") (codes "10.0.0.1")
-  pub letters : NamesNot (codes "10.0.0.1/a") (codes "10.0.0.1")
-  pub no_address : NamesNot (codes "10.0.0.1/0") (codes "::1")
+  pub within : NamesAddress (codes "10.0.2.0/23") (codes "10.0.3.255")
+  pub above : DoesNotName (codes "10.0.2.0/23") (codes "10.0.4.0")
+  pub below : DoesNotName (codes "10.0.2.0/23") (codes "10.0.1.255")
+  pub rest_of_entry : NamesAddress (codes "10.1.2.3/16") (codes "10.1.0.0")
+  pub all_bits : NamesAddress (codes "10.0.0.1/32") (codes "10.0.0.1")
+  pub last_bit : DoesNotName (codes "10.0.0.1/32") (codes "10.0.0.0")
+  pub without_bits : DoesNotName (codes "10.0.0.1") (codes "10.0.0.0")
+  pub no_bits : NamesAddress (codes "10.0.0.1/0") (codes "192.168.0.1")
+  pub more_bits : DoesNotName (codes "10.0.0.1/33") (codes "10.0.0.1")
+  pub empty_bits : DoesNotName (codes "10.0.0.1/") (codes "10.0.0.1")
+  pub letters : DoesNotName (codes "10.0.0.1/a") (codes "10.0.0.1")
+  pub no_address : DoesNotName (codes "10.0.0.1/0") (codes "::1")
 
 -- ---- permissions
 

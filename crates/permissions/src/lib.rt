@@ -1,10 +1,10 @@
 //! What an access control list lets a client do.
 //!
-//! A client has ids: each is a scheme and a text, such as a user with the hash of a password, or the address of its peer.
-//! A list has entries, each an id with the permissions that it grants. An entry counts for a client that has the same id;
-//! one of the scheme "ip" counts for all addresses of a network, too (`addresses`, specs/Addresses), and the one for
-//! `world:anyone` for every client. A client with an id of the scheme "super" may do everything. specs/Permissions says
-//! all this.
+//! A client has ids, each a scheme and a text, such as a user with the hash of a password, or the address of its peer.
+//! A list has entries, each an id with the permissions that it grants. An entry counts for a client that has the same
+//! id; one of the scheme "ip" may count for all addresses of a network (`addresses`, specs/Addresses), and the one for
+//! `world:anyone` counts for every client. A client with an id of the scheme "super" may do everything.
+//! specs/Permissions defines all this.
 //!
 //! `masked_acls` hides the hashes of digest ids, and `client_info_of` tells a client whom it is taken for
 //! (specs/Digests).
