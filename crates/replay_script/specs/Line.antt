@@ -6,9 +6,10 @@ use Rattle.std.specs.Str.{bytes_eq, is_utf8}
 use Rattle.byteorder.specs.Endian.{big_number}
 use Rattle.settings.specs.Settings as settings
 use Rattle.settings.specs.declared.dialect.Dialect.TheVariants.{Zk34, Zk38}
-use Rattle.replay_script.specs.Cut.{cut_at}
+use Rattle.texts.specs.Cut.{cut_at}
 use Rattle.values.specs.Maybe.{◌>>=◌}
-use Rattle.replay_script.specs.Number.{number_up_to, int_of, ints_of}
+use Rattle.texts.specs.Number.{number_up_to}
+use Rattle.replay_script.specs.Ints.{int_of, ints_of}
 use Rattle.values.specs.Hex.{bytes_of_hex}
 use Rattle.replay_script.specs.declared.event.ScriptEvent.{ScriptEvent}
 use Rattle.replay_script.specs.declared.event.ScriptEvent.TheVariants.{LeaderUp, LeaderBytes, LeaderEnd, ClientUp, ClientBytes, ClientEnd, Expire, Checkpoint}

@@ -4,13 +4,13 @@ ghost use Rattle.std.specs.Prelude.{◌≡◌, IfOk};
 ghost use Rattle.std.specs.Str.{is_utf8};
 ghost use Rattle.replay_script.specs.Line.{keyword_of, coming_of, leader_event, client_event, client_of, expire_of, server_setting, counter_setting, epochs_setting, timeouts_setting, secret_setting, dialect_setting, line_of_keyword, line_with_text, line_of_words, line_of};
 
-use crate::cut::cut_at;
 use crate::event::{Coming, Keyword, Line, ScriptEvent, Setting};
 use crate::hex::read_hex;
-use crate::number::{int_of, ints_of, number_up_to};
+use crate::ints::{int_of, ints_of};
 use byteorder::{BigEndian, ByteOrder};
 use settings::{Dialect, Epochs, FirstCounter, Secret, ServerId, TimeoutBounds};
 use std::alloc::Global;
+use texts::{cut_at, number_up_to};
 use values::NoMemory;
 
 fn keyword_of(word: &[u8]) -> Option<Keyword>

@@ -1,7 +1,7 @@
 //! The users of digest ids, whose hashes are masked.
 
 ghost use Rattle.std.specs.Prelude.{◌≡◌, IfOk, IfSome, ◌≤◌, length, map};
-ghost use Rattle.read_processor.specs.Digests.{user_end, is_digest, masked_at, masked_id, masked_acl, user_at, client_info_of};
+ghost use Rattle.permissions.specs.Digests.{user_end, is_digest, masked_at, masked_id, masked_acl, user_at, client_info_of};
 
 use client_records::ClientInfo;
 use jute::{Acl, Id};
@@ -48,7 +48,7 @@ fn masked_id(alloc: Global, id: &Id) -> Result<Id, NoMemory>
 }
 
 /// The entries with an "x" in place of each hash. Fails only if an allocation is refused.
-pub(crate) fn masked_acls(alloc: Global, acls: &[Acl]) -> Result<Vec<Acl>, NoMemory>
+pub fn masked_acls(alloc: Global, acls: &[Acl]) -> Result<Vec<Acl>, NoMemory>
     ensures { IfOk result (λ masked. masked.items ≡ map masked_acl acls.now) }
 {
     let mut masked = Vec::with_capacity(alloc, acls.len())?;
@@ -73,7 +73,7 @@ fn user_of(text: &[u8]) -> &[u8]
 }
 
 /// An id as its client is shown it.
-pub(crate) fn client_info_of(id: &Id) -> ClientInfo<'_>
+pub fn client_info_of(id: &Id) -> ClientInfo<'_>
     ensures { result ≡ client_info_of id.now }
 {
     let text = id.id.as_slice();

@@ -2,7 +2,7 @@
 use Rattle.std.specs.Prelude.{ℕ, ◌+◌, ◌==◌, List, drop, position}
 use Rattle.std.specs.List.{before_first}
 use Rattle.std.specs.Option.{option_map}
-use Rattle.replay_script.specs.declared.cut.Cut.{Cut}
+use Rattle.texts.specs.declared.cut.Cut.{Cut}
 
 -- The text before the first occurrence of a byte (the whole text if there is none), and the text after it.
 abbrev pub cut_at : ℕ → List ℕ → Cut

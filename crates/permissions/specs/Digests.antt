@@ -1,10 +1,10 @@
--- The users of digest ids. An id of the scheme "digest" is a user, a colon, and a hash of the password; the hash is shown
--- to nobody but who may administrate the node.
+-- The users of digest ids. An id of the scheme "digest" is a user, a colon, and a hash of the password; the hash is
+-- shown to nobody but who may administrate the node.
 use Rattle.std.specs.Prelude.{ℕ, List, ◌++◌, Option, Some, None, Bool, ◌==◌, codes, position, take, if◌then◌else◌}
 use Rattle.jute.specs.declared.owned.Acl.{Acl}
 use Rattle.jute.specs.declared.owned.Id.{Id}
 use Rattle.client_records.specs.declared.response.ClientInfo.{ClientInfo}
-use Rattle.read_processor.specs.Permissions.{is_same_text}
+use Rattle.permissions.specs.Permissions.{is_same_text}
 
 -- Where the user ends: at the first colon.
 abbrev pub user_end : List ℕ → Option ℕ

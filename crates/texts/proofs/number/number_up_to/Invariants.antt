@@ -1,6 +1,6 @@
 use Rattle.std.proofs.Common.{◌≡◌, ◌≤◌, drop}
-use Rattle.replay_script.specs.Number.{number_after, if_at_most}
-use Rattle.replay_script.proofs.number.number_up_to.Given as goal
+use Rattle.texts.specs.Number.{number_after, if_at_most}
+use Rattle.texts.proofs.number.number_up_to.Given as goal
 
 abbrev pub invariant-loop-byte : goal.invariant-loop-byte
 invariant-loop-byte l =

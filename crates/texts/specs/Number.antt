@@ -1,9 +1,6 @@
 -- Decimal numbers.
-use Rattle.std.specs.Prelude.{ℕ, ℤ, pos, ◌+◌, ◌-◌, ◌*◌, ◌^◌, List, [], ◌∷◌, Option, Some, None, nat_le, if◌then◌else◌}
+use Rattle.std.specs.Prelude.{ℕ, ◌+◌, ◌-◌, ◌*◌, List, [], ◌∷◌, Option, Some, None, nat_le, if◌then◌else◌}
 use Rattle.std.specs.Char.{is_ascii_digit}
-use Rattle.std.specs.Option.{option_map}
-use Rattle.values.specs.Maybe.{◌>>=◌}
-use Rattle.replay_script.specs.Cut.{cut_at}
 
 -- The number that decimal digits spell after those that spell n.
 abbrev pub number_after : ℕ → List ℕ → Option ℕ
@@ -22,16 +19,3 @@ if_at_most limit (Some n) = if nat_le n limit then Some n else None
 
 abbrev pub number_up_to : ℕ → List ℕ → Option ℕ
 number_up_to limit text = if_at_most limit (number_of text)
-
--- A number that fits an int.
-abbrev pub int_of : List ℕ → Option ℤ
-int_of text = option_map pos (number_up_to (2 ^ 31 - 1) text)
-
--- Two of these with one blank between them.
-abbrev pub ints_of : List ℕ → Option (ℤ × ℤ)
-ints_of text = do
-  let words = cut_at 32 text
-  first ← int_of words.front
-  behind ← words.behind
-  second ← int_of behind
-  Some (first, second)

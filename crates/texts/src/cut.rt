@@ -1,7 +1,7 @@
 //! Cutting a text at the first occurrence of a byte.
 
 ghost use Rattle.std.specs.Prelude.{◌≡◌, ◌==◌, position};
-ghost use Rattle.replay_script.specs.Cut.{cut_at};
+ghost use Rattle.texts.specs.Cut.{cut_at};
 
 use values::Bytes;
 
@@ -21,7 +21,7 @@ fn place_of(byte: u8, text: &[u8]) -> Option<usize>
 }
 
 /// Cuts a text at the first occurrence of a byte.
-pub(crate) fn cut_at(byte: u8, text: &[u8]) -> Cut<'_>
+pub fn cut_at(byte: u8, text: &[u8]) -> Cut<'_>
     ensures { result ≡ cut_at byte text.now }
 {
     match place_of(byte, text) {

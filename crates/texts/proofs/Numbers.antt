@@ -3,7 +3,7 @@ use Rattle.std.proofs.Common.{◌≡◌, ℕ, ◌+◌, ◌-◌, ◌*◌, ◌<◌
 use Rattle.std.proofs.lemmas.List.{at_drop_more}
 use Rattle.std.specs.Char.{is_ascii_digit}
 use Rattle.std.proofs.lemmas.Bool.Decides.{nat_tests}
-use Rattle.replay_script.specs.Number.{number_after, number_up_to, if_at_most}
+use Rattle.texts.specs.Number.{number_after, number_up_to, if_at_most}
 
 -- A number that is too large stays too large, whatever follows it.
 pub up_to-too_large : (limit n : ℕ) (bs : List ℕ) → limit < n → if_at_most limit (number_after n bs) ≡ None

@@ -1,9 +1,10 @@
 //! The permissions to read and to administrate a node.
 
-ghost use Rattle.std.specs.Prelude.{◌≡◌};
+ghost use Rattle.std.specs.Prelude.{◌≡◌, codes};
 ghost use Rattle.std.specs.List.{list_any};
-ghost use Rattle.read_processor.specs.Permissions.{lets_any_of, is_same_id, is_everybody, grants_any_of, any_grants, may_read, may_see_acl, may_administrate};
+ghost use Rattle.permissions.specs.Permissions.{lets_any_of, is_same_text, is_same_id, is_address, means_id, is_everybody, grants_any_of, any_grants, is_super, may_read, may_see_acl, may_administrate};
 
+use crate::addresses::names_address;
 use jute::codes::READ;
 use jute::{Acl, Id};
 use paths_and_acls::AclList;
@@ -35,17 +36,33 @@ fn is_same_id(a: &Id, b: &Id) -> bool
     a.scheme.as_slice() == b.scheme.as_slice() && a.id.as_slice() == b.id.as_slice()
 }
 
-fn is_shown(ids: &[Id], id: &Id) -> bool
-    ensures { result ≡ list_any (is_same_id id.now) ids.now }
+fn is_address(id: &Id) -> bool
+    ensures { result ≡ is_address id.now }
 {
-    ids.iter().any(|shown| is_same_id(id, shown))
+    id.scheme.as_slice() == b"ip".as_slice()
+}
+
+// Whether the id of an entry means a client's.
+fn means_id(named: &Id, id: &Id) -> bool
+    ensures { result ≡ means_id named.now id.now }
+{
+    is_same_id(named, id)
+        || (is_address(named)
+            && is_address(id)
+            && names_address(named.id.as_slice(), id.id.as_slice()))
+}
+
+fn means_any(ids: &[Id], named: &Id) -> bool
+    ensures { result ≡ list_any (means_id named.now) ids.now }
+{
+    ids.iter().any(|id| means_id(named, id))
 }
 
 // Whether the entry grants one of the permissions to a client with these ids.
 fn grants_any_of(permissions: u32, ids: &[Id], acl: &Acl) -> bool
     ensures { result ≡ grants_any_of permissions ids.now acl.now }
 {
-    lets_any_of(permissions, acl) && (is_shown(ids, &acl.id) || is_everybody(&acl.id))
+    lets_any_of(permissions, acl) && (means_any(ids, &acl.id) || is_everybody(&acl.id))
 }
 
 // Whether one of the entries grants one of the permissions to a client with these ids.
@@ -55,32 +72,47 @@ fn any_grants(permissions: u32, ids: &[Id], acls: &[Acl]) -> bool
     acls.iter().any(|acl| grants_any_of(permissions, ids, acl))
 }
 
+fn is_super_id(id: &Id) -> bool
+    ensures { result ≡ is_same_text id.now.scheme (codes "super") }
+{
+    id.scheme.as_slice() == b"super".as_slice()
+}
+
+// Whether one of the ids is the super user's.
+fn is_super(ids: &[Id]) -> bool
+    ensures { result ≡ is_super ids.now }
+{
+    ids.iter().any(|id| is_super_id(id))
+}
+
 /// Whether a client with these ids may read a node with this access control list, by the rules of a dialect. The open
 /// list lets every client read.
-pub(crate) fn may_read(rules: Dialect, ids: &[Id], acl: &AclList) -> bool
+pub fn may_read(rules: Dialect, ids: &[Id], acl: &AclList) -> bool
     ensures { result ≡ may_read rules ids.now acl.now }
 {
     match acl.listed() {
         None => return true,
         Some(entries) => {
-            any_grants(READ, ids, entries) || (rules == Dialect::Zk34 && entries.is_empty())
+            is_super(ids)
+                || any_grants(READ, ids, entries)
+                || (rules == Dialect::Zk34 && entries.is_empty())
         }
     }
 }
 
 /// Whether a client with these ids may see the list itself, by the rules of later dialects.
-pub(crate) fn may_see_acl(ids: &[Id], acl: &AclList) -> bool
+pub fn may_see_acl(ids: &[Id], acl: &AclList) -> bool
     ensures { result ≡ may_see_acl ids.now acl.now }
 {
     match acl.listed() {
         None => return true,
-        Some(entries) => any_grants(READ_OR_ADMIN, ids, entries),
+        Some(entries) => is_super(ids) || any_grants(READ_OR_ADMIN, ids, entries),
     }
 }
 
 /// Whether a client with these ids may administrate a node that has these entries.
-pub(crate) fn may_administrate(ids: &[Id], entries: &[Acl]) -> bool
+pub fn may_administrate(ids: &[Id], entries: &[Acl]) -> bool
     ensures { result ≡ may_administrate ids.now entries.now }
 {
-    any_grants(ADMIN, ids, entries)
+    is_super(ids) || any_grants(ADMIN, ids, entries)
 }
