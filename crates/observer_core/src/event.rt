@@ -1,6 +1,6 @@
 //! The events that an observer takes.
 
-use values::Bytes;
+use values::{Bytes, Str};
 
 /// An input. A client's connection is named by its number.
 #[derive(Drop)]
@@ -10,7 +10,8 @@ pub enum Event<'a> {
     LeaderBytes(Bytes<'a>),
     /// The connection to the leader has ended.
     LeaderEnd,
-    ClientUp(u64),
+    /// A client's connection is open. Its client's address is a text such as `127.0.0.1`, where it is known.
+    ClientUp(u64, Option<Str<'a>>),
     ClientBytes(u64, Bytes<'a>),
     ClientEnd(u64),
     /// The session with this id has expired.
