@@ -28,7 +28,7 @@ use Rattle.read_processor.specs.Reply.{reply_frame}
 use Rattle.replica.specs.declared.item_outcome.LeaderNews.{LeaderNews}
 use Rattle.replica.specs.declared.item_outcome.LeaderNews.TheVariants as news
 use Rattle.sessions.specs.State.{SessionTable as Sessions, ConnectedClient}
-use Rattle.sessions.specs.Sessions.{refusal_response, close_as, close_connection, give_session, address_id}
+use Rattle.sessions.specs.Sessions.{refusal_response, close_as, close_connection, give_session, ip_id}
 use Rattle.world.specs.World.{OpenConnection, World}
 use Rattle.world.specs.Clients.{address_in, with_address}
 use Rattle.world.specs.Steps.{StepResult, no_output, and_then, fold_steps}
@@ -153,7 +153,7 @@ module _ (n : ℕ) (Strict : Type 0) (A : World → Type 0) (Q : Steps) (ground 
         known : (o : Option (List ℕ)) → (Strict → IsOpen n w)
             → Makes A Q w (no_output (with_sessions w (with_address w.clients.sessions n o)))
         known None here = stay_makes n Strict A Q ground r w a
-        known (Some address) here = id_makes n Strict A Q ground r w (address_id address) here a
+        known (Some address) here = id_makes n Strict A Q ground r w (ip_id address) here a
 
         by : (o : Option OpenConnection) → finmap.get w.clients.connections n ≡ o
             → Makes A Q w (no_output (with_sessions w (with_address w.clients.sessions n (address_in o))))

@@ -211,8 +211,8 @@ abbrev pub add_id : SessionTable → ℕ → Id → AuthResult
 add_id s n id = show_in s n id (finmap.get s.connections n)
 
 -- The address of a client, as an id.
-abbrev pub address_id : List ℕ → Id
-address_id address = record { scheme = codes "ip"; id = address }
+abbrev pub ip_id : List ℕ → Id
+ip_id address = record { scheme = codes "ip"; id = address }
 
 -- The most bytes of a text that an id is made of. A client's frame is shorter.
 abbrev pub auth_limit : ℕ

@@ -8,7 +8,7 @@ ghost use Rattle.std.specs.Map.Iter.{ShowsInOrder, deref};
 ghost use Rattle.std.specs.FinMap as finmap;
 ghost use Rattle.jute.specs.Owned.{id_format};
 ghost use Rattle.sessions.specs.State.{session_settings_of};
-ghost use Rattle.sessions.specs.Sessions.{no_sessions, session_of_connection, connection_of, ids_of, told_timeout, close_connection, expire_owner, clamped_timeout, session_response, has_password, is_valid, claimed_session, give_session, name_session, connect_session, refusal_response, add_id, address_id, digest_text, add_auth, ids_limit, ids_bytes_limit, id_len, bytes_of_ids, are_within_limits};
+ghost use Rattle.sessions.specs.Sessions.{no_sessions, session_of_connection, connection_of, ids_of, told_timeout, close_connection, expire_owner, clamped_timeout, session_response, has_password, is_valid, claimed_session, give_session, name_session, connect_session, refusal_response, add_id, ip_id, digest_text, add_auth, ids_limit, ids_bytes_limit, id_len, bytes_of_ids, are_within_limits};
 ghost use Rattle.sessions.specs.Agreement.{SessionsAgree};
 
 use crate::connections::Connections;
@@ -368,7 +368,7 @@ impl Sessions {
         connection: u64,
         address: &str,
     ) -> Result<(), NoMemory>
-        ensures ok { OnOk result (self.new ≡ (add_id self.old connection (address_id address.now)).after) }
+        ensures ok { OnOk result (self.new ≡ (add_id self.old connection (ip_id address.now)).after) }
         ensures err { OnErr result (self.new ≡ self.old) }
     {
         let id = Id {

@@ -5,7 +5,7 @@ use Rattle.settings.specs.declared.dialect.Dialect.{Dialect}
 use Rattle.settings.specs.Dialects.{reads_of}
 use Rattle.sessions.specs.declared.passwords.Passwords.{Passwords}
 use Rattle.sessions.specs.declared.passwords.Passwords.TheVariants.{Keyed, Java}
-use Rattle.sessions.specs.Sessions.{close_connection, no_sessions, add_id, address_id}
+use Rattle.sessions.specs.Sessions.{close_connection, no_sessions, add_id, ip_id}
 use Rattle.watch_manager.specs.declared.event.Event.{Event}
 use Rattle.watch_manager.specs.Watching.{without_watches_of, no_watch}
 use Rattle.forwarding.specs.Pending.{nothing_pending, drop_connection}
@@ -105,7 +105,7 @@ address_in (Some connection) = connection.address
 
 abbrev pub with_address : SessionTable → ℕ → Option (List ℕ) → SessionTable
 with_address s n None = s
-with_address s n (Some address) = (add_id s n (address_id address)).after
+with_address s n (Some address) = (add_id s n (ip_id address)).after
 
 -- The address of an open connection's client, where it is known, is an id of the connection.
 abbrev pub with_address_id : ℕ → Clients → Clients
