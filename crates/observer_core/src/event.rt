@@ -1,6 +1,9 @@
 //! The events that an observer takes.
 
-use values::{Bytes, Str};
+ghost use Rattle.std.specs.Prelude.{◌≡◌};
+ghost use Rattle.observer_core.specs.declared.event.Event.TheVariants as events;
+
+use values::{Bytes, Str, Text};
 
 /// An input. A client's connection is named by its number.
 #[derive(Drop)]
@@ -18,4 +21,16 @@ pub enum Event<'a> {
     Expire(i64),
     /// The tree becomes the base and the log is emptied, while clients are served; otherwise nothing happens.
     Checkpoint,
+}
+
+impl<'a> Event<'a> {
+    /// A client's connection is open, and its client has this address.
+    pub fn client_up(number: u64, address: &'a Option<Text>) -> Event<'a>
+        ensures { result ≡ events.ClientUp number address.now }
+    {
+        match address {
+            None => Event::ClientUp(number, None),
+            Some(address) => Event::ClientUp(number, Some(Str::new(address.as_str()))),
+        }
+    }
 }
