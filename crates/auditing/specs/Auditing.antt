@@ -24,7 +24,7 @@ abbrev pub is_checkpoint : ScriptEvent → Bool
 is_checkpoint LeaderUp = false
 is_checkpoint (LeaderBytes bytes) = false
 is_checkpoint LeaderEnd = false
-is_checkpoint (ClientUp client) = false
+is_checkpoint (ClientUp client address) = false
 is_checkpoint (ClientBytes client bytes) = false
 is_checkpoint (ClientEnd client) = false
 is_checkpoint (Expire session) = false

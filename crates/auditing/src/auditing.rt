@@ -39,7 +39,7 @@ fn is_checkpoint(event: &ScriptEvent) -> bool
         ScriptEvent::LeaderUp
         | ScriptEvent::LeaderBytes(_)
         | ScriptEvent::LeaderEnd
-        | ScriptEvent::ClientUp(_)
+        | ScriptEvent::ClientUp(_, _)
         | ScriptEvent::ClientBytes(_, _)
         | ScriptEvent::ClientEnd(_)
         | ScriptEvent::Expire(_) => false,

@@ -12,6 +12,8 @@ use Rattle.client_records.specs.declared.codes.TheConstants.{OK, UNIMPLEMENTED, 
 use Rattle.client_records.specs.declared.connect.ConnectRequest.{ConnectRequest}
 use Rattle.client_records.specs.declared.request.AuthPacket.{AuthPacket}
 use Rattle.sessions.specs.State.{SessionTable as Sessions}
+use Rattle.settings.specs.declared.dialect.Dialect.{Dialect}
+use Rattle.settings.specs.declared.dialect.Dialect.TheVariants.{Zk34, Zk38}
 use Rattle.settings.specs.Dialects.{reads_of}
 use Rattle.sessions.specs.Sessions.{session_of_connection, connection_of, ids_of, ConnectResult, connect_session, claimed_session, refusal_response, AuthResult, add_auth, expire_owner}
 use Rattle.sessions.specs.declared.request.Connected.{Connected}
@@ -444,9 +446,17 @@ take_client_bytes serving n w (Some connection) bytes =
 
 -- ---- connecting and leaving
 
--- A connection that is already open stays as it is.
-abbrev pub open_client : ℕ → World → World
-open_client n w = if is_open n w.clients then w else record w { clients = with_connection n idle_connection w.clients }
+-- The address of a client counts where the leader's dialect is a later one.
+abbrev pub address_for : Option (List ℕ) → Dialect → Option (List ℕ)
+address_for None dialect = None
+address_for (Some address) Zk34 = None
+address_for (Some address) Zk38 = Some address
+
+-- A connection that is already open stays as it is, with its client's address.
+abbrev pub open_client : ℕ → Option (List ℕ) → World → World
+open_client n address w =
+    if is_open n w.clients then w
+    else record w { clients = with_connection n (idle_connection (address_for address w.settings.dialect)) w.clients }
 
 -- The client is gone, and nothing is sent to it.
 abbrev pub end_client : ℕ → World → World

@@ -1,11 +1,11 @@
 //! What a client's bytes do: frames and four-letter words.
 
-ghost use Rattle.std.specs.Prelude.{◌≡◌, ◌≤◌, [], length, true, false, OnOk};
+ghost use Rattle.std.specs.Prelude.{◌≡◌, ◌≤◌, [], length, true, false, OnOk, IfOk};
 ghost use Rattle.jute.specs.Stream.{items_in, place_at};
 ghost use Rattle.forwarding.specs.Pending.{is_idle, is_full};
 ghost use Rattle.read_processor.specs.Asking.{LooksAtAsks};
 ghost use Rattle.world.specs.Clients.{heard_connection, is_heard, rest_at};
-ghost use Rattle.client_service.specs.Serve.{call_of, serve_as, serve_frame, serve_all, frames_of_client, client_frame_limit, take_client_bytes, open_client, end_client};
+ghost use Rattle.client_service.specs.Serve.{call_of, serve_as, serve_frame, serve_all, frames_of_client, client_frame_limit, take_client_bytes, address_for, open_client, end_client};
 ghost use Rattle.client_service.specs.Runs.{MakesOwing, serve_if_heard};
 ghost use Rattle.client_service.specs.Inner.{session_call, IsFirstFrame, waiting_bytes, stage_with_rest, close_if_heard, tell_if_heard};
 ghost use Rattle.world.specs.Results.{MakesStep};
@@ -23,8 +23,9 @@ use forwarding::Occupancy;
 use four_letter::Word;
 use jute::{Reader, read_frame};
 use read_processor::{Ask, Look};
+use settings::Dialect;
 use std::alloc::Global;
-use values::{ByteQueue, Fault, NoMemory};
+use values::{ByteQueue, Fault, NoMemory, Str, Text};
 use world::{Stage, World};
 
 /// The longest frame that a client may send, in bytes.
@@ -339,14 +340,43 @@ pub fn take_client_bytes<L: Fn(&Tree, &[Ask<'_>]) -> Result<Vec<Look>, NoMemory>
     }
 }
 
-/// Opens a connection; one that is already open stays as it is. Fails only if an allocation is refused.
-pub fn open_client(alloc: Global, number: u64, world: &mut World) -> Result<(), NoMemory>
-    ensures { OnOk result (world.new ≡ open_client number world.old) }
+// The address of a client, if it counts in the dialect.
+fn address_for(
+    alloc: Global,
+    address: &Option<Str<'_>>,
+    dialect: Dialect,
+) -> Result<Option<Text>, NoMemory>
+    ensures { IfOk result (λ counted. counted ≡ address_for address.now dialect) }
+{
+    let Some(address) = address else {
+        return Ok(None);
+    };
+    match dialect {
+        Dialect::Zk34 => return Ok(None),
+        Dialect::Zk38 => {
+            let text = Text::new(alloc, address.as_str())?;
+            Ok(Some(text))
+        }
+    }
+}
+
+/// Opens a connection, of a client with this address; one that is already open stays as it is. In the dialect of later
+/// ensembles the address, where it is known, is an id of the connection as soon as that has a session.
+///
+/// Fails only if an allocation is refused.
+pub fn open_client(
+    alloc: Global,
+    number: u64,
+    address: &Option<Str<'_>>,
+    world: &mut World,
+) -> Result<(), NoMemory>
+    ensures { OnOk result (world.new ≡ open_client number address.now world.old) }
 {
     if world.clients.is_open(number) {
         return Ok(());
     }
-    world.clients.open(alloc, number)
+    let address = address_for(alloc, address, world.settings.dialect)?;
+    world.clients.open(alloc, number, address)
 }
 
 /// Closes a connection whose client is gone, and sends nothing. A number that isn't open is ignored.

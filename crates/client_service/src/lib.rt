@@ -31,7 +31,7 @@
 //!
 //! ```text
 //! let mut stage = Stage::new(alloc, world);
-//! open_client(alloc, 7, &mut stage.world)?;                            // connection 7 is open
+//! open_client(alloc, 7, &address, &mut stage.world)?;                  // connection 7 is open
 //! // clients are served, and reads wait in `asked`
 //! take_client_bytes(alloc, &looker, true, true, 7, &mut stage, &mut asked, bytes)?;
 //! settle_reads(alloc, &looker, &mut asked, &mut stage)?;               // appends Output::ToClient(7, reply)

@@ -20,7 +20,7 @@ use std::io::{ErrorKind, Read, Write};
 use std::sync::{Arc, Wait};
 use std::time::{Clock, Duration, Instant};
 use std::{io, thread};
-use values::{Fault, NoMemory};
+use values::{Fault, NoMemory, Text};
 
 /// How the leader's connection ended.
 #[derive(Drop)]
@@ -341,10 +341,11 @@ impl Session {
     fn run<T: Wait + Clock, R: Read + Rest, W: Write>(
         &mut self,
         rt: &T,
+        address: Option<Text>,
         reader: &mut R,
         writer: &mut W,
     ) {
-        self.send(Message::Up);
+        self.send(Message::Up(address));
         for _ in rt.forever() {
             match self.step(rt, reader, writer) {
                 Step::Done => self.idle_since = None,
@@ -429,10 +430,11 @@ impl Session {
 fn converse<T: Wait + Clock, R: Read + Rest + Drop, W: Write + Drop>(
     rt: &T,
     mut session: Session,
+    address: Option<Text>,
     mut reader: R,
     mut writer: W,
 ) -> LeaderGone {
-    session.run(rt, &mut reader, &mut writer);
+    session.run(rt, address, &mut reader, &mut writer);
     drop(writer);
     session.end(rt, &mut reader);
     drop(reader);
@@ -441,7 +443,7 @@ fn converse<T: Wait + Clock, R: Read + Rest + Drop, W: Write + Drop>(
 
 /// Serves a client, from its connection's first byte to its end.
 ///
-/// It sends `Up`, and then what the reader brings: at most 16 whole frames at once, and the next ones when these are
+/// It sends `Up` with the client's address, and then what the reader brings: at most 16 whole frames at once, and the next ones when these are
 /// taken and the answers are written. What the engine would hold until the leader answers is sent on when all frames
 /// before it are answered, or where it has a place among those that all sessions share. A four-letter word that isn't
 /// allowed is refused. It ends if a read or a write fails, if the reader is at its end, if a limit has passed, or if the
@@ -456,6 +458,7 @@ pub fn session_loop<T: Wait + Clock, R: Read + Rest + Drop, W: Write + Drop>(
     reader: R,
     writer: W,
     port: Port,
+    address: Option<Text>,
     limits: SessionLimits,
     ahead: Arc<ReadsAhead, Global>,
 ) -> PortEnd {
@@ -466,7 +469,7 @@ pub fn session_loop<T: Wait + Clock, R: Read + Rest + Drop, W: Write + Drop>(
         port,
         fault: _,
         wants_memory: _,
-    } = converse(rt, session, reader, writer);
+    } = converse(rt, session, address, reader, writer);
     port.finish()
 }
 
@@ -482,5 +485,5 @@ pub fn leader_loop<T: Wait + Clock, R: Read + Rest + Drop, W: Write + Drop>(
     let places = OwnReadsAhead::new(None);
     let limits = SessionLimits::none();
     let session = Session::new(rt, alloc, Cutting::Reads, limits, places, port);
-    converse(rt, session, reader, writer)
+    converse(rt, session, None, reader, writer)
 }

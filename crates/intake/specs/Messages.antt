@@ -13,7 +13,7 @@ PortMessage = ℕ × Message
 
 -- The event of a port's message: port 0 is the leader's, and port n is connection n.
 abbrev pub event_of_message : ℕ → Message → Event
-event_of_message n Up = if n == 0 then events.LeaderUp else events.ClientUp n
+event_of_message n (Up address) = if n == 0 then events.LeaderUp else events.ClientUp n address
 event_of_message n (Bytes bytes) = if n == 0 then events.LeaderBytes bytes else events.ClientBytes n bytes
 event_of_message n End = if n == 0 then events.LeaderEnd else events.ClientEnd n
 event_of_message n Checkpoint = events.Checkpoint

@@ -15,11 +15,11 @@ pub fn event_of(number: usize, message: &Message) -> Event<'_>
     match message {
         Message::Checkpoint => Event::Checkpoint,
         Message::Expire(session) => Event::Expire(*session),
-        Message::Up => {
+        Message::Up(address) => {
             if number == 0 {
                 return Event::LeaderUp;
             }
-            Event::ClientUp(number as u64)
+            Event::client_up(number as u64, address)
         }
         Message::Bytes(bytes) => {
             if number == 0 {

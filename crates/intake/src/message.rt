@@ -1,13 +1,13 @@
 //! The messages that go into a port.
 
 use thiserror::Error;
-use values::Blob;
+use values::{Blob, Text};
 
 /// A message from the thread of a port to the hub.
 #[derive(Debug, Drop, PartialEq, Eq)]
 pub enum Message {
-    /// The connection is open.
-    Up,
+    /// The connection is open. That of a client has the client's address, a text such as `127.0.0.1`.
+    Up(Option<Text>),
     Bytes(Blob),
     /// The connection has ended.
     End,

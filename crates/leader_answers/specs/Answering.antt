@@ -32,6 +32,7 @@ use Rattle.forwarding.specs.declared.request.Settled.TheVariants.{NoSync, Gone, 
 use Rattle.forwarding.specs.Queue.{pending_limit, found_write, waiting_connect}
 use Rattle.forwarding.specs.Pending.{queue_of, is_full, take_ready, answer_write, pending_close, settle_sync, take_connect, awaiting, take_touched}
 use Rattle.world.specs.World.{Clients, World}
+use Rattle.world.specs.Clients.{with_address_id}
 use Rattle.world.specs.Timeouts.{known_timeout}
 use Rattle.world.specs.Steps.{StepResult, no_output, and_then, fold_steps}
 use Rattle.world.specs.Sending.{to_leader, close_client, send_or_close, send_last, send_reply, with_sessions, with_pending}
@@ -144,12 +145,21 @@ serve_next n session w frame =
     if is_full w.clients.pending n || nat_lt client_frame_limit (length frame) then close_client n w
     else serve_as n session w frame (call_of w frame)
 
--- The connection has the session that it asked for, and is answered. Then the frames that were held are served, as if
+-- The address of the connection's client is an id of the connection.
+abbrev pub with_known_address : ℕ → World → World
+with_known_address n w = record w { clients = with_address_id n w.clients }
+
+-- A client that was admitted: its address is an id of the connection, and the frames that were held are served, as if
 -- they came now.
+abbrev pub serve_admitted : ℕ → ℤ → List (List ℕ) → World → StepResult World
+serve_admitted n session frames w =
+    fold_steps (is_unheard n) (serve_next n session) (with_known_address n w) frames
+
+-- The connection has the session that it asked for, and is answered. Then the frames that were held are served.
 abbrev pub admit_with : ℕ → World → PendingConnect → List (List ℕ) → ConnectResult → StepResult World
 admit_with n w connect frames given =
     and_then (answer_connect n connect.has_read_only (with_sessions w given.after) given.connected)
-    (λ v. fold_steps (is_unheard n) (serve_next n connect.session) v frames)
+    (serve_admitted n connect.session frames)
 
 -- A connection whose connect waits has no session; one that had a session would lose it.
 abbrev pub admit_as : ℕ → World → List (List ℕ) → Option PendingConnect → StepResult World

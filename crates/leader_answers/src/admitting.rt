@@ -6,7 +6,7 @@ ghost use Rattle.forwarding.specs.Pending.{take_connect};
 ghost use Rattle.sessions.specs.Sessions.{close_connection, give_session};
 ghost use Rattle.world.specs.Sending.{with_sessions, with_pending};
 ghost use Rattle.client_service.specs.Serve.{is_unheard};
-ghost use Rattle.leader_answers.specs.Answering.{serve_next, admit_as, admit_client, refuse_client, answer_revalidated};
+ghost use Rattle.leader_answers.specs.Answering.{serve_next, serve_admitted, admit_as, admit_client, refuse_client, answer_revalidated};
 ghost use Rattle.world.specs.Results.{MakesStep};
 
 use client_service::{CLIENT_FRAME_LIMIT, answer_connect, refuse_connect, serve_call};
@@ -53,6 +53,20 @@ fn serve_frames(
     Ok(())
 }
 
+// Makes the client's address an id of the connection that was admitted, and serves the frames that were held.
+fn serve_admitted(
+    alloc: Global,
+    number: u64,
+    session: i64,
+    stage: &mut Stage,
+    frames: &[Blob],
+) -> Result<(), NoMemory>
+    ensures { MakesStep result stage.old (serve_admitted number session frames.now) stage.new }
+{
+    stage.world.clients.show_address(alloc, number)?;
+    serve_frames(alloc, number, session, stage, frames)
+}
+
 // Takes the connect of the connection, and the frames that are held after it.
 fn take_connect(alloc: Global, number: u64, world: &mut World) -> Result<TakenConnect, NoMemory>
     ensures connect { let taken = take_connect world.old.clients.pending number in
@@ -86,7 +100,8 @@ fn give_session(
         .admit(alloc, number, connect.session, connect.time_out)
 }
 
-// Admits the client of a connect: it gets the session and is answered, and then the frames are served that were held.
+// Admits the client of a connect: it gets the session and is answered, its address is an id of the connection, and then
+// the frames are served that were held.
 #[tactic(auto, using(world::proofs::Steps::then_meets, world::proofs::Steps::first_stops))]
 fn admit(
     alloc: Global,
@@ -101,11 +116,11 @@ fn admit(
 {
     let connected = give_session(alloc, number, &mut stage.world, connect)?;
     answer_connect(alloc, number, connect.has_read_only, stage, &connected)?;
-    serve_frames(alloc, number, connect.session, stage, frames)
+    serve_admitted(alloc, number, connect.session, stage, frames)
 }
 
-/// The connection gets the session that it waits for: the client is answered, and then the frames are served that were
-/// held until then.
+/// The connection gets the session that it waits for: the client is answered, its address is an id of the connection
+/// where it counts, and then the frames are served that were held until then.
 ///
 /// Fails only if an allocation is refused; then a prefix of the outputs has been appended.
 pub(crate) fn admit_client(alloc: Global, number: u64, stage: &mut Stage) -> Result<(), NoMemory>

@@ -193,7 +193,7 @@ impl Load {
         let mut frame = Vec::new(alloc);
         write_connect(alloc, &mut frame)?;
         let events = [
-            Event::ClientUp(connection),
+            Event::ClientUp(connection, None),
             Event::ClientBytes(connection, Bytes::new(frame.as_slice())),
         ];
         self.happen(alloc, &events)?;

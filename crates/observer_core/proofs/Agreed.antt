@@ -79,7 +79,7 @@ module _ (laws : LowerLaws) where
     sends = λ w bytes. tt;
     watches = λ w watch a. tt;
     unwatches = λ w kind path a. tt;
-    auths = λ w scheme bytes a. tt;
+    shows = λ w id a. tt;
   }
 
   any_calls : (n : ℕ) → HoldsOfCalls n Agreeing (λ session. Unit {0}) Any
@@ -151,7 +151,7 @@ module _ (laws : LowerLaws) where
     meets = λ w a. a;
     effects = λ loading w i t e a. effect_agrees w t a;
     gone = gone_agrees;
-    opens = λ n w a. opened_agrees n idle_connection w.clients a;
+    opens = λ n address w a. opened_agrees n (idle_connection address) w.clients a;
     bytes = λ n w bytes a. bytes_agree (is_serving_clients w) n w (heard_connection n w.clients) bytes a;
     closes = λ n w a. closed_agrees laws n w.clients a;
     checkpoints = λ w a. a;
@@ -183,16 +183,16 @@ module _ (laws : LowerLaws) where
       let s = (no_clients settings).sessions in
       let session = primed_session settings in
       let longest = settings.timeouts.greatest in
-      let v : World = record w { clients = with_connection 1 idle_connection (no_clients settings) } in
+      let v : World = record w { clients = with_connection 1 (idle_connection None) (no_clients settings) } in
       let u = with_sessions v (record s { counter = settings.first_counter + 1 }) in
       subst (λ (o : Option ℕ). Agreeing (close_client_if_some
       (with_sessions u (give_session u.clients.sessions 1 session longest).after) o).after)
       (finmap.get-empty int_cmp session)
       (given_agrees laws 1 u session longest (finmap.get-empty nat_cmp 1)
       (ap (λ o. waiting_connect (queue_in o)) (finmap.get-empty nat_cmp 1))
-      (ap is_some (get-inserted (no_clients settings).connections 1 idle_connection))
+      (ap is_some (get-inserted (no_clients settings).connections 1 (idle_connection None)))
       (counted_agrees laws 1 v (finmap.get-empty nat_cmp 1) (first_not_last settings.first_counter begins)
-      (opened_agrees 1 idle_connection (no_clients settings) (nobody_agrees settings fits begins))))
+      (opened_agrees 1 (idle_connection None) (no_clients settings) (nobody_agrees settings fits begins))))
 
   pub connections_agree : SessionsAreApart → ConnectionsAgree
   connections_agree apart = record {

@@ -9,7 +9,7 @@ use Rattle.std.proofs.lemmas.Bool.{cond_both}
 use Rattle.std.specs.FinMap as finmap
 use mathlib.Core.Bool.{true≢false}
 use Rattle.sessions.specs.State.{SessionTable as Sessions, ConnectedClient as SessionConnection}
-use Rattle.sessions.specs.Sessions.{session_in, session_of_connection, greatest_counter, connection_of, close_connection, session_response, refused_connect, give_session, name_session, ConnectResult, add_auth}
+use Rattle.sessions.specs.Sessions.{session_in, session_of_connection, greatest_counter, connection_of, close_connection, session_response, refused_connect, give_session, name_session, ConnectResult, add_id}
 use Rattle.sessions.specs.Credentials.{session_id_of}
 use Rattle.sessions.specs.declared.request.SessionResponse.{SessionResponse}
 use Rattle.sessions.specs.Agreement.{SessionsAgree, SessionsAreApart, AgreementIsKept}
@@ -33,7 +33,7 @@ use Rattle.observer_core.specs.Agreement.{ClientsAgree, OneSessionEach}
 use Rattle.forwarding.proofs.Dropping.{none_waits as none_waits_then}
 use Rattle.observer_core.proofs.Walking.{IsOpen, HasNone, NoConnect, IsWith, IsGround, given, with_connect}
 use Rattle.observer_core.proofs.Answered.{unqueued, waits_busy}
-use Rattle.observer_core.proofs.Passing.{KeysPass, inserted_passes, removed_passes, closed_passes, one_closed_passes, auth_passes, given_passes, auth_none, closed_none, given_none, fewer_without, put_passes, settled_passes, watchers_pass, watched_passes, unwatched_passes}
+use Rattle.observer_core.proofs.Passing.{KeysPass, inserted_passes, removed_passes, closed_passes, one_closed_passes, id_passes, given_passes, id_none, closed_none, given_none, fewer_without, put_passes, settled_passes, watchers_pass, watched_passes, unwatched_passes}
 
 abbrev pub Agreeing : World → Type 0
 Agreeing w = ClientsAgree w.clients
@@ -195,13 +195,13 @@ module _ (laws : LowerLaws) where
   -- ---- a connection's steps
 
   module _ (n : ℕ) where
-    auth_agrees : (w : World) (scheme bytes : Option (List ℕ)) → IsOpen n w → Agreeing w
-        → Agreeing (with_sessions w (add_auth w.clients.sessions n scheme bytes).after)
-    auth_agrees w scheme bytes here a =
+    shown_agrees : (w : World) (id : Id) → IsOpen n w → Agreeing w
+        → Agreeing (with_sessions w (add_id w.clients.sessions n id).after)
+    shown_agrees w id here a =
         let s = w.clients.sessions in
-        sessions_agree w (add_auth s n scheme bytes).after (laws.kept.auths s n scheme bytes a.sessions)
-        (auth_passes (λ m. is_open m w.clients) s n here a.joined scheme bytes)
-        (λ m connect e. auth_none s n scheme bytes m (a.connecting m connect e)) a
+        sessions_agree w (add_id s n id).after (laws.kept.shows s n id a.sessions)
+        (id_passes (λ m. is_open m w.clients) s n here a.joined id)
+        (λ m connect e. id_none s n id m (a.connecting m connect e)) a
 
     -- What waits changes, and no connect does.
     changed_agrees : (w : World) (p : PendingTable) → p.connects ≡ w.clients.pending.connects → PendingAgrees p
@@ -331,7 +331,7 @@ module _ (laws : LowerLaws) where
       unwatches = λ w kind path a.
           watches_agree w (without_watch kind n path w.clients.watches)
           (unwatched_passes (λ m. is_open m w.clients) kind n path w.clients.watches a.watching) a;
-      auths = λ w scheme bytes here a. auth_agrees w scheme bytes (here tt) a;
+      shows = λ w id here a. shown_agrees w id (here tt) a;
       touches = touched_agrees;
       opens = λ w k a. opened_agrees n k w.clients a;
       writes = λ w xid kind room here a. written_agrees w xid kind room (here tt) a;

@@ -38,24 +38,24 @@ use Rattle.observer_core.proofs.SessionRows.{session_is_created, first_is_told}
 abbrev opened : Settings → World
 opened settings =
     let w = (new_machine settings).world in
-    record w { clients = with_connection 2 idle_connection w.clients }
+    record w { clients = with_connection 2 (idle_connection None) w.clients }
 
 word_comes : (settings : Settings) (bytes : List ℕ)
-    → (play (new_machine settings) (ClientUp 2 ∷ ClientBytes 2 bytes ∷ [])).outputs
-    ≡ (tell_or_serve false 2 (with_waiting_bytes 2 (opened settings) idle_connection []) bytes
+    → (play (new_machine settings) (ClientUp 2 None ∷ ClientBytes 2 bytes ∷ [])).outputs
+    ≡ (tell_or_serve false 2 (with_waiting_bytes 2 (opened settings) (idle_connection None) []) bytes
     (word_of (take 4 bytes))).outputs ++ []
 word_comes settings bytes =
     ap (λ (o : Option OpenConnection). put_out (cond (is_some o) (new_machine settings).world (opened settings)))
     (finmap.get-empty nat_cmp 2)
     ∙ ap (λ (o : Option OpenConnection). (take_client_bytes false 2 (opened settings) (heard_in o) bytes).outputs ++ [])
-    (get-inserted finmap.empty 2 idle_connection)
+    (get-inserted finmap.empty 2 (idle_connection None))
     ∙ ap (λ (idle : Bool). (tell_or_serve false 2 v bytes (cond idle (word none_has) None)).outputs ++ [])
     (idle_at set.empty 2)
     ∙ ap (λ (session : Option ℤ). (tell_or_serve false 2 v bytes (word session)).outputs ++ [])
     (ap session_in (finmap.get-empty nat_cmp 2))
   where
     v : World
-    v = with_waiting_bytes 2 (opened settings) idle_connection []
+    v = with_waiting_bytes 2 (opened settings) (idle_connection None) []
 
     none_has : Option ℤ
     none_has = session_of_connection (new_machine settings).world.clients.sessions 2
@@ -118,7 +118,7 @@ rows_hold again nobody rows = record {
   forwarded_sync = λ settings is three begins. in_earlier settings
       (ClientBytes 1 sync_frame ∷ LeaderBytes sync_packet ∷ []) _ is (sync_answers settings (three, begins));
   new_session = λ settings is three begins terms secretless. in_earlier settings
-      (ClientUp 2 ∷ ClientBytes 2 connect_frame ∷ LeaderBytes inform_of_session ∷ []) _ is
+      (ClientUp 2 None ∷ ClientBytes 2 connect_frame ∷ LeaderBytes inform_of_session ∷ []) _ is
       (session_is_created again nobody settings is (three, begins) terms secretless);
   heard_session = λ settings is three begins terms secretless. in_earlier settings
       (ClientBytes 1 client_ping ∷ LeaderBytes leader_ping ∷ LeaderBytes leader_ping ∷ []) _ is

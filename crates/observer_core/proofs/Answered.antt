@@ -28,18 +28,19 @@ use Rattle.read_processor.specs.Reply.{reply_frame}
 use Rattle.replica.specs.declared.item_outcome.LeaderNews.{LeaderNews}
 use Rattle.replica.specs.declared.item_outcome.LeaderNews.TheVariants as news
 use Rattle.sessions.specs.State.{SessionTable as Sessions, ConnectedClient}
-use Rattle.sessions.specs.Sessions.{refusal_response, close_as, close_connection, give_session}
-use Rattle.world.specs.World.{World}
+use Rattle.sessions.specs.Sessions.{refusal_response, close_as, close_connection, give_session, ip_id}
+use Rattle.world.specs.World.{OpenConnection, World}
+use Rattle.world.specs.Clients.{address_in, with_address}
 use Rattle.world.specs.Steps.{StepResult, no_output, and_then, fold_steps}
 use Rattle.world.specs.Sending.{send_or_close, with_sessions, with_pending}
 use Rattle.client_service.specs.Serve.{send_connect_response, call_of, client_frame_limit, is_unheard}
 use Rattle.world.proofs.NatMaps.{get-removed}
 use Rattle.leader_answers.specs.declared.due.Due.{Due}
 use Rattle.leader_answers.specs.declared.due.Due.TheVariants as dues
-use Rattle.leader_answers.specs.Answering.{handle_held, serve_held, answer_ready, answer_if_ready, answer_up_to, answer_front, txn_number, answer_due, has_moved, send_write_reply, answer_write_as, serve_next, admit_as, admit_client, refuse_as, answer_claim, close_ended, give_answer, answer_txn, answer_optional_txn, answer_settled, answer_sync, timeout_in, answer_ping}
+use Rattle.leader_answers.specs.Answering.{handle_held, serve_held, answer_ready, answer_if_ready, answer_up_to, answer_front, txn_number, answer_due, has_moved, send_write_reply, answer_write_as, serve_next, with_known_address, serve_admitted, admit_as, admit_client, refuse_as, answer_claim, close_ended, give_answer, answer_txn, answer_optional_txn, answer_settled, answer_sync, timeout_in, answer_ping}
 use Rattle.write_replies.specs.Replies.{write_look}
 use Rattle.observer_core.specs.Leader.{answer_news}
-use Rattle.observer_core.proofs.Walking.{IsOpen, Steps, NoConnect, given, IsGround, HoldsOfReplies, HoldsOfCalls, HoldsOfConnects, Makes, first_false, idle_queue, heard_open, then_makes, stay_makes, close_makes, send_makes, send_last_makes, local_makes, serve_as_makes, greet_makes}
+use Rattle.observer_core.proofs.Walking.{IsOpen, Steps, NoConnect, given, IsGround, HoldsOfReplies, HoldsOfCalls, HoldsOfConnects, Makes, first_false, idle_queue, heard_open, then_makes, stay_makes, close_makes, send_makes, send_last_makes, id_makes, local_makes, serve_as_makes, greet_makes}
 
 -- Nothing of the connection waits any more, and it has no session.
 abbrev pub unqueued : ℕ → World → World
@@ -145,6 +146,20 @@ module _ (n : ℕ) (Strict : Type 0) (A : World → Type 0) (Q : Steps) (ground 
         (λ room. serve_as_makes n Strict A Q ground r Own q w session frame (call_of w frame) own
         (first_false (is_full w.clients.pending n) (nat_lt client_frame_limit (length frame)) room) here a)
 
+    -- A client's address becomes an id of its connection.
+    address_makes : (w : World) → A w → Makes A Q w (no_output (with_known_address n w))
+    address_makes w a = by (finmap.get w.clients.connections n) refl
+      where
+        known : (o : Option (List ℕ)) → (Strict → IsOpen n w)
+            → Makes A Q w (no_output (with_sessions w (with_address w.clients.sessions n o)))
+        known None here = stay_makes n Strict A Q ground r w a
+        known (Some address) here = id_makes n Strict A Q ground r w (ip_id address) here a
+
+        by : (o : Option OpenConnection) → finmap.get w.clients.connections n ≡ o
+            → Makes A Q w (no_output (with_sessions w (with_address w.clients.sessions n (address_in o))))
+        by None e = stay_makes n Strict A Q ground r w a
+        by (Some k) e = known k.address (λ _. ap is_some e)
+
     -- The frames that were held until the connection had its session.
     pub nexts_make : (session : ℤ) → Own session → (w : World) (fs : List (List ℕ)) → A w
         → Makes A Q w (fold_steps (is_unheard n) (serve_next n session) w fs)
@@ -155,6 +170,13 @@ module _ (n : ℕ) (Strict : Type 0) (A : World → Type 0) (Q : Steps) (ground 
         (λ v. fold_steps (is_unheard n) (serve_next n session) v fs)
         (next_makes session own w f (λ _. heard_open n w heard) a)
         (λ b. nexts_make session own (serve_next n session w f).after fs b))
+
+    admitted_make : (session : ℤ) → Own session → (w : World) (fs : List (List ℕ)) → A w
+        → Makes A Q w (serve_admitted n session fs w)
+    admitted_make session own w fs a =
+        then_makes n Strict A Q ground r w (no_output (with_known_address n w))
+        (λ u. fold_steps (is_unheard n) (serve_next n session) u fs) (address_makes w a)
+        (nexts_make session own (with_known_address n w) fs)
 
     -- A connection is admitted that waits for a session of its own.
     pub admit_makes : (May : World → ℤ → Type 0)
@@ -185,7 +207,7 @@ module _ (n : ℕ) (Strict : Type 0) (A : World → Type 0) (Q : Steps) (ground 
             let response = (give_session v.clients.sessions n session connect.time_out).connected.response in
             let greet : World → StepResult World = send_connect_response n connect.has_read_only response in
             let got = given n v session connect.time_out in
-            let all : World → StepResult World = λ u. fold_steps (is_unheard n) (serve_next n session) u fs in
+            let all : World → StepResult World = serve_admitted n session fs in
             then_makes n Strict A Q ground r w (no_output v)
             (λ u. and_then (and_then (given n u session connect.time_out) greet) all)
             (record { keeps = more.drops w a; is = drops w a })
@@ -197,7 +219,7 @@ module _ (n : ℕ) (Strict : Type 0) (A : World → Type 0) (Q : Steps) (ground 
               is = gives v session connect.time_out free (may connect e).1 b;
             })
             (λ d. greet_makes n Strict A Q ground r got.after connect.has_read_only response d))
-            (λ d. nexts_make session (may connect e).0 (and_then got greet).after fs d))
+            (λ d. admitted_make session (may connect e).0 (and_then got greet).after fs d))
 
   -- ---- what waited for an answer
 

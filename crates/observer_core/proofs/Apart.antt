@@ -7,7 +7,7 @@ use Rattle.std.specs.FinSet as set
 use Rattle.values.specs.declared.fault.Fault.{Fault}
 use Rattle.jute.specs.Stream.{Unread}
 use Rattle.sessions.specs.State.{SessionTable as Sessions}
-use Rattle.sessions.specs.Sessions.{ids_of, connection_of, ConnectResult, give_session, add_auth}
+use Rattle.sessions.specs.Sessions.{ids_of, connection_of, ConnectResult, give_session, add_id}
 use Rattle.sessions.specs.Agreement.{OtherConnectionsStay}
 use Rattle.sessions.specs.declared.request.SessionResponse.{SessionResponse}
 use Rattle.watch_manager.specs.Watching.{WatchTables}
@@ -29,7 +29,7 @@ use Rattle.world.specs.World.{OpenConnection, Clients, World}
 use Rattle.world.specs.Steps.{StepResult, no_output, and_then}
 use Rattle.world.specs.Clients.{idle_connection, is_open, with_connection, without_client}
 use Rattle.world.specs.Sending.{close_client, with_watches, with_sessions, close_client_if_some, with_pending}
-use Rattle.client_service.specs.Serve.{with_watch, touched_as, send_connect_response, ask_about_session, forward_frame, serve_as, with_waiting_bytes, wait_if_heard, open_client, end_client}
+use Rattle.client_service.specs.Serve.{with_watch, touched_as, send_connect_response, ask_about_session, forward_frame, serve_as, with_waiting_bytes, wait_if_heard, address_for, open_client, end_client}
 use Rattle.observer_core.specs.Apart.{HasOrAsks, ConcernsOnly, HasSameWatches, IsUntouched, IsApart}
 use Rattle.world.proofs.NatMaps.{get-kept, get-beside}
 use Rattle.observer_core.proofs.Walking.{HoldsOfReplies, HoldsOfCalls, given, with_connect, new_connect, claiming, asked_for, serve_as_makes, greet_makes}
@@ -280,9 +280,9 @@ module _ (own : ℤ → Type 0) (left : ℕ → Type 0) where
       unwatches = λ w kind path a.
           watching_apart n w (without_watch kind n path w.clients.watches)
           (λ k other. unwatched_same n k other w.clients.watches kind path);
-      auths = λ w scheme bytes a.
-          sessions_apart n w (add_auth w.clients.sessions n scheme bytes).after
-          (λ k other. stay.auths w.clients.sessions n scheme bytes k other);
+      shows = λ w id a.
+          sessions_apart n w (add_id w.clients.sessions n id).after
+          (λ k other. stay.shows w.clients.sessions n id k other);
     }
 
     -- Nothing of another connection that waits changes.
@@ -421,13 +421,16 @@ module _ (own : ℤ → Type 0) (left : ℕ → Type 0) where
 
   -- ---- connecting and leaving
 
-  pub open_apart : (n : ℕ) (w : World) → IsApart n own left w (no_output (open_client n w))
-  open_apart n w = by (is_open n w.clients)
+  pub open_apart : (n : ℕ) (address : Option (List ℕ)) (w : World) → IsApart n own left w (no_output (open_client n address w))
+  open_apart n address w = by (is_open n w.clients)
     where
+      opened : OpenConnection
+      opened = idle_connection (address_for address w.settings.dialect)
+
       by : (b : Bool) → IsApart n own left w
-          (no_output (cond b w (record w { clients = with_connection n idle_connection w.clients })))
+          (no_output (cond b w (record w { clients = with_connection n opened w.clients })))
       by true = stays_so n w
-      by false = changes n w (with_connection n idle_connection w.clients) (connection_alone n w idle_connection)
+      by false = changes n w (with_connection n opened w.clients) (connection_alone n w opened)
 
   pub end_apart : (stay : OtherConnectionsStay) (keep_watches : OthersKeepWatches) (queues : OtherQueuesStay) (n : ℕ)
       (w : World) → IsApart n own left w (no_output (end_client n w))

@@ -93,7 +93,7 @@ replies_less n = record {
   sends = λ w bytes. same_less w;
   watches = λ w watch a. same_less w;
   unwatches = λ w kind path a. same_less w;
-  auths = λ w scheme bytes a. same_less w;
+  shows = λ w id a. same_less w;
 }
 
 send_less : (n : ℕ) (w : World) (frame : Option (List ℕ)) → Less w (send_or_close n w frame).after
@@ -220,7 +220,7 @@ replies_await n = record {
   sends = λ w bytes a. a;
   watches = λ w watch agrees a. a;
   unwatches = λ w kind path agrees a. a;
-  auths = λ w scheme bytes agrees a. a;
+  shows = λ w id agrees a. a;
 }
 
 calls_await : (n : ℕ) → HoldsOfCalls n Agreeing (λ session. Unit {0}) KeepsAwaiting
@@ -399,7 +399,7 @@ module _ (laws : LowerLaws) (waits : (s : PendingTable) (n : ℕ) → (take_read
           news_awaits t.news (tell_effect w t).after (tell_agrees laws w t h.0) h.1,
         );
         gone = λ w h. (kept.gone w h.0, none_await);
-        opens = λ n w h. (kept.opens n w h.0, h.1);
+        opens = λ n address w h. (kept.opens n address w h.0, h.1);
         bytes = λ n w bytes h. (kept.bytes n w bytes h.0, bytes_await n w bytes h);
         closes = λ n w h. (
           kept.closes n w h.0,

@@ -71,7 +71,7 @@ replies_stay n = record {
   sends = λ w bytes. as_it_was w;
   watches = λ w watch a. as_it_was w;
   unwatches = λ w kind path a. as_it_was w;
-  auths = λ w scheme bytes a. as_it_was w;
+  shows = λ w id a. as_it_was w;
 }
 
 calls_stay : (n : ℕ) → HoldsOfCalls n Always (λ session. Unit {0}) KeepsRests

@@ -17,7 +17,7 @@ use Rattle.world.specs.World.{World}
 use Rattle.world.specs.Steps.{StepResult}
 use Rattle.world.specs.Clients.{idle_connection, is_open, heard_connection, with_connection, without_client}
 use Rattle.world.specs.Sending.{close_client, with_sessions, close_client_if_some}
-use Rattle.client_service.specs.Serve.{take_client_bytes, expire_session}
+use Rattle.client_service.specs.Serve.{take_client_bytes, address_for, expire_session}
 use Rattle.world.proofs.NatMaps.{get-removed}
 use Rattle.observer_core.specs.declared.event.Event.{Event}
 use Rattle.observer_core.specs.declared.event.Event.TheVariants as event
@@ -59,7 +59,8 @@ pub record IsKept (P : World → Type 0) : Type 0 where
   pub effects : (loading : Loading) (w : World) (i : Item) (t : ItemEffect) → take_item loading w.replica i ≡ Ok t
       → P w → P (send_effect w t).after
   pub gone : (w : World) → P w → P (disconnect_all w).after
-  pub opens : (n : ℕ) (w : World) → P w → P (record w { clients = with_connection n idle_connection w.clients })
+  pub opens : (n : ℕ) (address : Option (List ℕ)) (w : World) → P w
+      → P (record w { clients = with_connection n (idle_connection address) w.clients })
   pub bytes : (n : ℕ) (w : World) (bytes : List ℕ) → P w
       → P (take_client_bytes (is_serving_clients w) n w (heard_connection n w.clients) bytes).after
   pub closes : (n : ℕ) (w : World) → P w → P (close_client n w).after
@@ -112,8 +113,9 @@ module _ (P : World → Type 0) (k : IsKept P) where
   event_keeps m event.LeaderUp p = meet_keeps m.leader m.world p
   event_keeps m (event.LeaderBytes bytes) p = leader_keeps m.leader m.world bytes p
   event_keeps m event.LeaderEnd p = end_keeps m.leader m.world p
-  event_keeps m (event.ClientUp n) p =
-      cond_both (is_open n m.world.clients) _ _ P (λ _. p) (λ _. k.opens n m.world p)
+  event_keeps m (event.ClientUp n address) p =
+      cond_both (is_open n m.world.clients) _ _ P (λ _. p)
+      (λ _. k.opens n (address_for address m.world.settings.dialect) m.world p)
   event_keeps m (event.ClientBytes n bytes) p = k.bytes n m.world bytes p
   event_keeps m (event.ClientEnd n) p =
       cond_both (is_open n m.world.clients) _ _ P (λ _. k.closes n m.world p) (λ _. p)

@@ -11,7 +11,7 @@ use Rattle.settings.specs.Settings.{is_server_id}
 use Rattle.jute.specs.declared.owned.Id.{Id}
 use Rattle.sessions.specs.Credentials.{session_id_of, digest_id}
 use Rattle.sessions.specs.State.{SessionTable as Sessions, ConnectedClient, session_table_of}
-use Rattle.sessions.specs.Sessions.{greatest_counter, close_as, close_connection, close_if_some, connection_of, ConnectResult, refused_connect, session_response, give_session, AuthResult, are_within_limits, is_same_id, with_id, show_in, digest_text, auth_by, add_auth}
+use Rattle.sessions.specs.Sessions.{greatest_counter, close_as, close_connection, close_if_some, connection_of, ConnectResult, refused_connect, session_response, give_session, AuthResult, are_within_limits, is_same_id, with_id, show_in, add_id}
 use Rattle.sessions.specs.Agreement.{IsGivenOut, SessionsAgree, IsNewId, NewIdsAreNew}
 use Rattle.settings.specs.Dialects.{reads_of}
 use Rattle.forwarding.specs.declared.request.ConnectKind.TheVariants.{New, Claimed}
@@ -61,20 +61,16 @@ given_ids : (s : Sessions) (n : ℕ) (session time_out : ℤ) → SameIds s (giv
 given_ids s n session time_out =
     let same = one_closed_ids s (connection_of s session) in record { terms = same.terms; counter = same.counter }
 
-auth_ids : (s : Sessions) (n : ℕ) (scheme bytes : Option (List ℕ)) → SameIds s (add_auth s n scheme bytes).after
-auth_ids s n scheme bytes = by (digest_text scheme bytes)
+shown_ids : (s : Sessions) (n : ℕ) (id : Id) → SameIds s (add_id s n id).after
+shown_ids s n id = shown (finmap.get s.connections n)
   where
-    shown : (id : Id) (o : Option ConnectedClient) → SameIds s (show_in s n id o).after
-    shown id None = record { terms = refl; counter = refl }
-    shown id (Some c) =
+    shown : (o : Option ConnectedClient) → SameIds s (show_in s n id o).after
+    shown None = record { terms = refl; counter = refl }
+    shown (Some c) =
         cond_both (list_any (λ shown. is_same_id shown id) c.ids) _ _ (λ (x : AuthResult). SameIds s x.after)
         (λ _. record { terms = refl; counter = refl })
         (λ _. cond_both (are_within_limits (with_id c id).ids) _ _ (λ (x : AuthResult). SameIds s x.after)
         (λ _. record { terms = refl; counter = refl }) (λ _. record { terms = refl; counter = refl }))
-
-    by : (o : Option (List ℕ)) → SameIds s (auth_by s n o).after
-    by None = record { terms = refl; counter = refl }
-    by (Some text) = shown (digest_id text) (finmap.get s.connections n)
 
 -- ---- the ids of later clients
 
@@ -219,9 +215,9 @@ replies_later n = record {
   sends = λ w bytes. unchanged w w refl refl refl;
   watches = λ w watch a. unchanged w _ refl refl refl;
   unwatches = λ w kind path a. unchanged w _ refl refl refl;
-  auths = λ w scheme bytes a.
-      let s = (add_auth w.clients.sessions n scheme bytes).after in
-      same_later w (with_sessions w s) refl (auth_ids w.clients.sessions n scheme bytes) (λ m connect e. e);
+  shows = λ w id a.
+      let s = (add_id w.clients.sessions n id).after in
+      same_later w (with_sessions w s) refl (shown_ids w.clients.sessions n id) (λ m connect e. e);
 }
 
 calls_later : (n : ℕ) → HoldsOfCalls n Agreeing (λ session. Unit {0}) GivesIds
@@ -284,7 +280,7 @@ all_grow = record {
     sends = λ w bytes. nothing_grows w w refl refl;
     watches = λ w watch a. nothing_grows w _ refl refl;
     unwatches = λ w kind path a. nothing_grows w _ refl refl;
-    auths = λ w scheme bytes a. same_grow w _ refl (auth_ids w.clients.sessions n scheme bytes);
+    shows = λ w id a. same_grow w _ refl (shown_ids w.clients.sessions n id);
   };
   calls = λ n. record {
     touches = λ w session a. nothing_grows w _ refl refl;
@@ -344,7 +340,7 @@ grow_kept u = record {
       (grow_again w v (send_effect w t).after (nothing_grows w v refl refl)
       (news_make ⊥ Always Grows all_grow t.news v tt).is);
   gone = λ w g. grow_again u w _ g (gone_grow w);
-  opens = λ n w g. grow_again u w _ g (nothing_grows w _ refl refl);
+  opens = λ n address w g. grow_again u w _ g (nothing_grows w _ refl refl);
   bytes = λ n w bytes g. grow_again u w _ g (bytes_grow n w bytes);
   closes = λ n w g. grow_again u w _ g (closed_grow n w);
   checkpoints = λ w g. grow_again u w _ g (nothing_grows w _ refl refl);
@@ -524,7 +520,7 @@ module _ (new : NewIdsAreNew) where
                     (tell_agrees laws w t l.0)).is),
               );
           gone = λ w l. (kept.gone w l.0, later_again u w _ l.1 (gone_later w));
-          opens = λ n w l. (kept.opens n w l.0, later_again u w _ l.1 (unchanged w _ refl refl refl));
+          opens = λ n address w l. (kept.opens n address w l.0, later_again u w _ l.1 (unchanged w _ refl refl refl));
           bytes = λ n w bytes l. (kept.bytes n w bytes l.0, later_again u w _ l.1 (bytes_later n w bytes l.0));
           closes = λ n w l. (kept.closes n w l.0, later_again u w _ l.1 (closed_later n w));
           checkpoints = λ w l. (kept.checkpoints w l.0, later_again u w _ l.1 (unchanged w _ refl refl refl));

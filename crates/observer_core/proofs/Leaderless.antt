@@ -38,7 +38,7 @@ use Rattle.world.specs.World.{OpenConnection, World}
 use Rattle.world.specs.Steps.{StepResult, no_output, and_then, fold_steps}
 use Rattle.world.specs.Clients.{idle_connection, is_open, heard_connection, with_connection, sent_to, notice_to, notices_of}
 use Rattle.world.specs.Sending.{to_leader, close_client, close_client_if_some, with_sessions}
-use Rattle.client_service.specs.Serve.{touched_as, handle_connect, serve_by, is_refused_frame, serve_frame, word_at, is_unheard, with_waiting_bytes, wait_if_heard, wait_at, frames_of_client, tell_or_serve, take_client_bytes, expire_session}
+use Rattle.client_service.specs.Serve.{address_for, touched_as, handle_connect, serve_by, is_refused_frame, serve_frame, word_at, is_unheard, with_waiting_bytes, wait_if_heard, wait_at, frames_of_client, tell_or_serve, take_client_bytes, expire_session}
 use Rattle.observer_core.specs.declared.event.Event.{Event}
 use Rattle.observer_core.specs.declared.event.Event.TheVariants as event
 use Rattle.observer_core.specs.Machine.{Leader, Machine}
@@ -195,9 +195,10 @@ event_stays m event.LeaderEnd up none rests = by m.leader none
     by : (o : Option Leader) → o ≡ None → StaysSilent (end_leader part_reader o m.world)
     by None e = record { leader = refl; rests = rests; silent = tt }
     by (Some l) e = absurd (true≢false (ap is_some e))
-event_stays m (event.ClientUp n) up none rests =
+event_stays m (event.ClientUp n address) up none rests =
     let w = m.world in
-    cond_both (is_open n w.clients) w (record w { clients = with_connection n idle_connection w.clients })
+    cond_both (is_open n w.clients) w
+    (record w { clients = with_connection n (idle_connection (address_for address w.settings.dialect)) w.clients })
     (λ (v : World). StaysSilent (no_output (record m { world = v })))
     (λ _. record { leader = none; rests = rests; silent = tt })
     (λ _. record {
@@ -284,8 +285,8 @@ module _ (laws : LowerLaws) where
           → RestsWithoutLeader (end_leader part_reader o m.world).after
       by None rests none = rests refl
       by (Some l) rests none = ended (end_of l.place) none
-  event_rests m (event.ClientUp n) a rests = λ none.
-      (event_stays m (event.ClientUp n) refl none (rests none)).rests
+  event_rests m (event.ClientUp n address) a rests = λ none.
+      (event_stays m (event.ClientUp n address) refl none (rests none)).rests
   event_rests m (event.ClientBytes n bytes) a rests = λ none. (bytes_stay m n bytes none (rests none)).rests
   event_rests m (event.ClientEnd n) a rests = λ none.
       (event_stays m (event.ClientEnd n) refl none (rests none)).rests
@@ -317,7 +318,7 @@ replies_leave n = record {
   sends = λ w bytes. (refl, tt);
   watches = λ w watch a. tt;
   unwatches = λ w kind path a. tt;
-  auths = λ w scheme bytes a. tt;
+  shows = λ w id a. tt;
 }
 
 calls_leave : (n : ℕ) → HoldsOfCalls n Always (λ session. Unit {0}) LeavesLeader
@@ -452,7 +453,7 @@ event_closes m event.LeaderUp closes = by m.leader closes
     by (Some l) closes = absurd (true≢false (sym closes))
 event_closes m (event.LeaderBytes bytes) closes = taken_closes m.leader m.world bytes closes
 event_closes m event.LeaderEnd closes = ended_closes m.leader m.world
-event_closes m (event.ClientUp n) closes = absurd (true≢false (sym closes))
+event_closes m (event.ClientUp n address) closes = absurd (true≢false (sym closes))
 event_closes m (event.ClientBytes n bytes) closes =
     let w = m.world in
     open_or_gone (play_event m (event.ClientBytes n bytes))

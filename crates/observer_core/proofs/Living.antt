@@ -63,7 +63,7 @@ use Rattle.forwarding.specs.declared.request.ConnectKind.TheVariants.{New, Claim
 use Rattle.forwarding.specs.Pending.{queue_of, connecting_to, awaiting, pending_close, settle_sync}
 use Rattle.sessions.specs.Credentials.{digest_id}
 use Rattle.sessions.specs.State.{SessionTable as Sessions, ConnectedClient as SessionConnection}
-use Rattle.sessions.specs.Sessions.{session_in, session_of_connection, connection_of, close_connection, close_if_some, session_response, new_connection, give_session, AuthResult, are_within_limits, is_same_id, with_id, show_in, digest_text, auth_by, add_auth}
+use Rattle.sessions.specs.Sessions.{session_in, session_of_connection, connection_of, close_connection, close_if_some, session_response, new_connection, give_session, AuthResult, are_within_limits, is_same_id, with_id, show_in, add_id}
 use Rattle.world.specs.declared.world.Settings.{Settings}
 use Rattle.world.specs.World.{Clients, World}
 use Rattle.world.specs.Clients.{heard_connection, no_clients}
@@ -304,32 +304,28 @@ module _ (loading : Loading) (r : Replica) where
 
 -- ---- sessions of connections
 
-auth_fewer : (s : Sessions) (n : ℕ) (scheme bytes : Option (List ℕ)) (m : ℕ) (session : ℤ)
-    → session_of_connection (add_auth s n scheme bytes).after m ≡ Some session
+shown_fewer : (s : Sessions) (n : ℕ) (id : Id) (m : ℕ) (session : ℤ)
+    → session_of_connection (add_id s n id).after m ≡ Some session
     → session_of_connection s m ≡ Some session
-auth_fewer s n scheme bytes m session = by (digest_text scheme bytes)
+shown_fewer s n id m session = shown (finmap.get s.connections n) refl
   where
     Fewer : AuthResult → Type 0
     Fewer x = session_of_connection x.after m ≡ Some session → session_of_connection s m ≡ Some session
 
-    added : (c : SessionConnection) (id : Id) → finmap.get s.connections n ≡ Some c
+    added : (c : SessionConnection) → finmap.get s.connections n ≡ Some c
         → Fewer (record { is_accepted = true; after = record s { connections = finmap.insert s.connections n (with_id c id) } })
-    added c id there e =
+    added c there e =
         cond_both (eq_by_cmp nat_cmp m n) (Some (with_id c id)) (finmap.get s.connections m)
         (λ (o : Option SessionConnection). session_in o ≡ Some session → session_of_connection s m ≡ Some session)
         (λ same is. ap (session_of_connection s) (tells_apart exact_unsigned m n same) ∙ ap session_in there ∙ is)
         (λ other is. is)
         (sym (ap session_in (finmap.get-insert nat_cmp_total s.connections n (with_id c id) m)) ∙ e)
 
-    shown : (id : Id) (o : Option SessionConnection) → finmap.get s.connections n ≡ o → Fewer (show_in s n id o)
-    shown id None there = λ e. e
-    shown id (Some c) there =
+    shown : (o : Option SessionConnection) → finmap.get s.connections n ≡ o → Fewer (show_in s n id o)
+    shown None there = λ e. e
+    shown (Some c) there =
         cond_both (list_any (λ shown. is_same_id shown id) c.ids) _ _ Fewer (λ _ e. e)
-        (λ _. cond_both (are_within_limits (with_id c id).ids) _ _ Fewer (λ _. added c id there) (λ _ e. e))
-
-    by : (o : Option (List ℕ)) → Fewer (auth_by s n o)
-    by None = λ e. e
-    by (Some text) = shown (digest_id text) (finmap.get s.connections n) refl
+        (λ _. cond_both (are_within_limits (with_id c id).ids) _ _ Fewer (λ _. added c there) (λ _ e. e))
 
 -- A connection that has a session after it was given to one has this, or had its own before.
 given_fewer : (s : Sessions) (n : ℕ) (session time_out : ℤ) (m : ℕ) (has : ℤ)
@@ -381,8 +377,7 @@ replies_live n = record {
   sends = λ w bytes live. live;
   watches = λ w watch a live. live;
   unwatches = λ w kind path a live. live;
-  auths = λ w scheme bytes a live m session e.
-      live m session (auth_fewer w.clients.sessions n scheme bytes m session e);
+  shows = λ w id a live m session e. live m session (shown_fewer w.clients.sessions n id m session e);
 }
 
 calls_live : (n : ℕ) → HoldsOfCalls n Agreeing (λ session. Unit {0}) KeepsLive
@@ -652,7 +647,7 @@ module _ (stays : ServingStays) (dialects : DialectStays) (laws : LowerLaws) whe
           λ stay. quiet_live (disconnect_all w).after
               (record { nobody = gone_nobody w h.0.0.joined; nothing = nothing_pending_waits }),
         );
-        opens = λ n w h. (kept.opens n w h.0, h.1);
+        opens = λ n address w h. (kept.opens n address w h.0, h.1);
         bytes = λ n w bytes h. (kept.bytes n w bytes h.0, bytes_live n w bytes h);
         closes = λ n w h. (kept.closes n w h.0, λ stay. left_live w (Some n) (h.1 stay));
         checkpoints = λ w h. (

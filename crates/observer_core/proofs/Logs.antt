@@ -75,7 +75,8 @@ module _ (law : ReplicasFollow) where
   happen_follows m event.LeaderUp f = meet_follows m.leader m.world f
   happen_follows m (event.LeaderBytes bytes) f = leader_follows m.leader m.world bytes f
   happen_follows m event.LeaderEnd f = end_follows m.leader m.world f
-  happen_follows m (event.ClientUp n) f = still_follows m.world (open_client n m.world) (open_same n m.world) f
+  happen_follows m (event.ClientUp n address) f =
+      still_follows m.world (open_client n address m.world) (open_same n address m.world) f
   happen_follows m (event.ClientBytes n bytes) f =
       let connection = heard_connection n m.world.clients in
       still_follows m.world (take_client_bytes (is_serving_clients m.world) n m.world connection bytes).after

@@ -15,7 +15,7 @@ use mathlib.Core.Bool.{true≢false}
 use Rattle.jute.specs.declared.owned.Id.{Id}
 use Rattle.sessions.specs.Credentials.{digest_id}
 use Rattle.sessions.specs.State.{ConnectedClient, SessionTable}
-use Rattle.sessions.specs.Sessions.{AuthResult, session_response, new_connection, are_within_limits, is_same_id, with_id, connection_of, close_connection, close_as, close_if_some, give_session, show_in, digest_text, auth_by, add_auth}
+use Rattle.sessions.specs.Sessions.{AuthResult, session_response, new_connection, are_within_limits, is_same_id, with_id, connection_of, close_connection, close_as, close_if_some, give_session, show_in, add_id}
 use Rattle.watch_manager.specs.Pairs.{WatchPairs, watch_cmp, same_connection}
 use Rattle.watch_manager.specs.Watching.{WatchTables}
 use Rattle.watch_manager.specs.Kinds.{without_watch}
@@ -93,12 +93,8 @@ module _ (test : ℕ → Bool) where
         (λ _. cond_both (are_within_limits (with_id c id).ids) _ _ (λ (x : AuthResult). Pass x.after)
         (λ _. inserted_passes test s.connections n (with_id c id) here all) (λ _. all))
 
-    pub auth_passes : (scheme bytes : Option (List ℕ)) → Pass (add_auth s n scheme bytes).after
-    auth_passes scheme bytes = by (digest_text scheme bytes)
-      where
-        by : (o : Option (List ℕ)) → Pass (auth_by s n o).after
-        by None = all
-        by (Some text) = shown_passes (digest_id text) (finmap.get s.connections n)
+    pub id_passes : (id : Id) → Pass (add_id s n id).after
+    id_passes id = shown_passes id (finmap.get s.connections n)
 
     -- A connection that passes gets a session.
     pub given_passes : (session time_out : ℤ) → Pass (give_session s n session time_out).after
@@ -110,16 +106,16 @@ module _ (test : ℕ → Bool) where
 -- ---- connections that have no session
 
 -- Adding an id gives no connection a session.
-pub auth_none : (s : SessionTable) (n : ℕ) (scheme bytes : Option (List ℕ)) (k : ℕ)
-    → finmap.get s.connections k ≡ None → finmap.get (add_auth s n scheme bytes).after.connections k ≡ None
-auth_none s n scheme bytes k none = by (digest_text scheme bytes)
+pub id_none : (s : SessionTable) (n : ℕ) (id : Id) (k : ℕ) → finmap.get s.connections k ≡ None
+    → finmap.get (add_id s n id).after.connections k ≡ None
+id_none s n id k none = shown (finmap.get s.connections n) refl
   where
     Still : AuthResult → Type 0
     Still x = finmap.get x.after.connections k ≡ None
 
-    added : (c : ConnectedClient) (id : Id) → finmap.get s.connections n ≡ Some c
+    added : (c : ConnectedClient) → finmap.get s.connections n ≡ Some c
         → finmap.get (finmap.insert s.connections n (with_id c id)) k ≡ None
-    added c id there =
+    added c there =
         finmap.get-insert nat_cmp_total s.connections n (with_id c id) k
         ∙ cond_both (eq_by_cmp nat_cmp k n) (Some (with_id c id)) (finmap.get s.connections k) (λ o. o ≡ None)
         (λ same. absurd (true≢false (sym (ap is_some there)
@@ -127,15 +123,11 @@ auth_none s n scheme bytes k none = by (digest_text scheme bytes)
         ∙ ap is_some none)))
         (λ other. none)
 
-    shown : (id : Id) (o : Option ConnectedClient) → finmap.get s.connections n ≡ o → Still (show_in s n id o)
-    shown id None there = none
-    shown id (Some c) there =
+    shown : (o : Option ConnectedClient) → finmap.get s.connections n ≡ o → Still (show_in s n id o)
+    shown None there = none
+    shown (Some c) there =
         cond_both (list_any (λ shown. is_same_id shown id) c.ids) _ _ Still (λ _. none)
-        (λ _. cond_both (are_within_limits (with_id c id).ids) _ _ Still (λ _. added c id there) (λ _. none))
-
-    by : (o : Option (List ℕ)) → Still (auth_by s n o)
-    by None = none
-    by (Some text) = shown (digest_id text) (finmap.get s.connections n) refl
+        (λ _. cond_both (are_within_limits (with_id c id).ids) _ _ Still (λ _. added c there) (λ _. none))
 
 -- Closing a connection gives none a session.
 pub closed_none : (s : SessionTable) (n k : ℕ) → finmap.get s.connections k ≡ None

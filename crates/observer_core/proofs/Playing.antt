@@ -140,15 +140,17 @@ heard_is (Some c) k e = by c.is_leaving refl e
     by false stays e = (e, ap (λ (x : Option OpenConnection). (unwrap_or x k).is_leaving) (sym e) ∙ stays)
 
 -- It is idle without waiting bytes.
-idle_is : (k : OpenConnection) → k.rest ≡ [] → k.is_leaving ≡ false → k ≡ idle_connection
-idle_is k none stays = λ i. record { rest = none i; is_leaving = stays i }
+idle_is : (k : OpenConnection) → k.rest ≡ [] → k.is_leaving ≡ false → k ≡ idle_connection k.address
+idle_is k none stays = λ i. record { rest = none i; is_leaving = stays i; address = k.address }
 
 module _ (serving : Bool) (n : ℕ) where
-  abbrev IsIdle : World → Type 0
-  IsIdle w = finmap.get w.clients.connections n ≡ Some idle_connection
+  -- The connection is open and idle, and its client has this address.
+  abbrev IsIdle : Option (List ℕ) → World → Type 0
+  IsIdle address w = finmap.get w.clients.connections n ≡ Some (idle_connection address)
 
-  idle_heard : (w : World) → IsIdle w → heard_connection n w.clients ≡ Some idle_connection
-  idle_heard w there = ap heard_in there
+  idle_heard : (address : Option (List ℕ)) (w : World) → IsIdle address w
+      → heard_connection n w.clients ≡ Some (idle_connection address)
+  idle_heard address w there = ap heard_in there
 
   served_taken : (w : World) (frame : List ℕ) → IsTaken n w → IsTaken n (serve_frame serving n w frame).after
   served_taken w frame t k e =
@@ -169,39 +171,42 @@ module _ (serving : Bool) (n : ℕ) where
   then_client h more = and_then h (λ w. take_client_bytes serving n w (heard_connection n w.clients) more)
 
   -- Bytes are kept again.
-  kept_again : (w : World) (rest : List ℕ) → IsIdle w
-      → with_waiting_bytes n (with_waiting_bytes n w idle_connection rest)
-      (record { rest = rest; is_leaving = false }) [] ≡ w
-  kept_again w rest there =
+  kept_again : (address : Option (List ℕ)) (w : World) (rest : List ℕ) → IsIdle address w
+      → let idle = idle_connection address in
+      with_waiting_bytes n (with_waiting_bytes n w idle rest) (record idle { rest = rest }) [] ≡ w
+  kept_again address w rest there =
+      let idle = idle_connection address in
       ap (λ (c : OpenConnections). record w { clients = record w.clients { connections = c } })
-      (insert-insert w.clients.connections n idle_connection (record { rest = rest; is_leaving = false })
-      ∙ insert-same w.clients.connections n idle_connection there)
+      (insert-insert w.clients.connections n idle (record idle { rest = rest })
+      ∙ insert-same w.clients.connections n idle there)
 
   -- The waiting bytes are joined with those that come.
-  taken_up : (w : World) (rest more : List ℕ) → IsIdle w
+  taken_up : (address : Option (List ℕ)) (w : World) (rest more : List ℕ) → IsIdle address w
       → tell_or_serve serving n w (rest ++ more) (word_at n w (rest ++ more))
-      ≡ then_client (no_output (with_waiting_bytes n w idle_connection rest)) more
-  taken_up w rest more there =
+      ≡ then_client (no_output (with_waiting_bytes n w (idle_connection address) rest)) more
+  taken_up address w rest more there =
+      let idle = idle_connection address in
       sym (ap (λ (x : World). tell_or_serve serving n x (rest ++ more) (word_at n w (rest ++ more)))
-      (kept_again w rest there))
+      (kept_again address w rest there))
       ∙ sym (ap (λ (o : Option OpenConnection). take_client_bytes serving n
-      (with_waiting_bytes n w idle_connection rest) (heard_in o) more)
-      (get-inserted w.clients.connections n (record { rest = rest; is_leaving = false })))
+      (with_waiting_bytes n w idle rest) (heard_in o) more)
+      (get-inserted w.clients.connections n (record idle { rest = rest })))
 
   -- The bytes that wait don't make a word with those that come.
   abbrev SaysNone : World → Unread → List ℕ → Type 0
   SaysNone w unread more = (rest : List ℕ) → unread ≡ Ok rest → is_open n w.clients ≡ true
       → word_at n w (rest ++ more) ≡ None
 
-  waited_on : (w : World) (unread : Unread) (more : List ℕ) → IsIdle w → SaysNone w unread more →
+  waited_on : (address : Option (List ℕ)) (w : World) (unread : Unread) (more : List ℕ) → IsIdle address w
+      → SaysNone w unread more →
       let left : Place (Unit {0}) = record { phase = tt; unread = unread } in
       serve_all serving n w (items_in frames_of_client (with_more_bytes left more))
-      ≡ then_client (wait_or_close n w idle_connection unread) more
-  waited_on w (Ok rest) more there says =
+      ≡ then_client (wait_or_close n w (idle_connection address) unread) more
+  waited_on address w (Ok rest) more there says =
       sym (ap (tell_or_serve serving n w (rest ++ more)) (says rest refl (ap is_some there)))
-      ∙ taken_up w rest more there
-  waited_on w (Err e) more there says =
-      ap (λ (o : Option OpenConnection). wait_if_heard n w o (Err e)) (idle_heard w there)
+      ∙ taken_up address w rest more there
+  waited_on address w (Err e) more there says =
+      ap (λ (o : Option OpenConnection). wait_if_heard n w o (Err e)) (idle_heard address w there)
       ∙ sym (ap (λ (o : Option OpenConnection). prepend_outputs (CloseClient n ∷ [])
       (take_client_bytes serving n (close_client n w).after (heard_in o) more)) (get-removed w.clients.connections n))
 
@@ -219,12 +224,12 @@ module _ (serving : Bool) (n : ℕ) where
   served_on w (Some k) left more there t says =
       let is = heard_is (finmap.get w.clients.connections n) k there in
       let idle = idle_is k (t k is.0) is.1 in
-      waited_on w left.unread more (is.0 ∙ ap Some idle) says
+      waited_on k.address w left.unread more (is.0 ∙ ap Some idle) says
       ∙ sym (ap (λ (c : OpenConnection). then_client (wait_or_close n w c left.unread) more) idle)
 
   -- ---- frames, where the first piece has all of them or a prefix
 
-  module _ (w : World) (a b : List ℕ) (there : IsIdle w) where
+  module _ (address : Option (List ℕ)) (w : World) (a b : List ℕ) (there : IsIdle address w) where
     abbrev i : Items (Unit {0}) (List ℕ)
     i = items_in frames_of_client (place_at tt a)
 
@@ -234,7 +239,7 @@ module _ (serving : Bool) (n : ℕ) where
         found.left.unread b
 
     heard : is_unheard n w ≡ false
-    heard = ap (λ (o : Option OpenConnection). not (is_some o)) (idle_heard w there)
+    heard = ap (λ (o : Option OpenConnection). not (is_some o)) (idle_heard address w there)
 
     all_say_none : word_at n w (a ++ b) ≡ None → (r : Result (List ℕ × List ℕ) Fault)
         → (frame_format client_frame_limit).read a ≡ r → AllSayNone i
@@ -256,7 +261,7 @@ module _ (serving : Bool) (n : ℕ) where
         let g = fold_steps (is_unheard n) (serve_frame serving n) h.after j.found in
         let waits = wait_at n i.left.unread h.after in
         let t : IsTaken n w = λ (c : OpenConnection) is.
-        ap (λ (k : OpenConnection). k.rest) (some_is c idle_connection (sym is ∙ there)) in
+        ap (λ (k : OpenConnection). k.rest) (some_is c (idle_connection address) (sym is ∙ there)) in
         ap (serve_all serving n w) (comes_in_pieces frames_of_client frames_streamed (place_at tt a) b)
         ∙ ap (λ (x : StepResult World). left_at x j.left.unread)
         (happening_on (is_unheard n) (serve_frame serving n) w i.found j.found)
@@ -267,10 +272,11 @@ module _ (serving : Bool) (n : ℕ) where
         (take_client_bytes serving n waits.after (heard_connection n waits.after.clients) b)
 
     -- Fewer bytes than a length prefix all wait.
-    all_wait : length a < 4 → serve_all serving n w i ≡ no_output (with_waiting_bytes n w idle_connection a)
+    all_wait : length a < 4
+        → serve_all serving n w i ≡ no_output (with_waiting_bytes n w (idle_connection address) a)
     all_wait short =
         ap (serve_all serving n w) (items_short frames_of_client frames_streamed tt a (short_frame a short))
-        ∙ ap (λ (o : Option OpenConnection). wait_if_heard n w o (Ok a)) (idle_heard w there)
+        ∙ ap (λ (o : Option OpenConnection). wait_if_heard n w o (Ok a)) (idle_heard address w there)
 
     -- A word is answered, and the bytes that come then are ignored.
     told_then : (word : Word) → tell_word serving n w word
@@ -301,7 +307,7 @@ module _ (serving : Bool) (n : ℕ) where
       where
         by : (length a < 4) ⊎ (4 ≤ length a) → tell_or_serve serving n w (a ++ b) (word_at n w (a ++ b))
             ≡ then_client (serve_all serving n w i) b
-        by (inl short) = taken_up w a b there ∙ sym (ap (λ (h : StepResult World). then_client h b) (all_wait short))
+        by (inl short) = taken_up address w a b there ∙ sym (ap (λ (h : StepResult World). then_client h b) (all_wait short))
         by (inr enough) =
             let none_yet = ap (λ (word : Option Word). cond (is_idle w.clients.pending n)
             (word_without_session (session_of_connection w.clients.sessions n) word) None)
@@ -317,7 +323,7 @@ module _ (serving : Bool) (n : ℕ) where
       let stays = (heard_is (finmap.get w.clients.connections n) k there).1 in
       let cleared = get-inserted w.clients.connections n (record k { rest = [] }) in
       ap (λ (x : List ℕ). tell_or_serve serving n v x (word_at n v x)) (sym (append_assoc k.rest a b))
-      ∙ said_or_served v (k.rest ++ a) b (cleared ∙ ap Some (idle_is (record k { rest = [] }) refl stays))
+      ∙ said_or_served k.address v (k.rest ++ a) b (cleared ∙ ap Some (idle_is (record k { rest = [] }) refl stays))
       (word_at n v (k.rest ++ a)) refl
     where
       v : World

@@ -430,7 +430,7 @@ ReadAgain = (t : Txn) → txn_format.Fits t → value_of_whole txn_format (txn_f
 
 -- An open connection with these waiting bytes.
 abbrev pub open_with : List ℕ → OpenConnection
-open_with rest = record { rest = rest; is_leaving = false }
+open_with rest = record { rest = rest; is_leaving = false; address = None }
 
 abbrev pub at_first : List ℕ → OpenConnections
 at_first rest = finmap.insert finmap.empty 1 (open_with rest)

@@ -372,9 +372,9 @@ module _ (stays : ServingStays) (laws : LowerLaws) where
           kept.gone w h.0,
           λ _. record { nobody = gone_nobody w h.0.joined; nothing = nothing_pending_waits },
         );
-        opens = λ n w h. (
-          kept.opens n w h.0,
-          same_served w (record w { clients = with_connection n idle_connection w.clients }) refl
+        opens = λ n address w h. (
+          kept.opens n address w h.0,
+          same_served w (record w { clients = with_connection n (idle_connection address) w.clients }) refl
               (λ _ q. record { nobody = q.nobody; nothing = q.nothing }) h.1,
         );
         bytes = λ n w bytes h. (kept.bytes n w bytes h.0, bytes_served n w bytes h.1);

@@ -65,7 +65,7 @@ use Rattle.world.specs.declared.output.Output.{Output}
 use Rattle.world.specs.declared.output.Output.TheVariants.{ToLeader, ToClient}
 use Rattle.world.specs.World.{OpenConnection, OpenConnections, World}
 use Rattle.world.specs.Steps.{StepResult, no_output}
-use Rattle.world.specs.Clients.{heard_in, passwords_of}
+use Rattle.world.specs.Clients.{heard_in, address_in, with_address, passwords_of}
 use Rattle.world.specs.Timeouts.{known_timeout}
 use Rattle.world.specs.Sending.{to_leader, close_client, send_or_close, with_sessions, with_pending}
 use Rattle.client_service.specs.Serve.{send_connect_response, claim_or_refuse, finish_connect, handle_connect, touched_as, serve_as, serve_by, is_refused_frame, serve_frame, word_without_session, with_waiting_bytes, frames_of_client, serve_all, tell_or_serve, take_client_bytes}
@@ -323,7 +323,7 @@ module _ (settings : Settings) where
   abbrev machine_of : SessionTable → PendingTable → Machine
   machine_of sessions pending = record { leader = Some beginning; world = world_of sessions pending }
 
-  second_comes : settings.first_counter ≡ 0 → play_event (earlier_machine settings) (ClientUp 2)
+  second_comes : settings.first_counter ≡ 0 → play_event (earlier_machine settings) (ClientUp 2 None)
       ≡ no_output (machine_of (sessions_after 1) nothing_pending)
   second_comes begins =
       ap (λ (o : Option OpenConnection). no_output (record {
@@ -520,12 +520,20 @@ module _ (settings : Settings) (three : IsThird settings)
       (give_session (close_as (sessions_after settings 2) 2 o) 2 second_session (pos 10000)))
       (second_is_none settings 2)
       ∙ ap (λ (o : Option ℕ). admit_with 2 left (waiting settings) [] (given o)) no_owner
+      ∙ ap (λ (o : Option OpenConnection). shown (address_in o)) (second_open settings)
       ∙ ap (λ (bounds : TimeoutPair). responded (response bounds (passwords settings))) terms
       ∙ ap (λ (made : Passwords). responded (response (timeout_pair (pos 4000) (pos 40000)) made)) keyed
       ∙ ap (λ (p : List ℕ). responded (answer_to_connect
       (record { time_out = pos 10000; session_id = second_session; password = p }) false)) password_is
       ∙ ap responded response_written
     where
+      -- The client of connection 2 has no address that were an id.
+      shown : Option (List ℕ) → StepResult World
+      shown address = record {
+        outputs = ToClient 2 (response settings.timeouts (passwords settings)) ∷ [];
+        after = with_sessions left (with_address admitted.clients.sessions 2 address);
+      }
+
       given : Option ℕ → ConnectResult
       given older = record {
         connected = record {
@@ -570,7 +578,7 @@ module _ (settings : Settings) (three : IsThird settings)
 
   session_played : (again : ReadAgain) (nobody : NobodyTold)
       → (play (earlier_machine settings)
-      (ClientUp 2 ∷ ClientBytes 2 connect_frame ∷ LeaderBytes inform_of_session ∷ [])).outputs
+      (ClientUp 2 None ∷ ClientBytes 2 connect_frame ∷ LeaderBytes inform_of_session ∷ [])).outputs
       ≡ ToLeader request_of_session ∷ ToClient 2 response_of_session ∷ []
   session_played again nobody =
       ap (λ (h : StepResult Machine). h.outputs
@@ -583,7 +591,7 @@ module _ (settings : Settings) (three : IsThird settings)
 pub session_is_created : (again : ReadAgain) (nobody : NobodyTold) (settings : Settings) → settings.dialect ≡ Zk34
     → IsThird settings → settings.timeouts ≡ timeout_pair (pos 4000) (pos 40000) → settings.secret ≡ []
     → (play (earlier_machine settings)
-    (ClientUp 2 ∷ ClientBytes 2 connect_frame ∷ LeaderBytes inform_of_session ∷ [])).outputs
+    (ClientUp 2 None ∷ ClientBytes 2 connect_frame ∷ LeaderBytes inform_of_session ∷ [])).outputs
     ≡ ToLeader request_of_session ∷ ToClient 2 response_of_session ∷ []
 session_is_created again nobody settings earlier three terms secretless =
     session_played settings three terms secretless earlier again nobody

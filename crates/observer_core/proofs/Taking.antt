@@ -12,7 +12,7 @@ use Rattle.jute.specs.Stream.{Unread}
 use Rattle.jute.specs.declared.owned.Id.{Id}
 use Rattle.sessions.specs.Credentials.{digest_id}
 use Rattle.sessions.specs.State.{SessionTable as Sessions, ConnectedClient as Joined}
-use Rattle.sessions.specs.Sessions.{session_in, session_of_connection, close_as, close_if_some, close_connection, are_within_limits, is_same_id, with_id, AuthResult, show_in, digest_text, auth_by, add_auth}
+use Rattle.sessions.specs.Sessions.{session_in, session_of_connection, close_as, close_if_some, close_connection, are_within_limits, is_same_id, with_id, AuthResult, show_in, add_id}
 use Rattle.sessions.specs.declared.request.SessionResponse.{SessionResponse}
 use Rattle.forwarding.specs.Pending.{is_full}
 use Rattle.client_frames.specs.declared.call.Call.{Call}
@@ -45,13 +45,9 @@ module _ (s : Sessions) (n : ℕ) where
       (λ (x : AuthResult). session_of_connection x.after n ≡ Some session)
       (λ _. ap session_in (get-inserted s.connections n (with_id c id)) ∙ is) (λ _. has))
 
-  auth_keeps : (scheme bytes : Option (List ℕ)) (session : ℤ) → session_of_connection s n ≡ Some session
-      → session_of_connection (add_auth s n scheme bytes).after n ≡ Some session
-  auth_keeps scheme bytes session has = by (digest_text scheme bytes)
-    where
-      by : (o : Option (List ℕ)) → session_of_connection (auth_by s n o).after n ≡ Some session
-      by None = has
-      by (Some text) = show_keeps (digest_id text) session (finmap.get s.connections n) has has
+  id_keeps : (id : Id) (session : ℤ) → session_of_connection s n ≡ Some session
+      → session_of_connection (add_id s n id).after n ≡ Some session
+  id_keeps id session has = show_keeps id session (finmap.get s.connections n) has has
 
 -- ---- sessions of the connections that are left
 
@@ -122,7 +118,7 @@ replies_keep n session = record {
   sends = λ w bytes has. has;
   watches = λ w watch a has. has;
   unwatches = λ w kind path a has. has;
-  auths = λ w scheme bytes a has here. auth_keeps w.clients.sessions n scheme bytes session (has here);
+  shows = λ w id a has here. id_keeps w.clients.sessions n id session (has here);
 }
 
 calls_keep : (n : ℕ) (session : ℤ) → HoldsOfCalls n Always (λ own. Unit {0}) (KeepsSession n session)

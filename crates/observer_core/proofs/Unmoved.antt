@@ -5,7 +5,7 @@ use Rattle.sessions.specs.Sessions.{connection_of, give_session, expire_owner}
 use Rattle.world.specs.World.{OpenConnection, World}
 use Rattle.world.specs.Clients.{idle_connection, is_open, with_connection, without_client}
 use Rattle.world.specs.Sending.{with_sessions, close_client_if_some}
-use Rattle.client_service.specs.Serve.{take_client_bytes, open_client, end_client, expire_session}
+use Rattle.client_service.specs.Serve.{take_client_bytes, address_for, open_client, end_client, expire_session}
 use Rattle.observer_core.specs.Leader.{answer_news}
 use Rattle.observer_core.proofs.Walking.{Steps, HoldsOfReplies, HoldsOfCalls, HoldsOfConnects, client_makes}
 use Rattle.observer_core.proofs.Answered.{HoldsOfAll, news_make}
@@ -29,7 +29,7 @@ replies_same n = record {
   sends = λ w bytes. refl;
   watches = λ w watch a. refl;
   unwatches = λ w kind path a. refl;
-  auths = λ w scheme bytes a. refl;
+  shows = λ w id a. refl;
 }
 
 calls_same : (n : ℕ) → HoldsOfCalls n Always (λ session. Unit {0}) LeavesReplica
@@ -55,10 +55,11 @@ connects_same n = record {
 }
 
 -- A client connects or leaves.
-pub open_same : (n : ℕ) (w : World) → SameReplica w (open_client n w)
-open_same n w = by (is_open n w.clients)
+pub open_same : (n : ℕ) (address : Option (List ℕ)) (w : World) → SameReplica w (open_client n address w)
+open_same n address w = by (is_open n w.clients)
   where
-    by : (b : Bool) → SameReplica w (cond b w (record w { clients = with_connection n idle_connection w.clients }))
+    by : (b : Bool) → SameReplica w (cond b w
+        (record w { clients = with_connection n (idle_connection (address_for address w.settings.dialect)) w.clients }))
     by true = refl
     by false = refl
 

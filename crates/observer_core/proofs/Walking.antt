@@ -9,6 +9,7 @@ use Rattle.std.specs.FinMap as finmap
 use mathlib.Core.Bool.{true≢false}
 use Rattle.values.specs.declared.fault.Fault.{Fault}
 use Rattle.jute.specs.Stream.{Unread, items_in, place_at}
+use Rattle.jute.specs.declared.owned.Id.{Id}
 use Rattle.jute.specs.declared.codes.TheConstants.{BAD_ARGUMENTS}
 use Rattle.client_records.specs.declared.codes.TheConstants.{OK, UNIMPLEMENTED, AUTH_FAILED, NOT_READ_ONLY, PING_XID, NOTIFICATION_XID}
 use Rattle.client_records.specs.declared.request.AuthPacket.{AuthPacket}
@@ -20,8 +21,8 @@ use Rattle.client_frames.specs.declared.call.LocalCall.TheVariants as locals
 use Rattle.client_frames.specs.declared.connecting.Connecting.{Connecting}
 use Rattle.client_frames.specs.Connect.{connecting_in, session_request_of, answer_to_connect}
 use Rattle.sessions.specs.State.{SessionTable as Sessions, ConnectedClient as Joined}
-use Rattle.sessions.specs.Credentials.{session_id_of}
-use Rattle.sessions.specs.Sessions.{session_in, session_of_connection, connection_of, ids_of, greatest_counter, claimed_session, is_valid, ConnectResult, session_response, refusal_response, refused_connect, give_session, name_session, connect_session, AuthResult, add_auth}
+use Rattle.sessions.specs.Credentials.{session_id_of, digest_id}
+use Rattle.sessions.specs.Sessions.{session_in, session_of_connection, connection_of, ids_of, greatest_counter, claimed_session, is_valid, ConnectResult, session_response, refusal_response, refused_connect, give_session, name_session, connect_session, AuthResult, add_id, digest_text, auth_by, add_auth}
 use Rattle.sessions.specs.declared.request.SessionResponse.{SessionResponse}
 use Rattle.forwarding.specs.declared.request.ConnectKind.TheVariants.{New, Claimed}
 use Rattle.forwarding.specs.declared.request.PendingConnect.{PendingConnect}
@@ -120,8 +121,8 @@ pub record IsGround (n : ℕ) (Strict : Type 0) (A : World → Type 0) : Type 0 
       → A (with_watches w (with_watch n w.clients.watches watch))
   pub unwatches : (w : World) (kind : WatchKind) (path : List ℕ) → A w
       → A (with_watches w (without_watch kind n path w.clients.watches))
-  pub auths : (w : World) (scheme bytes : Option (List ℕ)) → (Strict → IsOpen n w) → A w
-      → A (with_sessions w (add_auth w.clients.sessions n scheme bytes).after)
+  pub shows : (w : World) (id : Id) → (Strict → IsOpen n w) → A w
+      → A (with_sessions w (add_id w.clients.sessions n id).after)
   pub touches : (w : World) (session : ℤ) → A w → A (with_pending w (touch_session w.clients.pending session))
   pub opens : (w : World) (k : OpenConnection) → A w → A (record w { clients = with_connection n k w.clients })
   pub writes : (w : World) (xid : ℤ) (kind : WriteKind) → is_full w.clients.pending n ≡ false → (Strict → IsOpen n w)
@@ -155,8 +156,7 @@ pub record HoldsOfReplies (n : ℕ) (A : World → Type 0) (Q : Steps) : Type 0 
       → Q w (no_output (with_watches w (with_watch n w.clients.watches watch)))
   pub unwatches : (w : World) (kind : WatchKind) (path : List ℕ) → A w
       → Q w (no_output (with_watches w (without_watch kind n path w.clients.watches)))
-  pub auths : (w : World) (scheme bytes : Option (List ℕ)) → A w
-      → Q w (no_output (with_sessions w (add_auth w.clients.sessions n scheme bytes).after))
+  pub shows : (w : World) (id : Id) → A w → Q w (no_output (with_sessions w (add_id w.clients.sessions n id).after))
 
 -- The same for the steps that forward a request of a session of its own, or hold one.
 pub record HoldsOfCalls (n : ℕ) (A : World → Type 0) (Own : ℤ → Type 0) (Q : Steps) : Type 0 where
@@ -337,15 +337,20 @@ module _ (n : ℕ) (Strict : Type 0) (A : World → Type 0) (Q : Steps) (ground 
 
   -- ---- ids
 
+  pub id_makes : (w : World) (id : Id) → (Strict → IsOpen n w) → A w
+      → Makes A Q w (no_output (with_sessions w (add_id w.clients.sessions n id).after))
+  id_makes w id here a = record { keeps = ground.shows w id here a; is = r.shows w id a }
+
+  auth_makes : (w : World) (text : Option (List ℕ)) → (Strict → IsOpen n w) → A w
+      → Makes A Q w (no_output (with_sessions w (auth_by w.clients.sessions n text).after))
+  auth_makes w None here a = stay_makes w a
+  auth_makes w (Some text) here a = id_makes w (digest_id text) here a
+
   shown_makes : (w : World) (xid : ℤ) (packet : AuthPacket) → (Strict → IsOpen n w) → A w
       → Makes A Q w (send_auth_result n w xid (add_auth w.clients.sessions n packet.scheme packet.auth))
   shown_makes w xid packet here a =
       then_makes w (no_output v) (λ u. answered u shows.is_accepted)
-      (record {
-        keeps = ground.auths w packet.scheme packet.auth here a;
-        is = r.auths w packet.scheme packet.auth a;
-      })
-      (by shows.is_accepted)
+      (auth_makes w (digest_text packet.scheme packet.auth) here a) (by shows.is_accepted)
     where
       shows : AuthResult
       shows = add_auth w.clients.sessions n packet.scheme packet.auth

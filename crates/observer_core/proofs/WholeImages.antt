@@ -132,8 +132,8 @@ module _ (law : ImagesComeInParts) (stays : DialectStays) (pieces : PiecesAreGro
 
   step_on : (w : World) (l : Option Leader) (p : Option (Place Bool)) (e : Event)
       → OpenAlike (expected w.replica) l p → SameOn w l p e
-  step_on w l p (event.ClientUp n) a =
-      beside_same w l p (no_output (open_client n w)) (ap expected (open_same n w)) a
+  step_on w l p (event.ClientUp n address) a =
+      beside_same w l p (no_output (open_client n address w)) (ap expected (open_same n address w)) a
   step_on w l p (event.ClientBytes n bytes) a =
       let connection = heard_connection n w.clients in
       beside_same w l p (take_client_bytes (is_serving_clients w) n w connection bytes)

@@ -1,5 +1,5 @@
 -- How far an event of one client reaches.
-use Rattle.std.specs.Prelude.{◌≡◌, ◌≢◌, ◌⊎◌, ℕ, ℤ, Bool, List, Some, None, true}
+use Rattle.std.specs.Prelude.{◌≡◌, ◌≢◌, ◌⊎◌, ℕ, ℤ, Bool, List, Option, Some, None, true}
 use Rattle.std.specs.List.{AllByRecursion}
 use Rattle.std.specs.FinMap as finmap
 use Rattle.std.specs.FinSet as set
@@ -120,7 +120,7 @@ pub record ReachesOnlyClient (n : ℕ) (m : Machine) (h : StepResult Machine) : 
 
 -- A client connects, sends, or leaves.
 pub record ClientsAreApart : Type 0 where
-  pub comes : (m : Machine) (n : ℕ) → ReachesOnlyClient n m (play_event m (ClientUp n))
+  pub comes : (m : Machine) (n : ℕ) (address : Option (List ℕ)) → ReachesOnlyClient n m (play_event m (ClientUp n address))
   pub sends : (m : Machine) (n : ℕ) (bytes : List ℕ) → ClientsAgree m.world.clients
       → ReachesOnlyClient n m (play_event m (ClientBytes n bytes))
   pub goes : (m : Machine) (n : ℕ) → ReachesOnlyClient n m (play_event m (ClientEnd n))

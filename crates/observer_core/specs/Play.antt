@@ -31,7 +31,7 @@ abbrev pub play_event_by : {L : Type 0} → StreamReader L → MachineBy L → E
 play_event_by side m LeaderUp = meet_leader side m.leader m.world
 play_event_by side m (LeaderBytes bytes) = take_leader_bytes side m.leader m.world bytes
 play_event_by side m LeaderEnd = end_leader side m.leader m.world
-play_event_by side m (ClientUp n) = with_world m (open_client n m.world)
+play_event_by side m (ClientUp n address) = with_world m (open_client n address m.world)
 play_event_by side m (ClientBytes n bytes) =
     with_leader m.leader (take_client_bytes (is_serving_clients m.world) n m.world
     (heard_connection n m.world.clients) bytes)
@@ -62,13 +62,13 @@ new_by side settings = initial_machine settings (new_replica settings.dialect se
 abbrev pub primed_session : Settings → ℤ
 primed_session settings = session_id_of settings.server_id (settings.first_counter + 1)
 
--- Connection 1 is open and has the first session, whose id was the first to be given out.
+-- Connection 1 is open and has the first session, whose id was the first to be given out. Its client has no address.
 abbrev pub first_client : Settings → Clients
 first_client settings =
     let nobody = no_clients settings in
     let named = record nobody.sessions { counter = settings.first_counter + 1 } in
     let given = give_session named 1 (primed_session settings) settings.timeouts.greatest in
-    with_connection 1 idle_connection (record nobody { sessions = given.after })
+    with_connection 1 (idle_connection None) (record nobody { sessions = given.after })
 
 -- The machine follows a leader in epoch 1. Its tree has the first session, with the greatest timeout, and connection 1
 -- has it.

@@ -194,7 +194,7 @@ pub record WorkedRows : Type 0 where
   pub forwarded_sync : ServerThreeAnswers (ClientBytes 1 sync_frame ∷ LeaderBytes sync_packet ∷ [])
       (ToLeader request_of_sync ∷ ToClient 1 reply_of_sync ∷ [])
   -- A connect waits until the leader has created its session.
-  pub new_session : SettledAnswers (ClientUp 2 ∷ ClientBytes 2 connect_frame ∷ LeaderBytes inform_of_session ∷ [])
+  pub new_session : SettledAnswers (ClientUp 2 None ∷ ClientBytes 2 connect_frame ∷ LeaderBytes inform_of_session ∷ [])
       (ToLeader request_of_session ∷ ToClient 2 response_of_session ∷ [])
   -- The leader is told once of a session whose client was heard.
   pub heard_session : SettledAnswers
@@ -206,11 +206,11 @@ pub record WorkedRows : Type 0 where
       → (play (new_machine settings) (create_inform_event ∷ get_data_event ∷ [])).outputs ≡ []
   -- A connection that begins with "ruok" is answered "imok" and closed, even if no leader was ever followed.
   pub ruok : (settings : Settings)
-      → (play (new_machine settings) (ClientUp 2 ∷ ClientBytes 2 (codes "ruok") ∷ [])).outputs
+      → (play (new_machine settings) (ClientUp 2 None ∷ ClientBytes 2 (codes "ruok") ∷ [])).outputs
       ≡ ToClient 2 (codes "imok") ∷ CloseClient 2 ∷ []
   -- The answer to "isro" says that no client is served.
   pub isro_not_serving : (settings : Settings)
-      → (play (new_machine settings) (ClientUp 2 ∷ ClientBytes 2 (codes "isro") ∷ [])).outputs
+      → (play (new_machine settings) (ClientUp 2 None ∷ ClientBytes 2 (codes "isro") ∷ [])).outputs
       ≡ ToClient 2 (codes "null") ∷ CloseClient 2 ∷ []
   -- A client that has a session can't send a word: the letters are the length of a frame that is too long.
   pub word_with_a_session : PrimedAnswers (ClientBytes 1 (codes "ruok") ∷ []) (CloseClient 1 ∷ [])

@@ -91,7 +91,7 @@ fn open_first(alloc: Global, settings: &Settings, clients: &mut Clients) -> Resu
     let named = clients.sessions.connect(alloc, FIRST, false, &request)?;
     let session = named.response.session_id;
     clients.sessions.admit(alloc, FIRST, session, time_out)?;
-    clients.open(alloc, FIRST)?;
+    clients.open(alloc, FIRST, None)?;
     Ok(session)
 }
 

@@ -44,7 +44,9 @@ fn happen_alone<D: Fn(&mut Tree, &[Txn]) -> Result<Vec<Outcome>, NoMemory>>(
             bytes.as_slice(),
         ),
         Event::LeaderEnd => end_leader(alloc, machine),
-        Event::ClientUp(number) => open_client(alloc, *number, &mut machine.stage.world),
+        Event::ClientUp(number, address) => {
+            open_client(alloc, *number, address, &mut machine.stage.world)
+        }
         Event::ClientBytes(_, _) => unreachable!(),
         Event::ClientEnd(number) => {
             end_client(*number, &mut machine.stage.world);

@@ -96,7 +96,7 @@ fn gives(
 // The connect waits for the leader, and a ping after it waits for the connect.
 fn admits(alloc: Global, engine: Engine) -> bool {
     let events = [
-        Event::ClientUp(2),
+        Event::ClientUp(2, None),
         Event::ClientBytes(2, Bytes::new(CONNECT)),
         Event::ClientBytes(2, Bytes::new(CLIENT_PING)),
         told(SESSION_CREATED),
@@ -143,7 +143,7 @@ fn least_is(alloc: Global, engine: &mut Engine, events: &[Event<'_>], least: Opt
 // gone. At the end of the leader all have gone.
 fn tells_least_timeout(alloc: Global, mut engine: Engine) -> bool {
     let comes = [
-        Event::ClientUp(2),
+        Event::ClientUp(2, None),
         Event::ClientBytes(2, Bytes::new(CONNECT)),
         told(SESSION_CREATED),
     ];

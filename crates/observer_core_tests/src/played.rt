@@ -126,7 +126,7 @@ fn closes_client(alloc: Global, engine: Engine) -> bool {
 // A connection opens, and sends "ruok" in two pieces.
 fn answers_word(alloc: Global, engine: Engine, wanted: &[Output]) -> bool {
     let events = [
-        Event::ClientUp(2),
+        Event::ClientUp(2, None),
         Event::ClientBytes(2, Bytes::new(b"ru")),
         Event::ClientBytes(2, Bytes::new(b"ok")),
     ];
@@ -147,7 +147,7 @@ fn answers_no_word(alloc: Global, engine: Engine) -> bool {
 // A connection opens and closes, and the session of connection 1 expires, which closes that connection.
 fn expires(alloc: Global, engine: Engine) -> bool {
     let events = [
-        Event::ClientUp(2),
+        Event::ClientUp(2, None),
         Event::ClientEnd(2),
         Event::Expire(0x0300_0000_0000_0001),
     ];

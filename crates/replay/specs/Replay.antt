@@ -24,7 +24,7 @@ abbrev pub event_of_script : ScriptEvent → Event
 event_of_script LeaderUp = events.LeaderUp
 event_of_script (LeaderBytes bytes) = events.LeaderBytes bytes
 event_of_script LeaderEnd = events.LeaderEnd
-event_of_script (ClientUp client) = events.ClientUp client
+event_of_script (ClientUp client address) = events.ClientUp client address
 event_of_script (ClientBytes client bytes) = events.ClientBytes client bytes
 event_of_script (ClientEnd client) = events.ClientEnd client
 event_of_script (Expire session) = events.Expire session

@@ -45,7 +45,7 @@ pub fn event_of(event: &ScriptEvent) -> Event<'_>
         ScriptEvent::LeaderUp => Event::LeaderUp,
         ScriptEvent::LeaderBytes(bytes) => Event::LeaderBytes(Bytes::new(bytes.as_slice())),
         ScriptEvent::LeaderEnd => Event::LeaderEnd,
-        ScriptEvent::ClientUp(client) => Event::ClientUp(*client),
+        ScriptEvent::ClientUp(client, address) => Event::client_up(*client, address),
         ScriptEvent::ClientBytes(client, bytes) => Event::ClientBytes(
             *client,
             Bytes::new(bytes.as_slice()),

@@ -1,6 +1,8 @@
 -- The meaning of a script's line.
-use Rattle.std.specs.Prelude.{ℕ, ◌^◌, ◌-◌, ◌==◌, List, [], ◌∷◌, length, Option, Some, None, if◌then◌else◌, codes}
+use Rattle.std.specs.Prelude.{ℕ, ◌^◌, ◌-◌, ◌==◌, List, [], ◌∷◌, length, Option, Some, None, Bool, ◌&&◌, nat_lt, nat_le, if◌then◌else◌, codes}
 use Rattle.std.specs.Int.{w64, cast_signed}
+use Rattle.std.specs.Char.{is_ascii_graphic}
+use Rattle.std.specs.List.{list_all}
 use Rattle.std.specs.Option.{option_map}
 use Rattle.std.specs.Str.{bytes_eq, is_utf8}
 use Rattle.byteorder.specs.Endian.{big_number}
@@ -51,18 +53,37 @@ leader_event (Bytes bytes) = LeaderBytes bytes
 leader_event End = LeaderEnd
 
 abbrev pub client_event : ℕ → Coming → ScriptEvent
-client_event client Up = ClientUp client
+client_event client Up = ClientUp client None
 client_event client (Bytes bytes) = ClientBytes client bytes
 client_event client End = ClientEnd client
 
--- The texts `N up`, `N HEX` and `N end`.
+-- The longest address of a client, in bytes.
+abbrev pub address_limit : ℕ
+address_limit = 64
+
+-- An address is a text of printable ASCII without a blank.
+abbrev pub is_address : List ℕ → Bool
+is_address text = nat_lt 0 (length text) && nat_le (length text) address_limit && list_all is_ascii_graphic text
+
+-- A client's connection opens, and its address is told or not.
+abbrev pub client_up : ℕ → Option (List ℕ) → Option ScriptEvent
+client_up client None = Some (ClientUp client None)
+client_up client (Some text) = if is_address text then Some (ClientUp client (Some text)) else None
+
+-- The texts `up`, `up ADDRESS`, `HEX` and `end`.
+abbrev pub coming_of_client : ℕ → List ℕ → Option ScriptEvent
+coming_of_client client text =
+    let words = cut_at 32 text in
+    if bytes_eq words.front (codes "up") then client_up client words.behind
+    else option_map (client_event client) (coming_of text)
+
+-- The texts `N up`, `N up ADDRESS`, `N HEX` and `N end`.
 abbrev pub client_of : List ℕ → Option ScriptEvent
 client_of text = do
   let words = cut_at 32 text
   client ← number_up_to (2 ^ 32 - 1) words.front
   behind ← words.behind
-  coming ← coming_of behind
-  Some (client_event client coming)
+  coming_of_client client behind
 
 -- A session's id of 8 bytes, in two's complement.
 abbrev pub expire_of : List ℕ → Option ScriptEvent

@@ -34,7 +34,8 @@ pub record GoodLines : Type 0 where
   pub later_dialect : IsSettingLine (codes "dialect 3.8") (Dialect Zk38)
   pub leader_up : IsEventLine (codes "leader up") LeaderUp
   pub leader_bytes : IsEventLine (codes "leader  0 0Ff") (LeaderBytes (0 ∷ 255 ∷ []))
-  pub client_up : IsEventLine (codes "client 4294967295 up") (ClientUp 4294967295)
+  pub client_up : IsEventLine (codes "client 4294967295 up") (ClientUp 4294967295 None)
+  pub client_address : IsEventLine (codes "client 1 up 127.0.0.1") (ClientUp 1 (Some (codes "127.0.0.1")))
   pub client_bytes : IsEventLine (codes "client 1 0a0B") (ClientBytes 1 (10 ∷ 11 ∷ []))
   pub client_end : IsEventLine (codes "client 1 end") (ClientEnd 1)
   pub expire : IsEventLine (codes "expire ff 00000000000001") (Expire (negsuc 72057594037927934))
@@ -45,6 +46,8 @@ pub record BadLines : Type 0 where
   pub two_blanks : IsBadLine (codes "server  1")
   pub sign : IsBadLine (codes "client +1 up")
   pub large : IsBadLine (codes "client 4294967296 up")
+  pub two_addresses : IsBadLine (codes "client 1 up ::1 ::1")
+  pub no_address : IsBadLine (codes "client 1 up ")
   pub release : IsBadLine (codes "dialect 3.5")
   pub no_dialect : IsBadLine (codes "dialect")
   pub bounds : IsBadLine (codes "timeouts 2 1")

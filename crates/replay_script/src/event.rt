@@ -1,7 +1,7 @@
 //! The lines of a script.
 
 use settings::{Dialect, Epochs, FirstCounter, Secret, ServerId, TimeoutBounds};
-use values::Blob;
+use values::{Blob, Text};
 
 /// An event of a script. A connection is named by its number.
 #[derive(Debug, Drop)]
@@ -12,8 +12,8 @@ pub enum ScriptEvent {
     LeaderBytes(Blob),
     /// `leader end`
     LeaderEnd,
-    /// `client N up`
-    ClientUp(u64),
+    /// `client N up`, or `client N up ADDRESS` with the address of the client.
+    ClientUp(u64, Option<Text>),
     /// `client N HEX`
     ClientBytes(u64, Blob),
     /// `client N end`

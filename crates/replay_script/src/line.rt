@@ -1,8 +1,8 @@
 //! Lines of a script.
 
-ghost use Rattle.std.specs.Prelude.{◌≡◌, IfOk};
+ghost use Rattle.std.specs.Prelude.{◌≡◌, true, IfOk};
 ghost use Rattle.std.specs.Str.{is_utf8};
-ghost use Rattle.replay_script.specs.Line.{keyword_of, coming_of, leader_event, client_event, client_of, expire_of, server_setting, counter_setting, epochs_setting, timeouts_setting, secret_setting, dialect_setting, line_of_keyword, line_with_text, line_of_words, line_of};
+ghost use Rattle.replay_script.specs.Line.{keyword_of, coming_of, leader_event, client_event, is_address, client_up, coming_of_client, client_of, expire_of, server_setting, counter_setting, epochs_setting, timeouts_setting, secret_setting, dialect_setting, line_of_keyword, line_with_text, line_of_words, line_of};
 
 use crate::event::{Coming, Keyword, Line, ScriptEvent, Setting};
 use crate::hex::read_hex;
@@ -11,7 +11,10 @@ use byteorder::{BigEndian, ByteOrder};
 use settings::{Dialect, Epochs, FirstCounter, Secret, ServerId, TimeoutBounds};
 use std::alloc::Global;
 use texts::{cut_at, number_up_to};
-use values::NoMemory;
+use values::{Bytes, NoMemory, Text};
+
+// The longest address of a client, in bytes.
+const ADDRESS_LIMIT: usize = 64;
 
 fn keyword_of(word: &[u8]) -> Option<Keyword>
     ensures { result ≡ keyword_of word.now }
@@ -69,9 +72,60 @@ fn client_event(client: u64, coming: Coming) -> ScriptEvent
     ensures { result ≡ client_event client coming }
 {
     match coming {
-        Coming::Up => ScriptEvent::ClientUp(client),
+        Coming::Up => ScriptEvent::ClientUp(client, None),
         Coming::Bytes(bytes) => ScriptEvent::ClientBytes(client, bytes),
         Coming::End => ScriptEvent::ClientEnd(client),
+    }
+}
+
+fn is_address(text: &[u8]) -> bool
+    ensures { result ≡ is_address text.now }
+{
+    !text.is_empty() && text.len() <= ADDRESS_LIMIT && text.iter().all(|b| b.is_ascii_graphic())
+}
+
+// The text of these bytes, which are an address.
+fn address_text(alloc: Global, bytes: &[u8]) -> Result<Text, NoMemory>
+    requires { is_address bytes.now ≡ true }
+    ensures { IfOk result (λ text. text ≡ bytes.now) }
+{
+    match str::from_utf8(bytes) {
+        Err(_) => unreachable!(),
+        Ok(text) => Text::new(alloc, text),
+    }
+}
+
+fn client_up(
+    alloc: Global,
+    client: u64,
+    address: Option<Bytes<'_>>,
+) -> Result<Option<ScriptEvent>, NoMemory>
+    ensures { IfOk result (λ event. event ≡ client_up client address) }
+{
+    let Some(address) = address else {
+        return Ok(Some(ScriptEvent::ClientUp(client, None)));
+    };
+    if !is_address(address.as_slice()) {
+        return Ok(None);
+    }
+    let text = address_text(alloc, address.as_slice())?;
+    Ok(Some(ScriptEvent::ClientUp(client, Some(text))))
+}
+
+fn coming_of_client(
+    alloc: Global,
+    client: u64,
+    text: &[u8],
+) -> Result<Option<ScriptEvent>, NoMemory>
+    ensures { IfOk result (λ event. event ≡ coming_of_client client text.now) }
+{
+    let words = cut_at(b' ', text);
+    if words.front.as_slice() == b"up".as_slice() {
+        return client_up(alloc, client, words.behind);
+    }
+    match coming_of(alloc, text)? {
+        None => Ok(None),
+        Some(coming) => Ok(Some(client_event(client, coming))),
     }
 }
 
@@ -85,10 +139,7 @@ fn client_of(alloc: Global, text: &[u8]) -> Result<Option<ScriptEvent>, NoMemory
     let Some(behind) = words.behind else {
         return Ok(None);
     };
-    match coming_of(alloc, behind.as_slice())? {
-        None => Ok(None),
-        Some(coming) => Ok(Some(client_event(client, coming))),
-    }
+    coming_of_client(alloc, client, behind.as_slice())
 }
 
 fn expire_of(alloc: Global, text: &[u8]) -> Result<Option<ScriptEvent>, NoMemory>

@@ -25,7 +25,7 @@ fn every_line(rt: HostRuntime) -> Result<(), Fail> {
         matches!(&events[1], ScriptEvent::LeaderBytes(bytes) if bytes.as_slice() == [0, 255].as_slice())
     );
     assert!(rt; matches!(&events[2], ScriptEvent::LeaderEnd));
-    assert!(rt; matches!(&events[3], ScriptEvent::ClientUp(4294967295)));
+    assert!(rt; matches!(&events[3], ScriptEvent::ClientUp(4294967295, None)));
     assert!(rt;
         matches!(&events[4], ScriptEvent::ClientBytes(7, bytes) if bytes.as_slice() == [10, 11].as_slice())
     );

@@ -1,5 +1,5 @@
 -- The lines of a record, in the form of a script.
-use Rattle.std.specs.Prelude.{ℕ, ℤ, zero, suc, List, [], ◌∷◌, ◌++◌, codes, decimal}
+use Rattle.std.specs.Prelude.{ℕ, ℤ, zero, suc, List, [], ◌∷◌, ◌++◌, Option, Some, None, codes, decimal}
 use Rattle.std.specs.Int.{w64, cast_unsigned, to_be_bytes}
 use Rattle.values.specs.Hex.{hex_digits}
 use Rattle.intake.specs.declared.message.Message.{Message}
@@ -17,8 +17,14 @@ abbrev pub port_words : ℕ → List ℕ
 port_words zero = codes "leader "
 port_words (suc n) = codes "client " ++ decimal (suc n) ++ codes " "
 
+-- The address of a client, if it is known.
+abbrev pub address_words : ℕ → Option (List ℕ) → List ℕ
+address_words zero address = []
+address_words (suc n) None = []
+address_words (suc n) (Some address) = codes " " ++ address
+
 abbrev pub message_line : ℕ → Message → List ℕ
-message_line port Up = port_words port ++ codes "up" ++ line_end
+message_line port (Up address) = port_words port ++ codes "up" ++ address_words port address ++ line_end
 message_line port (Bytes bytes) = port_words port ++ hex_digits bytes ++ line_end
 message_line port End = port_words port ++ codes "end" ++ line_end
 message_line port Checkpoint = codes "checkpoint" ++ line_end

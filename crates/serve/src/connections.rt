@@ -11,6 +11,7 @@ use std::sync::{Arc, Mutex, Wait};
 use std::thread::{Builder, JoinHandle, Threads};
 use std::time::Clock;
 use std::{io, net};
+use values::Text;
 
 // The stack of a connection's thread, in bytes.
 const STACK: usize = 128 * 1024;
@@ -58,13 +59,14 @@ pub(crate) fn start_leader<R: Threads + Wait + Net + Clock + Copy + Send + 'stat
     Ok(Leader { handle, bell })
 }
 
-/// Starts the thread of a client's connection.
+/// Starts the thread of a client's connection. `text` is its address as a text.
 pub(crate) fn start_client<R: Threads + Wait + Net + Clock + Copy + Send + 'static>(
     rt: &R,
     alloc: Global,
     sides: Sides,
     handed: Handed,
     address: IpAddr,
+    text: Text,
     limits: SessionLimits,
     ahead: Arc<ReadsAhead, Global>,
 ) -> io::Result<Client> {
@@ -77,7 +79,18 @@ pub(crate) fn start_client<R: Threads + Wait + Net + Clock + Copy + Send + 'stat
     let handle = Builder::new().stack_size(STACK).spawn(rt, move || {
         let port = handed.lock(&mine).take();
         match port {
-            Some(port) => Some(session_loop(&mine, alloc, reader, writer, port, limits, ahead)),
+            Some(port) => {
+                Some(session_loop(
+                    &mine,
+                    alloc,
+                    reader,
+                    writer,
+                    port,
+                    Some(text),
+                    limits,
+                    ahead,
+                ))
+            }
             None => None,
         }
     })?;

@@ -1,5 +1,6 @@
 //! The main thread: it has the desk, and the threads of the connections.
 
+use crate::address::address_text;
 use crate::bounds::Bounds;
 use crate::connections::{Client, Handed, start_client};
 use crate::leading::Leading;
@@ -161,9 +162,13 @@ impl<L: Log, W: Write + Drop> Hub<L, W> {
     ) -> Result<(), Failure> {
         let limits = self.bounds.session;
         let ahead = Arc::try_clone(&self.ahead)?;
+        let text = address_text(self.alloc, address)?;
         match self.clients.entry(number)? {
             Entry::Vacant(entry) => {
-                entry.insert(start_client(rt, self.alloc, sides, handed, address, limits, ahead)?);
+                let client = start_client(
+                    rt, self.alloc, sides, handed, address, text, limits, ahead,
+                )?;
+                entry.insert(client);
                 Ok(())
             }
             Entry::Occupied(_) => Err(Failure::NoThread),

@@ -1,7 +1,7 @@
 //! A record of what comes, as a script for `replay`.
 
 ghost use Rattle.std.specs.Prelude.{◌≡◌, ◌++◌, OnOk};
-ghost use Rattle.serve.specs.Lines.{port_words, session_digits, message_line};
+ghost use Rattle.serve.specs.Lines.{port_words, address_words, session_digits, message_line};
 
 use intake::Message;
 use replay_script::put_hex;
@@ -9,7 +9,7 @@ use serve_options::release_of;
 use settings::{Dialect, ServerId};
 use std::alloc::Global;
 use std::io::Write;
-use values::NoMemory;
+use values::{NoMemory, Text};
 
 fn put(out: &mut Vec<u8>, text: &[u8]) -> Result<(), NoMemory>
     ensures { OnOk result (out.new.items ≡ out.old.items ++ text.now) }
@@ -31,6 +31,22 @@ fn put_port(out: &mut Vec<u8>, port: usize) -> Result<(), NoMemory>
     }
 }
 
+// Appends the address of a client whose connection is open, if it is known.
+fn put_address(out: &mut Vec<u8>, port: usize, address: &Option<Text>) -> Result<(), NoMemory>
+    ensures { OnOk result (out.new.items ≡ out.old.items ++ address_words port address.now) }
+{
+    if port == 0 {
+        return Ok(());
+    }
+    match address {
+        None => Ok(()),
+        Some(address) => {
+            put(out, b" ")?;
+            put(out, address.as_str().as_bytes())
+        }
+    }
+}
+
 #[tactic(auto, unfolding(crate::specs::Lines::session_digits))]
 fn put_session(out: &mut Vec<u8>, session: i64) -> Result<(), NoMemory>
     ensures { OnOk result (out.new.items ≡ out.old.items ++ session_digits session) }
@@ -43,9 +59,11 @@ pub fn put_message(out: &mut Vec<u8>, port: usize, message: &Message) -> Result<
     ensures { OnOk result (out.new.items ≡ out.old.items ++ message_line port message.now) }
 {
     match message {
-        Message::Up => {
+        Message::Up(address) => {
             put_port(out, port)?;
-            put(out, b"up\n")
+            put(out, b"up")?;
+            put_address(out, port, address)?;
+            put(out, b"\n")
         }
         Message::Bytes(bytes) => {
             put_port(out, port)?;

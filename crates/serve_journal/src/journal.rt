@@ -181,7 +181,7 @@ impl<L: Log> Journal<L> {
 
     fn message(&mut self, port: usize, message: &Message) {
         match message {
-            Message::Up => {
+            Message::Up(_) => {
                 if port == 0 {
                     self.greeting.begin();
                 }

@@ -5,7 +5,7 @@ use serve::{Record, put_message};
 use settings::ServerId;
 use std::alloc::Global;
 use std::test::Fail;
-use values::Blob;
+use values::{Blob, Text};
 
 // The lines of these messages.
 fn lines(alloc: Global, messages: &[(usize, Message)]) -> Result<Vec<u8>, Fail> {
@@ -24,9 +24,10 @@ fn bytes(alloc: Global, text: &[u8]) -> Result<Message, Fail> {
 fn each_message_has_its_line(rt: HostRuntime) -> Result<(), Fail> {
     let alloc = rt.alloc();
     let messages = vec![in alloc;
-        (0, Message::Up),
+        (0, Message::Up(None)),
         (0, bytes(alloc, &[0, 171])?),
-        (12, Message::Up),
+        (12, Message::Up(None)),
+        (13, Message::Up(Some(Text::new(alloc, "0:0:0:0:0:0:0:1")?))),
         (12, bytes(alloc, &[255])?),
         (12, Message::End),
         (3, Message::Checkpoint),
@@ -34,7 +35,8 @@ fn each_message_has_its_line(rt: HostRuntime) -> Result<(), Fail> {
         (0, Message::End),
     ]?;
     let text = lines(alloc, messages.as_slice())?;
-    let wanted = "leader up\nleader 00ab\nclient 12 up\nclient 12 ff\nclient 12 end\ncheckpoint\n\
+    let wanted =
+        "leader up\nleader 00ab\nclient 12 up\nclient 13 up 0:0:0:0:0:0:0:1\nclient 12 ff\nclient 12 end\ncheckpoint\n\
     expire fffffffffffffffe\nleader end\n";
     assert!(rt; text.as_slice() == wanted.as_bytes());
     Ok(())

@@ -1,18 +1,19 @@
 -- The steps that keep sessions and connections in agreement.
-use Rattle.std.proofs.Common.{◌≡◌, ◌⊎◌, inl, inr, ℕ, ◌+◌, ◌^◌, ◌<◌, ◌≤◌, ℤ, true, false, List, length, Option, Some, None, refl, sym, ap, subst, ◌∙◌, arith}
+use Rattle.std.proofs.Common.{◌≡◌, ◌⊎◌, inl, inr, ℕ, ◌+◌, ◌^◌, ◌<◌, ◌≤◌, ℤ, true, false, List, [], ◌∷◌, ◌++◌, length, Option, Some, None, refl, sym, ap, subst, ◌∙◌, arith}
 use Rattle.std.specs.Prelude.{IsTrue, nat_le}
 use Rattle.std.specs.Ordering.{eq_by_cmp, nat_cmp, int_cmp}
 use Rattle.std.specs.List.{All}
 use Rattle.std.specs.Cmp.{nat_cmp_total, int_cmp_total}
 use Rattle.std.proofs.lemmas.Bool.{leb-true}
 use Rattle.std.proofs.lemmas.List.Elements.{All-nil, All-push}
+use Rattle.std.proofs.lemmas.List.Sums.{sum_by_push}
 use Rattle.std.proofs.lemmas.Map.Lookups.{exact_unsigned, exact_signed}
 use Rattle.std.specs.FinMap as finmap
 use Rattle.settings.specs.Settings.{is_server_id, is_first_counter}
-use Rattle.jute.specs.Owned.{id_format}
+use Rattle.jute.specs.Owned.{id_in, id_format}
 use Rattle.jute.specs.declared.owned.Id.{Id}
 use Rattle.sessions.specs.State.{SessionSettings, ConnectedClient, SessionOwners, ConnectedClients, SessionTable, session_table_of}
-use Rattle.sessions.specs.Sessions.{no_sessions, close_connection, close_as, close_if_some, expire_owner, session_response, give_session, new_connection, with_session_connected, with_id, ids_in, ids_of, ids_limit, ids_bytes_limit, bytes_of_ids, are_within_limits}
+use Rattle.sessions.specs.Sessions.{no_sessions, close_connection, close_as, close_if_some, expire_owner, session_response, give_session, new_connection, with_session_connected, with_id, ids_in, ids_of, ids_limit, ids_bytes_limit, id_len, bytes_of_ids, are_within_limits}
 use Rattle.sessions.specs.Agreement.{SessionsAgree, SessionsAreApart}
 use Rattle.sessions.proofs.Cases.{first_of, second_of}
 use Rattle.sessions.proofs.Numbers.{first_below}
@@ -322,11 +323,18 @@ are_few ids fit = leb-true (length ids) ids_limit (first_of (nat_le (length ids)
 are_small : (ids : List Id) → are_within_limits ids ≡ true → bytes_of_ids ids ≤ ids_bytes_limit
 are_small ids fit = leb-true (bytes_of_ids ids) ids_bytes_limit (second_of (nat_le (length ids) ids_limit) _ fit)
 
+-- So the last of them can be written in a packet.
+last_writable : (ids : List Id) (id : Id) → bytes_of_ids (ids ++ id ∷ []) ≤ ids_bytes_limit → id_format.Writable id
+unfolding id_in
+last_writable ids id small =
+    let all : bytes_of_ids (ids ++ id ∷ []) ≡ bytes_of_ids ids + id_len id = sum_by_push id_len ids id in
+    (omega (arith, all, small), omega (arith, all, small))
+
 pub shows : (s : SessionTable) (n : ℕ) (c : ConnectedClient) (id : Id) → SessionsAgree s
     → finmap.get s.connections n ≡ Some c
-    → are_within_limits (with_id c id).ids ≡ true → id_format.Writable id
+    → are_within_limits (with_id c id).ids ≡ true
     → SessionsAgree (record s { connections = finmap.insert s.connections n (with_id c id) })
-shows s n c id a here fit writable = record {
+shows s n c id a here fit = record {
   server_id = a.server_id;
   counter = a.counter;
   owners = λ m d e. has m d (at_inserted nat_cmp_total exact_unsigned s.connections n (with_id c id) m d e);
@@ -379,7 +387,8 @@ shows s n c id a here fit writable = record {
         → All id_format.Writable d.ids
     able m d (inl b) =
         subst (λ (x : ConnectedClient). All id_format.Writable x.ids) b.1
-        (All-push id_format.Writable c.ids id (a.writable n c here) writable)
+        (All-push id_format.Writable c.ids id (a.writable n c here)
+        (last_writable c.ids id (are_small (with_id c id).ids fit)))
     able m d (inr b) = a.writable m d b.1
 
 -- ---- the next counter

@@ -8,15 +8,12 @@ use Rattle.std.proofs.lemmas.Bool.{eqb-false}
 use Rattle.std.proofs.lemmas.Map.Lookups.{exact_unsigned, exact_signed}
 use Rattle.std.specs.FinMap as finmap
 use mathlib.Core.Bool.{true≢false}
-use Rattle.jute.specs.Owned.{id_format}
 use Rattle.jute.specs.declared.owned.Id.{Id}
 use Rattle.sessions.specs.declared.request.SessionRequest.{SessionRequest}
 use Rattle.sessions.specs.Credentials.{digest_id}
 use Rattle.sessions.specs.State.{ConnectedClient, SessionTable}
-use Rattle.sessions.specs.Sessions.{ConnectResult, AuthResult, ExpireResult, greatest_counter, are_within_limits, is_same_id, with_id, is_valid, session_of_connection, session_in, connection_of, time_out_in, time_out_of, told_timeout, close_as, close_if_some, expire_owner, give_session, name_session, connect_session, show_in, digest_text, auth_by}
+use Rattle.sessions.specs.Sessions.{ConnectResult, AuthResult, ExpireResult, greatest_counter, are_within_limits, is_same_id, with_id, is_valid, session_of_connection, session_in, connection_of, time_out_in, time_out_of, told_timeout, close_as, close_if_some, expire_owner, give_session, name_session, connect_session, show_in, add_id, digest_text, auth_by}
 use Rattle.sessions.specs.Agreement.{SessionsAgree, AgreementIsKept, ResponsesNameSessions, nonzero_session}
-use Rattle.sessions.proofs.Ids.{digest_is_writable}
-use Rattle.sessions.proofs.Texts.{is_short}
 use Rattle.sessions.proofs.Cases.{at_if}
 use Rattle.values.proofs.Keyed.{inserted}
 use Rattle.sessions.proofs.Agreeing.{starts, session_client, closed, closing_agrees, expires_closing, joins, joins_older, gives_free, gives_older, shows, counts}
@@ -37,22 +34,20 @@ expires_as s session (Some n) e a =
 
 -- ---- auth
 
-shows_in : (s : SessionTable) (n : ℕ) (id : Id) (o : Option ConnectedClient) → id_format.Writable id
-    → finmap.get s.connections n ≡ o
-    → SessionsAgree s
-    → SessionsAgree (show_in s n id o).after
-shows_in s n id None w e a = a
-shows_in s n id (Some c) w e a =
+shows_in : (s : SessionTable) (n : ℕ) (id : Id) (o : Option ConnectedClient) → finmap.get s.connections n ≡ o
+    → SessionsAgree s → SessionsAgree (show_in s n id o).after
+shows_in s n id None e a = a
+shows_in s n id (Some c) e a =
     at_if (λ (x : AuthResult). SessionsAgree x.after) (list_any (λ shown. is_same_id shown id) c.ids) _ _ (λ _. a)
     (λ _. at_if (λ (x : AuthResult). SessionsAgree x.after) (are_within_limits (with_id c id).ids) _ _
-    (λ fit. shows s n c id a e fit w) (λ _. a))
+    (λ fit. shows s n c id a e fit) (λ _. a))
 
-shows_by : (s : SessionTable) (n : ℕ) (scheme bytes o : Option (List ℕ)) → digest_text scheme bytes ≡ o
-    → SessionsAgree s → SessionsAgree (auth_by s n o).after
-shows_by s n scheme bytes None e a = a
-shows_by s n scheme bytes (Some text) e a =
-    shows_in s n (digest_id text) (finmap.get s.connections n)
-    (digest_is_writable text (is_short scheme bytes text e)) refl a
+shows_id : (s : SessionTable) (n : ℕ) (id : Id) → SessionsAgree s → SessionsAgree (add_id s n id).after
+shows_id s n id a = shows_in s n id (finmap.get s.connections n) refl a
+
+shows_by : (s : SessionTable) (n : ℕ) (o : Option (List ℕ)) → SessionsAgree s → SessionsAgree (auth_by s n o).after
+shows_by s n None a = a
+shows_by s n (Some text) a = shows_id s n (digest_id text) a
 
 -- ---- connect
 
@@ -92,7 +87,8 @@ agreement_is_kept = record {
   starts = starts;
   connects = connects;
   admits = λ s n session time_out a none. gives s n session time_out (finmap.get s.owners session) refl a none;
-  auths = λ s n scheme bytes a. shows_by s n scheme bytes (digest_text scheme bytes) refl a;
+  shows = shows_id;
+  auths = λ s n scheme bytes a. shows_by s n (digest_text scheme bytes) a;
   closes = λ s n a. closes_as s n (finmap.get s.connections n) refl a;
   expires = λ s session a. expires_as s session (finmap.get s.owners session) refl a;
 }

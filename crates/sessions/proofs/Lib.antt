@@ -2,8 +2,6 @@
 pub mod Numbers
 -- The steps that keep sessions and connections in agreement.
 pub mod Agreeing
--- Ids can be written.
-pub mod Ids
 -- The passwords that each server of ZooKeeper makes.
 pub mod RandomBytes
 -- The text of the scheme "digest".

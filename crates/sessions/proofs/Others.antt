@@ -9,7 +9,7 @@ use Rattle.jute.specs.declared.owned.Id.{Id}
 use Rattle.sessions.specs.declared.request.SessionRequest.{SessionRequest}
 use Rattle.sessions.specs.Credentials.{digest_id}
 use Rattle.sessions.specs.State.{ConnectedClient, SessionTable}
-use Rattle.sessions.specs.Sessions.{ConnectResult, AuthResult, greatest_counter, are_within_limits, is_same_id, with_id, is_valid, connection_of, close_as, close_if_some, give_session, connect_session, show_in, digest_text, auth_by}
+use Rattle.sessions.specs.Sessions.{ConnectResult, AuthResult, greatest_counter, are_within_limits, is_same_id, with_id, is_valid, connection_of, close_as, close_if_some, give_session, connect_session, show_in, add_id, digest_text, auth_by}
 use Rattle.sessions.specs.Agreement.{OtherConnectionsStay}
 use Rattle.sessions.proofs.Agreeing.{session_client}
 use Rattle.sessions.proofs.Cases.{at_if}
@@ -42,9 +42,12 @@ shows_in s n id (Some c) m apart =
     (λ _. at_if (λ (x : AuthResult). Stays s m x.after) (are_within_limits (with_id c id).ids) _ _
     (λ _. put_elsewhere s m n (with_id c id) apart) (λ _. refl))
 
+shows : (s : SessionTable) (n : ℕ) (id : Id) (m : ℕ) → m ≢ n → Stays s m (add_id s n id).after
+shows s n id m apart = shows_in s n id (finmap.get s.connections n) m apart
+
 shows_by : (s : SessionTable) (n : ℕ) (o : Option (List ℕ)) (m : ℕ) → m ≢ n → Stays s m (auth_by s n o).after
 shows_by s n None m apart = refl
-shows_by s n (Some text) m apart = shows_in s n (digest_id text) (finmap.get s.connections n) m apart
+shows_by s n (Some text) m apart = shows s n (digest_id text) m apart
 
 abbrev Leaves : SessionTable → ℕ → ConnectResult → Type 0
 Leaves s m x = x.connected.older ≢ Some m → Stays s m x.after
@@ -68,6 +71,7 @@ pub others_stay : OtherConnectionsStay
 others_stay = record {
   connects = connects;
   admits = gives;
+  shows = shows;
   auths = λ s n scheme bytes m apart. shows_by s n (digest_text scheme bytes) m apart;
   closes = λ s n m apart. closes_as s n (finmap.get s.connections n) m apart;
   expires = λ s session m apart. closes_one s (connection_of s session) m apart;

@@ -1,12 +1,10 @@
 -- The text of the scheme "digest", from the tests in the code.
-use Rattle.std.proofs.Common.{◌≡◌, ℕ, ◌<◌, ◌≤◌, Bool, true, false, not, ◌&&◌, List, length, Option, Some, None, refl, sym, ap, subst}
+use Rattle.std.proofs.Common.{◌≡◌, ℕ, ◌<◌, ◌≤◌, Bool, true, false, not, ◌&&◌, List, length, Some, None, refl, sym, ap}
 use Rattle.std.specs.Prelude.{IsUtf8, codes, nat_le, if◌then◌else◌}
 use Rattle.std.specs.Str.{bytes_eq, is_utf8}
-use Rattle.std.proofs.lemmas.Bool.{leb-true, lt-leb, le-leb}
+use Rattle.std.proofs.lemmas.Bool.{lt-leb, le-leb}
 use Rattle.std.proofs.lemmas.Str.{IsUtf8-from_is_utf8, is_utf8-from_IsUtf8}
 use Rattle.sessions.specs.Sessions.{auth_limit, is_auth_text, digest_text}
-use Rattle.std.proofs.lemmas.Option.{none-some}
-use Rattle.values.proofs.Keyed.{some-some}
 use mathlib.Core.Bool.{true≢false}
 
 is_not : (b : Bool) → false ≡ not b → b ≡ true
@@ -46,19 +44,3 @@ shows_text scheme bytes same short h =
     at_some (bytes_eq scheme (codes "digest")) (is_auth_text bytes) bytes
     (is_not (bytes_eq scheme (codes "digest")) same)
     (λ i. le-leb (length bytes) auth_limit short i && is_utf8-from_IsUtf8 bytes h i)
-
--- A text that is given is short.
-pub is_short : (scheme bytes : Option (List ℕ)) (text : List ℕ) → digest_text scheme bytes ≡ Some text
-    → length text ≤ auth_limit
-is_short None bytes text e = absurd (none-some text e)
-is_short (Some scheme) None text e = absurd (none-some text e)
-is_short (Some scheme) (Some bytes) text e =
-    by (bytes_eq scheme (codes "digest")) (nat_le (length bytes) auth_limit) refl (is_utf8 bytes) e
-  where
-    by : (a b : Bool) → nat_le (length bytes) auth_limit ≡ b → (u : Bool)
-        → (if a && (b && u) then Some bytes else None) ≡ Some text → length text ≤ auth_limit
-    by true true l true e =
-        subst (λ (t : List ℕ). length t ≤ auth_limit) (some-some e) (leb-true (length bytes) auth_limit l)
-    by true true l false e = absurd (none-some text e)
-    by true false l u e = absurd (none-some text e)
-    by false b l u e = absurd (none-some text e)

@@ -5,10 +5,11 @@ use Rattle.std.specs.Ordering.{int_eq}
 use Rattle.std.specs.FinMap as finmap
 use Rattle.settings.specs.Settings.{is_server_id, is_first_counter}
 use Rattle.jute.specs.Owned.{id_format}
+use Rattle.jute.specs.declared.owned.Id.{Id}
 use Rattle.sessions.specs.Credentials.{session_id_of}
 use Rattle.sessions.specs.declared.request.SessionRequest.{SessionRequest}
 use Rattle.sessions.specs.State.{SessionSettings, ConnectedClient, SessionTable}
-use Rattle.sessions.specs.Sessions.{ids_limit, ids_bytes_limit, bytes_of_ids, no_sessions, session_of_connection, told_timeout, is_valid, give_session, name_session, connect_session, add_auth, close_connection, expire_owner}
+use Rattle.sessions.specs.Sessions.{ids_limit, ids_bytes_limit, bytes_of_ids, no_sessions, session_of_connection, told_timeout, is_valid, give_session, name_session, connect_session, add_id, add_auth, close_connection, expire_owner}
 
 -- The server has given the id out with one of its counters so far. Those up to its first counter count as given.
 pub record IsGivenOut (server_id : ℤ) (counter : ℕ) (session : ℤ) : Type 0 where
@@ -51,6 +52,7 @@ pub record AgreementIsKept : Type 0 where
   pub admits : (s : SessionTable) (n : ℕ) (session time_out : ℤ) → SessionsAgree s
       → finmap.get s.connections n ≡ None
       → SessionsAgree (give_session s n session time_out).after
+  pub shows : (s : SessionTable) (n : ℕ) (id : Id) → SessionsAgree s → SessionsAgree (add_id s n id).after
   pub auths : (s : SessionTable) (n : ℕ) (scheme bytes : Option (List ℕ)) → SessionsAgree s
       → SessionsAgree (add_auth s n scheme bytes).after
   pub closes : (s : SessionTable) (n : ℕ) → SessionsAgree s → SessionsAgree (close_connection s n)
@@ -65,6 +67,8 @@ pub record OtherConnectionsStay : Type 0 where
   pub admits : (s : SessionTable) (n : ℕ) (session time_out : ℤ) (m : ℕ) → m ≢ n
       → (give_session s n session time_out).connected.older ≢ Some m
       → finmap.get (give_session s n session time_out).after.connections m ≡ finmap.get s.connections m
+  pub shows : (s : SessionTable) (n : ℕ) (id : Id) (m : ℕ) → m ≢ n
+      → finmap.get (add_id s n id).after.connections m ≡ finmap.get s.connections m
   pub auths : (s : SessionTable) (n : ℕ) (scheme bytes : Option (List ℕ)) (m : ℕ) → m ≢ n
       → finmap.get (add_auth s n scheme bytes).after.connections m ≡ finmap.get s.connections m
   pub closes : (s : SessionTable) (n m : ℕ) → m ≢ n

@@ -210,7 +210,11 @@ show_in s n id (Some c) =
 abbrev pub add_id : SessionTable → ℕ → Id → AuthResult
 add_id s n id = show_in s n id (finmap.get s.connections n)
 
--- The most bytes of a text that an id is made of, so that the id can be written in a packet. A client's frame is shorter.
+-- The address of a client, as an id.
+abbrev pub ip_id : List ℕ → Id
+ip_id address = record { scheme = codes "ip"; id = address }
+
+-- The most bytes of a text that an id is made of. A client's frame is shorter.
 abbrev pub auth_limit : ℕ
 auth_limit = 2 ^ 20
 

@@ -1,6 +1,6 @@
 //! The connections that have sessions.
 
-ghost use Rattle.std.specs.Prelude.{◌≡◌, ◌≤◌, ℤ, OnErr, IfOk, IfNone, None, [], ◌∷◌, ◌++◌, length};
+ghost use Rattle.std.specs.Prelude.{◌≡◌, ◌≤◌, ℤ, OnOk, OnErr, IfOk, IfNone, None, [], ◌∷◌, ◌++◌, length};
 ghost use Rattle.std.specs.Option.{option_copied};
 ghost use Rattle.std.specs.List.{All, list_any};
 ghost use Rattle.std.specs.Ordering.{eq_by_cmp, int_cmp};
@@ -8,7 +8,7 @@ ghost use Rattle.std.specs.Map.Iter.{ShowsInOrder, deref};
 ghost use Rattle.std.specs.FinMap as finmap;
 ghost use Rattle.jute.specs.Owned.{id_format};
 ghost use Rattle.sessions.specs.State.{session_settings_of};
-ghost use Rattle.sessions.specs.Sessions.{no_sessions, session_of_connection, connection_of, ids_of, told_timeout, close_connection, expire_owner, clamped_timeout, session_response, has_password, is_valid, claimed_session, give_session, name_session, connect_session, refusal_response, add_id, digest_text, add_auth, ids_limit, ids_bytes_limit, id_len, bytes_of_ids, are_within_limits};
+ghost use Rattle.sessions.specs.Sessions.{no_sessions, session_of_connection, connection_of, ids_of, told_timeout, close_connection, expire_owner, clamped_timeout, session_response, has_password, is_valid, claimed_session, give_session, name_session, connect_session, refusal_response, add_id, ip_id, digest_text, add_auth, ids_limit, ids_bytes_limit, id_len, bytes_of_ids, are_within_limits};
 ghost use Rattle.sessions.specs.Agreement.{SessionsAgree};
 
 use crate::connections::Connections;
@@ -21,7 +21,7 @@ use settings::{FirstCounter, ServerId, TimeoutBounds};
 use std::alloc::Global;
 use std::collections::btree_map::Keys;
 use std::marker::Model;
-use values::NoMemory;
+use values::{Blob, NoMemory};
 
 /// The most ids that a connection may have.
 pub const IDS_LIMIT: usize = 1024;
@@ -343,7 +343,6 @@ impl Sessions {
 
     // Adds an id.
     fn show(&mut self, connection: u64, id: Id) -> Result<bool, NoMemory>
-        requires { id_format.Writable id }
         ensures ok { IfOk result (λ is_accepted. add_id self.old connection id
             ≡ record { is_accepted = is_accepted; after = self.new }) }
         ensures err { OnErr result (self.new ≡ self.old) }
@@ -359,6 +358,25 @@ impl Sessions {
         }
         self.connections.show(connection, id)?;
         Ok(true)
+    }
+
+    /// Adds the address of its client to the ids of a connection that has a session. An address that has no room within
+    /// `IDS_LIMIT` and `IDS_BYTES_LIMIT` is no id. A refused allocation changes nothing.
+    pub fn show_address(
+        &mut self,
+        alloc: Global,
+        connection: u64,
+        address: &str,
+    ) -> Result<(), NoMemory>
+        ensures ok { OnOk result (self.new ≡ (add_id self.old connection (ip_id address.now)).after) }
+        ensures err { OnErr result (self.new ≡ self.old) }
+    {
+        let id = Id {
+            scheme: Blob::new(alloc, b"ip")?,
+            id: Blob::new(alloc, address.as_bytes())?,
+        };
+        self.show(connection, id)?;
+        Ok(())
     }
 
     /// Adds the digest id of the bytes "user:password" to a connection. Returns false if that is refused: the scheme

@@ -6,10 +6,10 @@ use Rattle.world.specs.World.{OpenConnection}
 use Rattle.world.specs.Clients.{heard_in}
 
 -- A connection is heard unless it is leaving.
-pub heard_some : (rest : List ℕ) (leaving : Bool)
-    → is_some (heard_in (Some (record { rest = rest; is_leaving = leaving }))) ≡ not leaving
-heard_some rest true = refl
-heard_some rest false = refl
+pub heard_some : (rest : List ℕ) (leaving : Bool) (address : Option (List ℕ))
+    → is_some (heard_in (Some (record { rest = rest; is_leaving = leaving; address = address }))) ≡ not leaving
+heard_some rest true address = refl
+heard_some rest false address = refl
 
 pub heard_as : (c : OpenConnection) (leaving : Bool) → c.is_leaving ≡ leaving
     → heard_in (Some c) ≡ cond leaving None (Some c)

@@ -5,7 +5,7 @@ use Rattle.settings.specs.declared.dialect.Dialect.{Dialect}
 use Rattle.settings.specs.Dialects.{reads_of}
 use Rattle.sessions.specs.declared.passwords.Passwords.{Passwords}
 use Rattle.sessions.specs.declared.passwords.Passwords.TheVariants.{Keyed, Java}
-use Rattle.sessions.specs.Sessions.{close_connection, no_sessions}
+use Rattle.sessions.specs.Sessions.{close_connection, no_sessions, add_id, ip_id}
 use Rattle.watch_manager.specs.declared.event.Event.{Event}
 use Rattle.watch_manager.specs.Watching.{without_watches_of, no_watch}
 use Rattle.forwarding.specs.Pending.{nothing_pending, drop_connection}
@@ -16,12 +16,12 @@ use Rattle.world.specs.declared.output.Output.{Output}
 use Rattle.world.specs.declared.output.Output.TheVariants.{ToClient, CloseClient}
 use Rattle.world.specs.World.{OpenConnection, OpenConnections, Clients}
 use Rattle.world.specs.Steps.{StepResult}
-use Rattle.sessions.specs.State.{session_settings_of}
+use Rattle.sessions.specs.State.{SessionTable, session_settings_of}
 use Rattle.world.specs.declared.world.Settings.{Settings}
 
--- A connection without waiting bytes.
-abbrev pub idle_connection : OpenConnection
-idle_connection = record { rest = []; is_leaving = false }
+-- A connection without waiting bytes, of a client with this address.
+abbrev pub idle_connection : Option (List ℕ) → OpenConnection
+idle_connection address = record { rest = []; is_leaving = false; address = address }
 
 abbrev pub is_open : ℕ → Clients → Bool
 is_open n c = finmap.contains_key c.connections n
@@ -96,6 +96,20 @@ with_rest connections n (Some connection) rest = finmap.insert connections n (re
 abbrev pub with_leaver : OpenConnections → ℕ → Option OpenConnection → OpenConnections
 with_leaver connections n None = connections
 with_leaver connections n (Some connection) = finmap.insert connections n (record connection { is_leaving = true })
+
+-- ---- the address of a client
+
+abbrev pub address_in : Option OpenConnection → Option (List ℕ)
+address_in None = None
+address_in (Some connection) = connection.address
+
+abbrev pub with_address : SessionTable → ℕ → Option (List ℕ) → SessionTable
+with_address s n None = s
+with_address s n (Some address) = (add_id s n (ip_id address)).after
+
+-- The address of an open connection's client, where it is known, is an id of the connection.
+abbrev pub with_address_id : ℕ → Clients → Clients
+with_address_id n c = record c { sessions = with_address c.sessions n (address_in (finmap.get c.connections n)) }
 
 -- ---- what clients are told
 

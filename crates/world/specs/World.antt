@@ -1,8 +1,8 @@
 -- The state of an observer without that of its leader's stream: its settings, the replica that follows its leader, and
 -- its clients.
-use Rattle.std.specs.Prelude.{ℕ, List, Bool, refl}
+use Rattle.std.specs.Prelude.{ℕ, List, Option, Bool, refl}
 use Rattle.std.specs.Ordering.{nat_cmp}
-use Rattle.std.specs.Coded.{Coded, code_by, coded×, coded_ℕ, coded_bool, coded_list}
+use Rattle.std.specs.Coded.{Coded, code_by, coded×, coded_ℕ, coded_bool, coded_list, coded_option}
 use Rattle.std.specs.FinMap as finmap
 use Rattle.replica.specs.Replica.{Replica}
 use Rattle.sessions.specs.State.{SessionTable as Sessions, session_table_code as sessions_code}
@@ -16,6 +16,8 @@ pub record OpenConnection : Type 0 where
   pub rest : List ℕ
   -- Its client has asked for the end of its session: what it sends from then on is dropped.
   pub is_leaving : Bool
+  -- The address of its client, where that is known and counts.
+  pub address : Option (List ℕ)
 
 -- The open connections by number.
 abbrev pub OpenConnections : Type 0
@@ -41,8 +43,10 @@ pub record World : Type 0 where
 
 abbrev pub open_connection_code : Coded OpenConnection
 open_connection_code =
-    code_by (List ℕ × Bool) (coded× (coded_list coded_ℕ) coded_bool) (λ c. (c.rest, c.is_leaving))
-    (λ p. record { rest = p.0; is_leaving = p.1 }) (λ _. refl)
+    code_by (List ℕ × (Bool × Option (List ℕ)))
+    (coded× (coded_list coded_ℕ) (coded× coded_bool (coded_option (coded_list coded_ℕ))))
+    (λ c. (c.rest, (c.is_leaving, c.address)))
+    (λ p. record { rest = p.0; is_leaving = p.1.0; address = p.1.1 }) (λ _. refl)
 
 abbrev pub open_connections_code : Coded OpenConnections
 open_connections_code = finmap.code {R = nat_cmp} coded_ℕ open_connection_code

@@ -2,7 +2,7 @@
 
 ghost use Rattle.std.specs.Prelude.{◌≡◌, ◌∷◌, OnOk, IfSome, IfNone, IfOk};
 ghost use Rattle.std.specs.FinMap as finmap;
-ghost use Rattle.world.specs.Clients.{idle_connection, is_open, is_heard, with_connection, without_client, passwords_of, no_clients};
+ghost use Rattle.world.specs.Clients.{idle_connection, is_open, is_heard, with_connection, without_client, with_address_id, passwords_of, no_clients};
 
 use crate::connections::Connections;
 use crate::world::Settings;
@@ -10,7 +10,7 @@ use forwarding::Pending;
 use sessions::{Passwords, Sessions};
 use std::alloc::Global;
 use std::marker::Model;
-use values::NoMemory;
+use values::{NoMemory, Text};
 use watch_manager::Watches;
 
 /// The open connections, the session of each, what they watch, and their requests that aren't answered yet.
@@ -82,11 +82,26 @@ impl Clients {
         self.connections.is_heard(number)
     }
 
-    /// Opens a connection without waiting bytes and without a session.
-    pub fn open(&mut self, alloc: Global, number: u64) -> Result<(), NoMemory>
-        ensures { OnOk result (self.new ≡ with_connection number idle_connection self.old) }
+    /// Opens a connection without waiting bytes and without a session, of a client with this address.
+    pub fn open(
+        &mut self,
+        alloc: Global,
+        number: u64,
+        address: Option<Text>,
+    ) -> Result<(), NoMemory>
+        ensures { OnOk result (self.new ≡ with_connection number (idle_connection address) self.old) }
     {
-        self.connections.open(alloc, number)
+        self.connections.open(alloc, number, address)
+    }
+
+    /// Makes the address of the connection's client an id of the connection, if it has one and a session.
+    pub fn show_address(&mut self, alloc: Global, number: u64) -> Result<(), NoMemory>
+        ensures { OnOk result (self.new ≡ with_address_id number self.old) }
+    {
+        match self.connections.address(number) {
+            None => return Ok(()),
+            Some(address) => self.sessions.show_address(alloc, number, address.as_str()),
+        }
     }
 
     /// Closes a connection: its ids, watches and requests go with it, its session stays. Allocates nothing.

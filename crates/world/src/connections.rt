@@ -1,14 +1,15 @@
 //! The open connections of clients, each with its unread bytes.
 
 ghost use Rattle.std.specs.Prelude.{◌≡◌, ◌∷◌, is_some, OnOk, IfSome, IfNone};
+ghost use Rattle.std.specs.Option.{option_copied};
 ghost use Rattle.std.specs.FinMap as finmap;
-ghost use Rattle.world.specs.Clients.{heard_in, idle_connection, rest_at, with_rest, with_leaver};
+ghost use Rattle.world.specs.Clients.{heard_in, idle_connection, address_in, rest_at, with_rest, with_leaver};
 
 use std::alloc::Global;
 use std::collections::BTreeMap;
 use std::marker::Model;
 use std::mem;
-use values::{ByteQueue, NoMemory};
+use values::{ByteQueue, NoMemory, Text};
 
 /// An open connection.
 #[derive(Drop)]
@@ -17,6 +18,8 @@ pub struct Connection {
     rest: ByteQueue,
     // Its client has asked for the end of its session.
     is_leaving: bool,
+    // The address of its client, where that is known and counts.
+    address: Option<Text>,
 }
 
 impl Model for Connection {
@@ -26,7 +29,7 @@ impl Model for Connection {
 
     ghost coded = { open_connection_code };
 
-    ghost view = { λ c. record { rest = c.rest; is_leaving = c.is_leaving } };
+    ghost view = { λ c. record { rest = c.rest; is_leaving = c.is_leaving; address = c.address } };
 }
 
 /// The open connections by number.
@@ -57,13 +60,19 @@ impl Connections {
         }
     }
 
-    /// Opens a connection without waiting bytes. Fails only if an allocation is refused.
-    pub fn open(&mut self, alloc: Global, number: u64) -> Result<(), NoMemory>
-        ensures { OnOk result (self.new ≡ finmap.insert self.old number idle_connection) }
+    /// Opens a connection without waiting bytes, of a client with this address. Fails only if an allocation is refused.
+    pub fn open(
+        &mut self,
+        alloc: Global,
+        number: u64,
+        address: Option<Text>,
+    ) -> Result<(), NoMemory>
+        ensures { OnOk result (self.new ≡ finmap.insert self.old number (idle_connection address)) }
     {
         let connection = Connection {
             rest: ByteQueue::new(alloc),
             is_leaving: false,
+            address,
         };
         self.map.insert(number, connection)?;
         Ok(())
@@ -82,6 +91,16 @@ impl Connections {
         match self.map.get(&number) {
             None => return false,
             Some(connection) => !connection.is_leaving,
+        }
+    }
+
+    /// The address of the client of an open connection, if it has one.
+    pub fn address(&self, number: u64) -> Option<&Text>
+        ensures { option_copied result ≡ address_in (finmap.get self.now number) }
+    {
+        match self.map.get(&number) {
+            None => return None,
+            Some(connection) => connection.address.as_ref(),
         }
     }
 

@@ -12,7 +12,7 @@
 //! ```text
 //! let clients = Clients::new(alloc, &settings)?;                       // no connection, and no session yet
 //! let mut stage = Stage::new(alloc, World { settings, replica, clients });
-//! stage.world.clients.open(alloc, 7)?;                                 // connection 7 is open
+//! stage.world.clients.open(alloc, 7, None)?;                           // connection 7 is open
 //! stage.close_client(7)?;                                              // appends Output::CloseClient(7)
 //! ```
 #![tactic(auto)]

@@ -10,8 +10,7 @@ use Rattle.world.specs.Sending.{with_sessions}
 use Rattle.world.specs.Results.{MeetsStep, MakesStep}
 use Rattle.world.proofs.Steps.{then_meets}
 use Rattle.client_service.specs.Serve.{answer_connect}
-use Rattle.leader_answers.specs.Answering.{admit_as}
-use Rattle.leader_answers.proofs.Admission.{served}
+use Rattle.leader_answers.specs.Answering.{serve_admitted, admit_as}
 use Rattle.leader_answers.proofs.admitting.admit.Goals as goal
 
 -- Nothing was sent yet.
@@ -33,18 +32,18 @@ returns c =
     let session = to_z w64 (of_z w64 connect.session) in
     let same : session ≡ connect.session = search rules in
     let given = give_session (close_connection w.clients.sessions n) n connect.session connect.time_out in
-    let result = c.serve_frames.result in
+    let result = c.serve_admitted.result in
     let mid = c.answer_connect.new.stage in
-    let new = c.serve_frames.new.stage in
+    let new = c.serve_admitted.new.stage in
     subst (λ (s : StepResult World). MakesStep result s (λ (v : World). admit_as n v frames (Some connect)) new)
     c.stage.view_is
     (subst (λ (h : StepResult World). MeetsStep result now
-    (and_then h (λ (v : World). served n connect.session v frames)) new.outputs new.after)
+    (and_then h (serve_admitted n connect.session frames)) new.outputs new.after)
     (ap (λ (v : World). answer_connect n connect.has_read_only v c.in_ok-connected.connected)
     c.in_ok-connected.ensures.after
     ∙ ap (λ (a : Connected). answer_connect n connect.has_read_only (with_sessions w given.after) a)
     (sym c.in_ok-connected.ensures.answer))
     (then_meets result now mid.outputs new.outputs
     (answer_connect n connect.has_read_only c.give_session.new.world c.in_ok-connected.connected)
-    (λ (v : World). served n connect.session v frames) mid.after new.after c.in_ok-answer_connect.ensures
-    (subst (λ (s : ℤ). MakesStep result mid (λ (v : World). served n s v frames) new) same c.serve_frames.ensures)))
+    (serve_admitted n connect.session frames) mid.after new.after c.in_ok-answer_connect.ensures
+    (subst (λ (s : ℤ). MakesStep result mid (serve_admitted n s frames) new) same c.serve_admitted.ensures)))

@@ -1,4 +1,4 @@
-use Rattle.std.proofs.Common.{◌≡◌, ℤ, w32, w64, to_z, of_z, sym, ap, ◌∙◌, rules}
+use Rattle.std.proofs.Common.{◌≡◌, ℤ, w32, w64, to_z, of_z, None, sym, ap, ◌∙◌, rules}
 use Rattle.std.specs.Prelude.{IsTrue}
 use Rattle.std.specs.Ordering.{nat_cmp}
 use Rattle.std.specs.FinMap as finmap
@@ -44,5 +44,5 @@ returns c =
     record {
       session = id;
       clients = c.in_ok-open.ensures
-          ∙ (λ i. with_connection 1 idle_connection (record (is i) { sessions = sessions i }));
+          ∙ (λ i. with_connection 1 (idle_connection None) (record (is i) { sessions = sessions i }));
     }

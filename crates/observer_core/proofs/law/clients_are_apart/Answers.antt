@@ -13,11 +13,11 @@ returns c =
     let keep_watches = c.firing.ensures.others in
     let queues = c.other_connections_stay.ensures in
     record {
-      comes = λ m n.
-          let after = (open_client n m.world).clients in
+      comes = λ m n address.
+          let after = (open_client n address m.world).clients in
           record {
             leader = refl;
-            world = open_apart (IsSessionOf n m.world.clients after) (IsTakenUp n m.world.clients after) n m.world;
+            world = open_apart (IsSessionOf n m.world.clients after) (IsTakenUp n m.world.clients after) n address m.world;
           };
       sends = λ m n bytes agree. record {
         leader = refl;

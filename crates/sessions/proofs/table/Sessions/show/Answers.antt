@@ -20,4 +20,4 @@ invariant_of-self-2 c =
     ∙ sym c.has_room.ensures
     ∙ c.if-not-has_room.false in
     rw (c.in_ok-show.ensures.ok ∙ ap (with_shown_id c.self.inside.connections c.args.connection c.args.id) here)
-    (shows _ c.args.connection c.in-Some.shown.now c.args.id c.self.invariant here fit c.requires)
+    (shows _ c.args.connection c.in-Some.shown.now c.args.id c.self.invariant here fit)

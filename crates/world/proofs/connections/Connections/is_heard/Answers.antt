@@ -15,7 +15,7 @@ returns-in-None c =
 
 pub returns : goal.returns
 returns c =
-    sym (heard_some c.connection.inside.rest c.connection.inside.is_leaving)
+    sym (heard_some c.connection.inside.rest c.connection.inside.is_leaving c.connection.inside.address)
     ∙ ap (λ (k : OpenConnection). is_some (heard_in (Some k))) c.connection.view_is
     ∙ ap (λ (o : Option OpenConnection). is_some (heard_in o))
     (c.in-Some.ensures.value ∙ sym (get-seen c.self.inside.map c.args.number)

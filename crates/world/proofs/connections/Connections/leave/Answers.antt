@@ -17,7 +17,11 @@ returns-in-None c =
 pub returns : goal.returns
 returns c =
     let leaving : OpenConnection → OpenConnection = λ (k : OpenConnection). record k { is_leaving = true } in
-    let w : OpenConnection = record { rest = c.connection.inside.rest; is_leaving = true } in
+    let w : OpenConnection = record {
+      rest = c.connection.inside.rest;
+      is_leaving = true;
+      address = c.connection.inside.address;
+    } in
     let some : Some c.in-Some.connection.now ≡ finmap.get c.args.self.now c.args.number =
     c.in-Some.ensures.value ∙ sym (get-seen c.self.inside.map c.args.number)
     ∙ ap (λ m. finmap.get m c.args.number) c.self.view_is in

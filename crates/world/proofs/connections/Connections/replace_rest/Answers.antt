@@ -24,7 +24,11 @@ returns-in-None-clause-new c =
 
 pub returns-then-connection-clause-old : goal.returns-then-connection-clause-old
 returns-then-connection-clause-old c =
-    let k : OpenConnection = record { rest = c.connection.inside.rest; is_leaving = c.connection.inside.is_leaving } in
+    let k : OpenConnection = record {
+      rest = c.connection.inside.rest;
+      is_leaving = c.connection.inside.is_leaving;
+      address = c.connection.inside.address;
+    } in
     ap rest_at (sym (heard_as k true c.if-connection.true))
     ∙ ap (λ (k : OpenConnection). rest_at (heard_in (Some k))) c.connection.view_is
     ∙ ap (λ (o : Option OpenConnection). rest_at (heard_in o))
@@ -35,7 +39,11 @@ pub returns-then-connection-clause-new : goal.returns-then-connection-clause-new
 returns-then-connection-clause-new c =
     let n = c.args.number in
     let now = c.in-Some.connection.now in
-    let k : OpenConnection = record { rest = c.connection.inside.rest; is_leaving = c.connection.inside.is_leaving } in
+    let k : OpenConnection = record {
+      rest = c.connection.inside.rest;
+      is_leaving = c.connection.inside.is_leaving;
+      address = c.connection.inside.address;
+    } in
     let unheard : None ≡ heard_in (finmap.get c.args.self.now n) =
     sym (heard_as k true c.if-connection.true)
     ∙ ap (λ (k : OpenConnection). heard_in (Some k)) c.connection.view_is
@@ -49,7 +57,11 @@ returns-then-connection-clause-new c =
 
 pub returns-clause-old : goal.returns-clause-old
 returns-clause-old c =
-    let k : OpenConnection = record { rest = c.connection.inside.rest; is_leaving = c.connection.inside.is_leaving } in
+    let k : OpenConnection = record {
+      rest = c.connection.inside.rest;
+      is_leaving = c.connection.inside.is_leaving;
+      address = c.connection.inside.address;
+    } in
     ap Some c.replace.ensures.value
     ∙ ap rest_at (sym (heard_as k false c.if-connection.false))
     ∙ ap (λ (k : OpenConnection). rest_at (heard_in (Some k))) c.connection.view_is
@@ -60,7 +72,11 @@ returns-clause-old c =
 pub returns-clause-new : goal.returns-clause-new
 returns-clause-new c =
     let n = c.args.number in
-    let k : OpenConnection = record { rest = c.connection.inside.rest; is_leaving = c.connection.inside.is_leaving } in
+    let k : OpenConnection = record {
+      rest = c.connection.inside.rest;
+      is_leaving = c.connection.inside.is_leaving;
+      address = c.connection.inside.address;
+    } in
     let with_bytes : List ℕ → OpenConnection = λ (rest : List ℕ). record k { rest = rest } in
     let w = with_bytes c.replace.new.dest in
     let heard : Some k ≡ heard_in (finmap.get c.args.self.now n) =
