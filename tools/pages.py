@@ -45,6 +45,10 @@ VERSIONS = os.path.join(TOP, "crates", "serve_options", "src", "lib.rt")
 
 TEXT = r'"((?:[^"\\]|\\.)*)"'
 ROW = re.compile(rf"const \w+: Row = Row \{{\s*word: {TEXT},\s*value: {TEXT},\s*kind: (.*?),\s*without: (.*?),\s*help:\s*{TEXT},\s*\}};", re.S)
+# The hint of a fault in dialect 3.4, and in the later one.
+BY_DIALECT = re.compile(
+    rf"Fault::(\w+) => match dialect \{{\s*Dialect::Zk34 =>\s*{TEXT},\s*Dialect::Zk38 =>\s*{TEXT},\s*\}}"
+)
 NUMBER = re.compile(r"Kind::Number\(Bounds \{\s*least: ([\w:]+),\s*most: ([\w:]+),?\s*\}\)")
 
 
@@ -113,7 +117,10 @@ def options():
 def faults():
     """Returns the beginning of the page's line for each fault, in order."""
     numbers = re.findall(r"^    (\w+)(?: = 1)?,$", text_of(FAULTS).split("pub enum Fault {")[1].split("}")[0], re.M)
-    hints = dict(re.findall(rf"Fault::(\w+) =>\s*(?:\{{\s*)?{TEXT}", text_of(HINTS)))
+    text = text_of(HINTS)
+    hints = dict(re.findall(rf"Fault::(\w+) =>\s*(?:\{{\s*)?{TEXT}", text))
+    for word, earlier, later in BY_DIALECT.findall(text):
+        hints[word] = f"{later}; with `--dialect 3.4`: {earlier}"
     return [f"| F{number} {word} | {hints[word]} |" for number, word in enumerate(numbers, 1)]
 
 

@@ -457,6 +457,7 @@ def ends_by(fault, line, server):
     with open(os.path.join(TOP, "docs", "OPERATING.md"), encoding="utf-8") as it:
         page = " ".join(it.read().replace("`", "").split())
     assert told[len(begin) :].strip() in page, f"docs/OPERATING.md doesn't say: {told[len(begin):].strip()}"
+    return told
 
 
 def refuses_while_it_serves(fault, content, *words):
@@ -466,7 +467,9 @@ def refuses_while_it_serves(fault, content, *words):
         with server.connection() as client:
             client.sendall(forwarded.CONNECT)
             line.sends_bytes(content)
-            ends_by(fault, line, server)
+            told = ends_by(fault, line, server)
+            # What to do depends on the dialect that it was started with.
+            assert "--dialect 3.4" not in told or "3.4" in words, told
             try:
                 while client.recv(100):
                     pass

@@ -3,10 +3,10 @@
 
 It plays a small leader and many clients: some are reset, some are cut in the middle of a frame, some say nothing, some
 don't read, some send what is no frame, some go while their session or a write of theirs waits for the leader, some
-bring their sessions from elsewhere (claims.py), and many of these load it together with clients that pipeline; and
-leaders that fault, or end in the middle of an image. Then it attacks the server (attacks.py, attacks_on_memory.py). By
---long some of this is tried more often, or whole. PROGRAM is crates/replay_runner/out/replay_runner where none is named.
-The last line is `N passed, M failed`.
+bring their sessions from elsewhere (claims.py), or with passwords of a secret (keyed.py), and many of these load it
+together with clients that pipeline; and leaders that fault, or end in the middle of an image. Then it attacks the
+server (attacks.py, attacks_on_memory.py). By --long some of this is tried more often, or whole. PROGRAM is
+crates/replay_runner/out/replay_runner where none is named. The last line is `N passed, M failed`.
 """
 import os
 import queue
@@ -30,6 +30,7 @@ import claims  # noqa: E402
 import commands  # noqa: E402
 import configured  # noqa: E402
 import forwarded  # noqa: E402
+import keyed  # noqa: E402
 import load  # noqa: E402
 import logs  # noqa: E402
 import next_leaders  # noqa: E402
@@ -42,7 +43,7 @@ from server import (  # noqa: E402
 )
 
 MODULES = (
-    commands, configured, sys.modules[__name__], claims, logs, next_leaders, silence, checkpoints, bounds, attacks,
+    commands, configured, sys.modules[__name__], claims, keyed, logs, next_leaders, silence, checkpoints, bounds, attacks,
     attacks_on_memory,
 )
 

@@ -108,6 +108,7 @@ fn audit_script(alloc: Global, script: Script, path: &str) -> Result<Option<(i32
         timeouts,
         secret,
         dialect,
+        super_digest,
         primed,
         events,
     } = script;
@@ -119,6 +120,7 @@ fn audit_script(alloc: Global, script: Script, path: &str) -> Result<Option<(i32
         secret,
         first_counter,
         dialect,
+        super_digest,
     };
     let engine = engine_of(alloc, primed, settings, default_limits())?;
     feed(alloc, engine, events.as_slice(), path)

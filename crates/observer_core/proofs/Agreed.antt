@@ -164,7 +164,7 @@ module _ (laws : LowerLaws) where
   nobody_agrees settings fits begins = record {
     sessions = laws.kept.starts
         (session_settings_of settings.server_id settings.timeouts (passwords_of settings.dialect settings.secret)
-        settings.first_counter) fits begins;
+        settings.first_counter settings.super_digest) fits begins;
     joined = λ n has. absurd (true≢false (sym has ∙ ap is_some (finmap.get-empty nat_cmp n)));
     watching = (none, none, (none, none));
     pending = laws.queued.starts;

@@ -31,7 +31,7 @@ abbrev pub IsGivenBetween : Clients → Clients → ℤ → Type 0
 IsGivenBetween before after session = IsNewId before.sessions session × HasGivenOut after session
 
 pub record IdsAreGivenOnce : Type 0 where
-  -- The server id, the timeouts and the secret stay.
+  -- The server id, the timeouts, the secret and the super user's digest stay.
   pub terms : (m : Machine) (events : List Event)
       → (play m events).after.world.clients.sessions.terms ≡ m.world.clients.sessions.terms
   -- The counter never falls.

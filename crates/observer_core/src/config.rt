@@ -1,6 +1,6 @@
 //! The configuration of an observer.
 
-ghost use Rattle.std.specs.Prelude.{◌≡◌, ◌↔◌, IsOk, IsTrue, IfOk};
+ghost use Rattle.std.specs.Prelude.{◌≡◌, ◌↔◌, Some, None, IsOk, IsTrue, IfOk};
 ghost use Rattle.batcher.specs.Limits.{limit_numbers};
 ghost use Rattle.settings.specs.Dialects.{default_dialect};
 ghost use Rattle.settings.specs.Settings.{epoch_pair, timeout_pair};
@@ -9,7 +9,7 @@ ghost use Rattle.settings.specs.Settings.{is_server_id, are_epochs, are_timeouts
 use batcher::{Limits, SpreadThreshold};
 use settings::{Dialect, Epochs, FirstCounter, Secret, ServerId, TimeoutBounds};
 use thiserror::Error;
-use values::Blob;
+use values::{Blob, Text};
 use world::Settings;
 
 /// The settings of an observer, the limits on what it does at once, and the least work that it spreads over threads. No
@@ -39,7 +39,8 @@ pub fn default_limits() -> Limits
 impl Config {
     /// Checks each setting against its bounds. Timeouts are in milliseconds. Session ids begin with the counter 1; for
     /// any other first counter see [`Config::from_settings`]. The dialect is that of ZooKeeper 3.4, see
-    /// [`Config::with_dialect`]. All work is spread, see [`Config::with_threshold`].
+    /// [`Config::with_dialect`]. No client is a super user, see [`Config::with_super_digest`]. All work is spread, see
+    /// [`Config::with_threshold`].
     ///
     /// Fails with [`BadConfig`] if a setting is outside its bounds; `settings` has the bounds.
     pub fn new(
@@ -62,6 +63,7 @@ impl Config {
         ensures secret { IfOk result (λ c. c.settings.secret ≡ secret) }
         ensures counter { IfOk result (λ c. c.settings.first_counter ≡ default_first_counter) }
         ensures dialect { IfOk result (λ c. c.settings.dialect ≡ default_dialect) }
+        ensures super_digest { IfOk result (λ c. c.settings.super_digest ≡ None) }
         ensures limits { IfOk result (λ c. c.limits ≡ limits) }
         ensures threshold { IfOk result (λ c. c.threshold ≡ SpreadThreshold.ALWAYS) }
     {
@@ -84,6 +86,7 @@ impl Config {
             secret,
             first_counter: FirstCounter::default(),
             dialect: Dialect::default(),
+            super_digest: None,
         };
         Ok(Config::from_settings(settings, limits))
     }
@@ -109,6 +112,19 @@ impl Config {
         Config {
             settings: Settings {
                 dialect,
+                ..self.settings
+            },
+            ..self
+        }
+    }
+
+    /// The same, but a client with this digest, "user:" and SHA-1 of "user:password" in base64, is the super user.
+    pub fn with_super_digest(self, digest: Text) -> Config
+        ensures { result ≡ record self { settings = record self.settings { super_digest = Some digest } } }
+    {
+        Config {
+            settings: Settings {
+                super_digest: Some(digest),
                 ..self.settings
             },
             ..self

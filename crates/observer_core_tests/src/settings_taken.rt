@@ -62,6 +62,7 @@ fn from_settings(alloc: Global) -> Result<Config, &'static str> {
         epochs: Epochs::new(2, 1).ok_or("epochs")?,
         timeouts: TimeoutBounds::new(5, 6).ok_or("timeouts")?,
         secret: Secret::new(blob(alloc, b"key")?).ok_or("secret")?,
+        super_digest: None,
         first_counter: FirstCounter::new(0x00ff_ffff_ffff_fffe).ok_or("counter")?,
         dialect: Dialect::Zk38,
     };

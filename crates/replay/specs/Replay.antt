@@ -38,6 +38,7 @@ settings_of script = record {
   secret = script.secret;
   first_counter = script.first_counter;
   dialect = script.dialect;
+  super_digest = script.super_digest;
 }
 
 -- The observer at the start.

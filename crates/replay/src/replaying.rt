@@ -197,6 +197,7 @@ fn play_script<T: Threads + Sync, W: Write>(
         timeouts,
         secret,
         dialect,
+        super_digest,
         primed,
         events,
     } = script;
@@ -208,6 +209,7 @@ fn play_script<T: Threads + Sync, W: Write>(
         secret,
         first_counter,
         dialect,
+        super_digest,
     };
     let engine = engine_of(alloc, primed, settings, limits)?;
     feed(rt, alloc, engine, events.as_slice(), writer)

@@ -16,7 +16,7 @@ use Rattle.values.specs.Hex.{bytes_of_hex}
 use Rattle.replay_script.specs.declared.event.ScriptEvent.{ScriptEvent}
 use Rattle.replay_script.specs.declared.event.ScriptEvent.TheVariants.{LeaderUp, LeaderBytes, LeaderEnd, ClientUp, ClientBytes, ClientEnd, Expire, Checkpoint}
 use Rattle.replay_script.specs.declared.event.Setting.{Setting}
-use Rattle.replay_script.specs.declared.event.Setting.TheVariants.{Server, Counter, Epochs, Timeouts, Secret, Dialect, Primed}
+use Rattle.replay_script.specs.declared.event.Setting.TheVariants.{Server, Counter, Epochs, Timeouts, Secret, Dialect, Super, Primed}
 use Rattle.replay_script.specs.declared.event.Line.{Line}
 use Rattle.replay_script.specs.declared.event.Line.TheVariants.{Blank, Header, Happening}
 use Rattle.replay_script.specs.declared.event.Keyword.{Keyword}
@@ -33,12 +33,13 @@ keyword_of word =
     else (if bytes_eq word (codes "timeouts") then Some words.Timeouts
     else (if bytes_eq word (codes "secret") then Some words.Secret
     else (if bytes_eq word (codes "dialect") then Some words.Dialect
+    else (if bytes_eq word (codes "super") then Some words.Super
     else (if bytes_eq word (codes "primed") then Some words.Primed
     else (if bytes_eq word (codes "leader") then Some words.Leader
     else (if bytes_eq word (codes "client") then Some words.Client
     else (if bytes_eq word (codes "expire") then Some words.Expire
     else (if bytes_eq word (codes "checkpoint") then Some words.Checkpoint
-    else None))))))))))
+    else None)))))))))))
 
 -- The texts `up` and `end`, or the bytes that come.
 abbrev pub coming_of : List ℕ → Option Coming
@@ -122,6 +123,11 @@ dialect_setting text =
     if bytes_eq text (codes "3.4") then Some (Dialect Zk34)
     else (if bytes_eq text (codes "3.8") then Some (Dialect Zk38) else None)
 
+-- The digest of the super user: any text, of one byte at least.
+abbrev pub super_setting : List ℕ → Option Setting
+super_setting [] = None
+super_setting (b ∷ bs) = if is_utf8 (b ∷ bs) then Some (Super (b ∷ bs)) else None
+
 -- The meaning of a word with nothing after it.
 abbrev pub line_of_keyword : Keyword → Option Line
 line_of_keyword words.Primed = Some (Header Primed)
@@ -132,6 +138,7 @@ line_of_keyword words.Epochs = None
 line_of_keyword words.Timeouts = None
 line_of_keyword words.Secret = None
 line_of_keyword words.Dialect = None
+line_of_keyword words.Super = None
 line_of_keyword words.Leader = None
 line_of_keyword words.Client = None
 line_of_keyword words.Expire = None
@@ -144,6 +151,7 @@ line_with_text words.Epochs text = option_map Header (epochs_setting text)
 line_with_text words.Timeouts text = option_map Header (timeouts_setting text)
 line_with_text words.Secret text = option_map Header (secret_setting text)
 line_with_text words.Dialect text = option_map Header (dialect_setting text)
+line_with_text words.Super text = option_map Header (super_setting text)
 line_with_text words.Leader text = option_map (λ coming. Happening (leader_event coming)) (coming_of text)
 line_with_text words.Client text = option_map Happening (client_of text)
 line_with_text words.Expire text = option_map Happening (expire_of text)
@@ -155,8 +163,8 @@ abbrev pub line_of_words : Keyword → Option (List ℕ) → Option Line
 line_of_words word None = line_of_keyword word
 line_of_words word (Some text) = line_with_text word text
 
--- The meaning of a line; none if it isn't valid. Every valid line is UTF-8: one that isn't empty and isn't a comment is
--- ASCII.
+-- The meaning of a line; none if it isn't valid. Every valid line is UTF-8: one that isn't empty, isn't a comment and
+-- doesn't say a super user's digest is ASCII.
 abbrev pub line_of : List ℕ → Option Line
 line_of [] = Some Blank
 line_of (b ∷ bs) =

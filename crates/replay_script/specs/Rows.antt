@@ -8,7 +8,7 @@ use Rattle.replay_script.specs.Script.{script_of}
 use Rattle.replay_script.specs.declared.event.ScriptEvent.{ScriptEvent}
 use Rattle.replay_script.specs.declared.event.ScriptEvent.TheVariants.{LeaderUp, LeaderBytes, ClientUp, ClientBytes, ClientEnd, Expire}
 use Rattle.replay_script.specs.declared.event.Setting.{Setting}
-use Rattle.replay_script.specs.declared.event.Setting.TheVariants.{Server, Counter, Epochs, Timeouts, Secret, Dialect}
+use Rattle.replay_script.specs.declared.event.Setting.TheVariants.{Server, Counter, Epochs, Timeouts, Secret, Dialect, Super}
 use Rattle.replay_script.specs.declared.event.Line.TheVariants.{Blank, Header, Happening}
 use Rattle.replay_script.specs.declared.script.Script.{Script}
 
@@ -32,6 +32,7 @@ pub record GoodLines : Type 0 where
   pub secret : IsSettingLine (codes "secret aB ") (Secret (171 ∷ []))
   pub dialect : IsSettingLine (codes "dialect 3.4") (Dialect Zk34)
   pub later_dialect : IsSettingLine (codes "dialect 3.8") (Dialect Zk38)
+  pub super_user : IsSettingLine (codes "super super:x y") (Super (codes "super:x y"))
   pub leader_up : IsEventLine (codes "leader up") LeaderUp
   pub leader_bytes : IsEventLine (codes "leader  0 0Ff") (LeaderBytes (0 ∷ 255 ∷ []))
   pub client_up : IsEventLine (codes "client 4294967295 up") (ClientUp 4294967295 None)
@@ -50,6 +51,9 @@ pub record BadLines : Type 0 where
   pub no_address : IsBadLine (codes "client 1 up ")
   pub release : IsBadLine (codes "dialect 3.5")
   pub no_dialect : IsBadLine (codes "dialect")
+  pub no_super : IsBadLine (codes "super")
+  pub empty_super : IsBadLine (codes "super ")
+  pub bytes_of_super : IsBadLine (codes "super " ++ 255 ∷ [])
   pub bounds : IsBadLine (codes "timeouts 2 1")
   pub blank_behind : IsBadLine (codes "primed ")
   pub nothing : IsBadLine (codes "leader ")
@@ -71,6 +75,7 @@ script_of_server id events = record {
   timeouts = default_timeouts;
   secret = default_secret;
   dialect = default_dialect;
+  super_digest = None;
   primed = false;
   events = events;
 }

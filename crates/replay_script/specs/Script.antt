@@ -6,7 +6,7 @@ use Rattle.settings.specs.Settings.{default_server_id, default_first_counter, de
 use Rattle.replay_script.specs.Line.{line_of}
 use Rattle.replay_script.specs.declared.event.ScriptEvent.{ScriptEvent}
 use Rattle.replay_script.specs.declared.event.Setting.{Setting}
-use Rattle.replay_script.specs.declared.event.Setting.TheVariants.{Server, Counter, Epochs, Timeouts, Secret, Dialect, Primed}
+use Rattle.replay_script.specs.declared.event.Setting.TheVariants.{Server, Counter, Epochs, Timeouts, Secret, Dialect, Super, Primed}
 use Rattle.replay_script.specs.declared.event.Line.{Line}
 use Rattle.replay_script.specs.declared.event.Line.TheVariants.{Blank, Header, Happening}
 use Rattle.replay_script.specs.declared.script.Script.{Script}
@@ -33,6 +33,7 @@ empty_script = record {
     timeouts = None;
     secret = None;
     dialect = None;
+    super_digest = None;
     primed = false;
   };
   events = [];
@@ -45,6 +46,7 @@ is_set (Epochs epochs) settings = is_some settings.epochs
 is_set (Timeouts timeouts) settings = is_some settings.timeouts
 is_set (Secret bytes) settings = is_some settings.secret
 is_set (Dialect dialect) settings = is_some settings.dialect
+is_set (Super digest) settings = is_some settings.super_digest
 is_set Primed settings = settings.primed
 
 abbrev pub with_setting : Settings → Setting → Settings
@@ -54,6 +56,7 @@ with_setting settings (Epochs epochs) = record settings { epochs = Some epochs }
 with_setting settings (Timeouts timeouts) = record settings { timeouts = Some timeouts }
 with_setting settings (Secret bytes) = record settings { secret = Some bytes }
 with_setting settings (Dialect dialect) = record settings { dialect = Some dialect }
+with_setting settings (Super digest) = record settings { super_digest = Some digest }
 with_setting settings Primed = record settings { primed = true }
 
 abbrev pub is_empty : {A : Type 0} → List A → Bool
@@ -90,6 +93,7 @@ script_with kept =
       timeouts = unwrap_or settings.timeouts default_timeouts;
       secret = unwrap_or settings.secret default_secret;
       dialect = unwrap_or settings.dialect default_dialect;
+      super_digest = settings.super_digest;
       primed = settings.primed;
       events = kept.events;
     }

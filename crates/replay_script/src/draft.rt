@@ -39,6 +39,7 @@ impl Settings {
             Setting::Timeouts(_) => self.timeouts.is_some(),
             Setting::Secret(_) => self.secret.is_some(),
             Setting::Dialect(_) => self.dialect.is_some(),
+            Setting::Super(_) => self.super_digest.is_some(),
             Setting::Primed => self.primed,
         }
     }
@@ -53,6 +54,7 @@ impl Settings {
             Setting::Timeouts(timeouts) => self.timeouts = Some(timeouts),
             Setting::Secret(secret) => self.secret = Some(secret),
             Setting::Dialect(dialect) => self.dialect = Some(dialect),
+            Setting::Super(digest) => self.super_digest = Some(digest),
             Setting::Primed => self.primed = true,
         }
     }
@@ -74,6 +76,7 @@ impl Draft {
                 timeouts: None,
                 secret: None,
                 dialect: None,
+                super_digest: None,
                 primed: false,
             },
             events: Vec::new(alloc),
@@ -130,6 +133,7 @@ impl Draft {
             timeouts,
             secret,
             dialect,
+            super_digest,
             primed,
         } = settings;
         Script {
@@ -139,6 +143,7 @@ impl Draft {
             timeouts: timeouts.unwrap_or(TimeoutBounds::default()),
             secret: secret.unwrap_or(Secret::empty(alloc)),
             dialect: dialect.unwrap_or(Dialect::default()),
+            super_digest,
             primed,
             events: Listed::from_vec(events),
         }

@@ -39,6 +39,8 @@ pub enum Setting {
     Secret(Secret),
     /// `dialect 3.4` or `dialect 3.8`: that of ZooKeeper 3.4, or of 3.5 to 3.9.
     Dialect(Dialect),
+    /// `super TEXT`: the digest that makes a super user of a client.
+    Super(Text),
     /// `primed`
     Primed,
 }
@@ -61,6 +63,7 @@ pub enum Keyword {
     Timeouts,
     Secret,
     Dialect,
+    Super,
     Primed,
     Leader,
     Client,

@@ -2,7 +2,7 @@
 
 ghost use Rattle.std.specs.Prelude.{◌≡◌, true, IfOk};
 ghost use Rattle.std.specs.Str.{is_utf8};
-ghost use Rattle.replay_script.specs.Line.{keyword_of, coming_of, leader_event, client_event, is_address, client_up, coming_of_client, client_of, expire_of, server_setting, counter_setting, epochs_setting, timeouts_setting, secret_setting, dialect_setting, line_of_keyword, line_with_text, line_of_words, line_of};
+ghost use Rattle.replay_script.specs.Line.{keyword_of, coming_of, leader_event, client_event, is_address, client_up, coming_of_client, client_of, expire_of, server_setting, counter_setting, epochs_setting, timeouts_setting, secret_setting, dialect_setting, super_setting, line_of_keyword, line_with_text, line_of_words, line_of};
 
 use crate::event::{Coming, Keyword, Line, ScriptEvent, Setting};
 use crate::hex::read_hex;
@@ -31,6 +31,8 @@ fn keyword_of(word: &[u8]) -> Option<Keyword>
         Some(Keyword::Secret)
     } else if word == b"dialect".as_slice() {
         Some(Keyword::Dialect)
+    } else if word == b"super".as_slice() {
+        Some(Keyword::Super)
     } else if word == b"primed".as_slice() {
         Some(Keyword::Primed)
     } else if word == b"leader".as_slice() {
@@ -208,6 +210,18 @@ fn dialect_of(text: &[u8]) -> Option<Setting>
     None
 }
 
+fn super_of(alloc: Global, text: &[u8]) -> Result<Option<Setting>, NoMemory>
+    ensures { IfOk result (λ setting. setting ≡ super_setting text.now) }
+{
+    if text.is_empty() {
+        return Ok(None);
+    }
+    match str::from_utf8(text) {
+        Err(_) => return Ok(None),
+        Ok(digest) => Ok(Some(Setting::Super(Text::new(alloc, digest)?))),
+    }
+}
+
 fn alone(word: Keyword) -> Option<Line>
     ensures { result ≡ line_of_keyword word }
 {
@@ -220,6 +234,7 @@ fn alone(word: Keyword) -> Option<Line>
         | Keyword::Timeouts
         | Keyword::Secret
         | Keyword::Dialect
+        | Keyword::Super
         | Keyword::Leader
         | Keyword::Client
         | Keyword::Expire => None,
@@ -236,6 +251,7 @@ fn followed(alloc: Global, word: Keyword, text: &[u8]) -> Result<Option<Line>, N
         Keyword::Timeouts => Ok(timeouts_of(text).map(Line::Header)),
         Keyword::Secret => Ok(secret_of(alloc, text)?.map(Line::Header)),
         Keyword::Dialect => Ok(dialect_of(text).map(Line::Header)),
+        Keyword::Super => Ok(super_of(alloc, text)?.map(Line::Header)),
         Keyword::Leader => match coming_of(alloc, text)? {
             None => Ok(None),
             Some(coming) => Ok(Some(Line::Happening(leader_event(coming)))),

@@ -2,7 +2,7 @@
 
 use crate::event::ScriptEvent;
 use settings::{Dialect, Epochs, FirstCounter, Secret, ServerId, TimeoutBounds};
-use values::Listed;
+use values::{Listed, Text};
 
 /// A script: the settings, and the events in order.
 #[derive(Debug, Drop)]
@@ -13,6 +13,7 @@ pub struct Script {
     pub timeouts: TimeoutBounds,
     pub secret: Secret,
     pub dialect: Dialect,
+    pub super_digest: Option<Text>,
     /// Whether the observer serves from the start.
     pub primed: bool,
     pub events: Listed<ScriptEvent>,
@@ -27,5 +28,6 @@ pub struct Settings {
     pub timeouts: Option<TimeoutBounds>,
     pub secret: Option<Secret>,
     pub dialect: Option<Dialect>,
+    pub super_digest: Option<Text>,
     pub primed: bool,
 }

@@ -376,7 +376,8 @@ impl<L: Log, W: Write + Drop> Hub<L, W> {
     fn tell_gone(&self, fault: Option<Fault>) {
         if let Some(server) = self.leading.server() {
             let is_leader = self.leading.is_leader();
-            self.journal.leader_gone(server, fault, is_leader);
+            let dialect = self.bounds.session.dialect;
+            self.journal.leader_gone(server, fault, dialect, is_leader);
         }
     }
 
@@ -397,7 +398,10 @@ impl<L: Log, W: Write + Drop> Hub<L, W> {
     // How serving ends after a leader, where it ends then.
     fn ending(&self, fault: Option<Fault>) -> Result<(), Failure> {
         match (fault, self.leading.server()) {
-            (Some(fault), Some(server)) => Err(Failure::refused(self.alloc, fault, server)),
+            (Some(fault), Some(server)) => {
+                let dialect = self.bounds.session.dialect;
+                Err(Failure::refused(self.alloc, fault, dialect, server))
+            }
             (None, _) | (_, None) => Ok(()),
         }
     }

@@ -4,9 +4,9 @@ ghost use Rattle.std.specs.Prelude.{◌≡◌, ◌++◌, OnOk};
 ghost use Rattle.serve.specs.Lines.{port_words, address_words, session_digits, message_line};
 
 use intake::Message;
+use observer_core::Settings;
 use replay_script::put_hex;
 use serve_options::release_of;
-use settings::{Dialect, ServerId};
 use std::alloc::Global;
 use std::io::Write;
 use values::{NoMemory, Text};
@@ -83,6 +83,27 @@ pub fn put_message(out: &mut Vec<u8>, port: usize, message: &Message) -> Result<
     }
 }
 
+// Appends the lines of settings.
+fn put_settings(out: &mut Vec<u8>, settings: &Settings) -> Result<(), NoMemory> {
+    let number = settings.server_id.number();
+    let release = release_of(settings.dialect);
+    let first_counter = settings.first_counter.number();
+    if write!(
+        out,
+        "server {number}\ndialect {release}\ncounter {first_counter}\n"
+    )
+    .is_err()
+    {
+        return Err(NoMemory);
+    }
+    if settings.secret.as_slice().is_empty() {
+        return Ok(());
+    }
+    put(out, b"secret ")?;
+    put_hex(out, settings.secret.as_slice())?;
+    put(out, b"\n")
+}
+
 /// The record, as long as it can be written.
 #[derive(Drop)]
 pub struct Record<W> {
@@ -119,21 +140,13 @@ impl<W: Write + Drop> Record<W> {
         self.lines.clear();
     }
 
-    /// Records the observer's settings that aren't those of every script: its id, the dialect, and the counter after
-    /// which its session ids begin.
-    pub fn begin(&mut self, server_id: ServerId, dialect: Dialect, first_counter: u64) {
+    /// Records the observer's settings that aren't those of every script: its id, the dialect, the counter after which
+    /// its session ids begin, and the secret of passwords, if there is one.
+    pub fn begin(&mut self, settings: &Settings) {
         if self.writer.is_none() {
             return;
         }
-        let number = server_id.number();
-        let release = release_of(dialect);
-        let made = match write!(
-            self.lines,
-            "server {number}\ndialect {release}\ncounter {first_counter}\n"
-        ) {
-            Ok(()) => Ok(()),
-            Err(_) => Err(NoMemory),
-        };
+        let made = put_settings(&mut self.lines, settings);
         self.write_lines(made);
     }
 

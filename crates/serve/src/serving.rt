@@ -16,14 +16,16 @@ use log::Log;
 use mio::net::TcpListener;
 use observer_core::{Config, Settings};
 use serve_bounds::{Accepting, Acceptor, Stopwatch, accept_all, open_door};
-use serve_config::FileLines;
+use serve_config::{FileLines, read_secret};
 use serve_failures::{Failure, Step, servers_of};
 use serve_journal::Journal;
 use serve_options::{Address, Options, Servers};
 use settings::{Epochs, FirstCounter, Secret, TimeoutBounds};
 use std::alloc::Global;
+use std::fs::OpenOptions;
 use std::io::Write;
 use std::net::{Net, TcpStream};
+use std::os::unix::fs::OpenOptionsExt;
 use std::rt::{Env, Files};
 use std::sync::{Arc, Wait};
 use std::thread::{JoinHandle, Threads};
@@ -56,28 +58,39 @@ fn first_counter<R: Clock>(rt: &R, options: &Options<'_>) -> io::Result<FirstCou
 }
 
 // The observer's settings. Those without an option have the defaults of a script.
-fn config_of(alloc: Global, options: &Options<'_>, first_counter: FirstCounter) -> Config {
+fn config_of(options: &Options<'_>, secret: Secret, first_counter: FirstCounter) -> Config {
     let settings = Settings {
         server_id: options.server_id,
         epochs: Epochs::default(),
         timeouts: TimeoutBounds::default(),
-        secret: Secret::empty(alloc),
+        secret,
         first_counter,
         dialect: options.dialect,
     };
     Config::from_settings(settings, options.limits).with_threshold(WORTH_THREADS)
 }
 
-// The file for the record, if there is one.
+// Creates or empties a file. A new one can be read by its owner alone.
+fn create_private<R: Files>(rt: &R, name: &str) -> io::Result<R::File> {
+    let mut how = OpenOptions::new();
+    how.write(true).create(true).truncate(true).mode(0o600);
+    how.open(rt, name)
+}
+
+// The file for the record, if there is one. Beside a secret it isn't for others.
 fn record_file<R: Files>(
     rt: &R,
     alloc: Global,
-    name: Option<&str>,
+    options: &Options<'_>,
 ) -> Result<Option<R::File>, Failure> {
-    let Some(name) = name else {
+    let Some(name) = options.record else {
         return Ok(None);
     };
-    match fs::create(rt, name) {
+    let created = match options.secret_file {
+        Some(_) => create_private(rt, name),
+        None => fs::create(rt, name),
+    };
+    match created {
         Ok(file) => Ok(Some(file)),
         Err(error) => Err(Failure::system(alloc, Step::Open, &name, error)),
     }
@@ -262,6 +275,16 @@ fn serve_with<
     serve_hub(rt, &mut hub, beginning, acceptor)
 }
 
+/// What a server is started with.
+#[derive(Drop)]
+pub(crate) struct Start<'a> {
+    pub options: &'a Options<'a>,
+    /// The lines of its configuration file.
+    pub lines: FileLines<'a>,
+    /// The secret that the passwords of sessions are made of.
+    pub secret: Secret,
+}
+
 /// The same as `serve_on`, with the reason why it ended.
 pub(crate) fn try_serve_on<
     R: Threads
@@ -278,17 +301,21 @@ pub(crate) fn try_serve_on<
 >(
     rt: &R,
     alloc: Global,
-    options: &Options<'_>,
-    lines: FileLines<'_>,
+    start: Start<'_>,
     origin: Origin,
     listener: TcpListener,
 ) -> Result<(), Failure> {
+    let Start {
+        options,
+        lines,
+        secret,
+    } = start;
     let first_counter = first_counter(rt, options)?;
-    let file = record_file(rt, alloc, options.record)?;
+    let file = record_file(rt, alloc, options)?;
     let mut record = Record::new(alloc, file);
-    record.begin(options.server_id, options.dialect, first_counter.number());
     let port = listener.local_addr()?.port();
-    let config = config_of(alloc, options, first_counter);
+    let config = config_of(options, secret, first_counter);
+    record.begin(&config.settings);
     let prepared = prepare(rt, alloc, options, origin, listener)?;
     let Logging {
         journal,
@@ -302,9 +329,9 @@ pub(crate) fn try_serve_on<
     served
 }
 
-/// Follows the leader and serves clients until the leader's connection ends. Returns the exit status: 0 then, 3 if
-/// something couldn't be opened or recorded, 4 if an allocation was refused, 7 if what the leader sent was refused. By
-/// then each connection is closed, and each thread that it started has ended, but for the one that writes the log where
+/// Follows the leader and serves clients until the leader's connection ends. Returns the exit status: 0 then, 2 if the
+/// secret can't be taken, 3 if something couldn't be opened or recorded, 4 if an allocation was refused, 7 if what the
+/// leader sent was refused. By then each connection is closed, and each thread that it started has ended, but for the one that writes the log where
 /// standard error hasn't been read for 500 milliseconds.
 pub fn serve_on<
     R: Threads
@@ -320,7 +347,19 @@ pub fn serve_on<
         + 'static,
 >(rt: &R, alloc: Global, options: &Options<'_>, leader: TcpStream, listener: TcpListener) -> u8 {
     let origin = Origin::Stream(leader);
-    match try_serve_on(rt, alloc, options, FileLines::none(), origin, listener) {
+    let served = match read_secret(rt, alloc, options.secret_file) {
+        Ok(secret) => {
+            let lines = FileLines::none();
+            let start = Start {
+                options,
+                lines,
+                secret,
+            };
+            try_serve_on(rt, alloc, start, origin, listener)
+        }
+        Err(failure) => Err(failure),
+    };
+    match served {
         Ok(()) => 0,
         Err(failure) => failure.status(),
     }

@@ -10,7 +10,7 @@ failure_status (Io error) = 3
 failure_status NoThread = 3
 failure_status RecordCut = 3
 failure_status NoMemory = 4
-failure_status (Refused fault server) = 7
+failure_status (Refused fault dialect server) = 7
 failure_status (NoLeader seconds tried) = 8
 
 abbrev pub last_word : Failure → Option (List ℕ)
@@ -20,5 +20,5 @@ last_word (Io error) = Some (codes "cannot open")
 last_word NoThread = Some (codes "cannot open")
 last_word RecordCut = Some (codes "cannot open")
 last_word NoMemory = Some (codes "no memory")
-last_word (Refused fault server) = None
+last_word (Refused fault dialect server) = None
 last_word (NoLeader seconds tried) = None

@@ -6,6 +6,7 @@ ghost use Rattle.serve_failures.specs.Statuses.{failure_status, last_word};
 use crate::hint::fault_hint;
 use crate::server::{Reason, Server, Tried};
 use serve_options::OptionError;
+use settings::Dialect;
 use std::alloc::{AllocError, AllocFailed, Global};
 use std::fmt::Display;
 use std::io;
@@ -50,9 +51,10 @@ pub enum Failure {
     #[error("memory was refused")]
     NoMemory,
     /// What the server sent was refused.
-    #[error("F{number} {word} from {server}: {hint}", number = .fault.number(), word = .fault.word(), hint = fault_hint(*.fault))]
+    #[error("F{number} {word} from {server}: {hint}", number = .fault.number(), word = .fault.word(), hint = fault_hint(*.fault, *.dialect))]
     Refused {
         fault: Fault,
+        dialect: Dialect,
         server: String,
     },
     /// No leader was found within these seconds; the text says why, server by server.
@@ -109,12 +111,16 @@ impl Failure {
         }
     }
 
-    /// What the server sent was refused, or the text of that had no memory.
-    pub fn refused(alloc: Global, fault: Fault, server: &Server) -> Failure
+    /// What the server sent was refused in this dialect, or the text of that had no memory.
+    pub fn refused(alloc: Global, fault: Fault, dialect: Dialect, server: &Server) -> Failure
         ensures { (failure_status result ≡ 7) ⊎ (failure_status result ≡ 4) }
     {
         match text_of(alloc, server) {
-            Ok(server) => Failure::Refused { fault, server },
+            Ok(server) => Failure::Refused {
+                fault,
+                dialect,
+                server,
+            },
             Err(_) => Failure::NoMemory,
         }
     }

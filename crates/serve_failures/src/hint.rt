@@ -2,20 +2,30 @@
 
 ghost use Rattle.std.specs.Prelude.{◌<◌, length};
 
+use settings::Dialect;
 use values::Fault;
 
-/// What the one who runs the server may do about a fault in what a leader sent.
-pub fn fault_hint(fault: Fault) -> &'static str
+/// What the one who runs the server may do about a fault in what a leader sent, if it follows leaders of this dialect.
+pub fn fault_hint(fault: Fault, dialect: Dialect) -> &'static str
     ensures { 0 < length result.now }
 {
     match fault {
         Fault::Short => "start again, and if it comes back keep a record of it",
         Fault::BadLength =>
             "look whether this is the quorum port of a server, and keep each write and multi below 4 MiB",
-        Fault::BadText => "keep characters past U+FFFF out of paths and ids",
+        Fault::BadText => match dialect {
+            Dialect::Zk34 => "keep characters past U+FFFF out of paths and ids",
+            Dialect::Zk38 => "keep characters past U+FFFF out of paths",
+        },
         Fault::BadPath => "start again, and if it comes back keep a record of it",
-        Fault::BadTxnType => "beside servers from 3.5 on, start it without --dialect 3.4",
-        Fault::TrailingBytes => "beside servers from 3.6 on, start it without --dialect 3.4",
+        Fault::BadTxnType => match dialect {
+            Dialect::Zk34 => "beside servers from 3.5 on, start it without --dialect 3.4",
+            Dialect::Zk38 => "look whether the leader is later than 3.9, and keep a record of it",
+        },
+        Fault::TrailingBytes => match dialect {
+            Dialect::Zk34 => "beside servers from 3.6 on, start it without --dialect 3.4",
+            Dialect::Zk38 => "look whether the leader is later than 3.9, and keep a record of it",
+        },
         Fault::OutOfOrder => "start again, and if it comes back keep a record of it",
         Fault::CommitMismatch => "start again, and if it comes back keep a record of it",
         Fault::CannotTruncate =>

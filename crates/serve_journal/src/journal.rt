@@ -9,6 +9,7 @@ use serve_config::FileLines;
 use serve_failures::{Failure, Reason, Server, Tried, fault_hint};
 use serve_log::{Pace, Refusals};
 use serve_options::{Options, VERSION};
+use settings::Dialect;
 use std::alloc::Global;
 use std::net::SocketAddr;
 use values::Fault;
@@ -115,13 +116,19 @@ impl<L: Log> Journal<L> {
         }
     }
 
-    /// The leader's connection is gone.
-    pub fn leader_gone(&self, server: &Server, fault: Option<Fault>, is_greeted: bool) {
+    /// The leader's connection is gone; a fault is one in this dialect.
+    pub fn leader_gone(
+        &self,
+        server: &Server,
+        fault: Option<Fault>,
+        dialect: Dialect,
+        is_greeted: bool,
+    ) {
         match fault {
             Some(fault) => {
                 let number = fault.number();
                 let word = fault.word();
-                let hint = fault_hint(fault);
+                let hint = fault_hint(fault, dialect);
                 warn!(self.log; target: "leader", "{server} closed: F{number} {word}: {hint}");
             }
             None if is_greeted => warn!(self.log; target: "leader", "{server} ended"),

@@ -69,6 +69,9 @@ impl<'a> SettingsLine<'a> {
             let counter = counter.number();
             write!(f, " --counter {counter}")?;
         }
+        if let Some(file) = self.options.secret_file {
+            write!(f, " --secret-file {file}")?;
+        }
         if let Some(file) = self.options.record {
             write!(f, " --record {file}")?;
         }

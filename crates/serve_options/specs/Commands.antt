@@ -74,6 +74,7 @@ pub record IsSetBy (given : List Given) (options : Options) : Type 0 where
   pub default_id : IsTrue options.default_id ↔ (given_of names.Id given ≡ None)
   pub dialect : dialect_given given ≡ Some options.dialect
   pub counter : options.first_counter ≡ number_given names.Counter given
+  pub secret : option_map (λ name. name.now) options.secret_file ≡ value_of names.SecretFile given
   pub workers : number_given names.Workers given ≡ Some options.limits.workers
   pub batch : number_given names.Batch given ≡ Some options.limits.batch
   pub clients : options.max_clients ≡ number_given names.MaxClients given

@@ -41,6 +41,8 @@ pub struct Options<'a> {
     pub dialect: Dialect,
     /// The counter after which session ids begin; None: the clock's.
     pub first_counter: Option<FirstCounter>,
+    /// The file of the secret that the passwords of sessions are made of.
+    pub secret_file: Option<&'a str>,
     pub limits: Limits,
     /// How many clients may be connected at a time, at least 1.
     pub max_clients: Option<u64>,
@@ -285,6 +287,7 @@ fn options_in<'a>(alloc: Global, given: &[Given<'a>]) -> Result<Options<'a>, Opt
         default_id: find_given(given, Name::Id).is_none(),
         dialect: dialect_in(given)?,
         first_counter: counter_in(given)?,
+        secret_file: spelled(given, Name::SecretFile),
         limits: limits_in(given)?,
         max_clients: number_in(given, Name::MaxClients)?,
         max_per_address: number_in(given, Name::MaxPerAddress)?,

@@ -17,6 +17,7 @@ pub enum Name {
     Id,
     Dialect,
     Counter,
+    SecretFile,
     Workers,
     Batch,
     MaxClients,
@@ -38,7 +39,7 @@ pub enum Name {
 }
 
 /// The options, in the order in which help lists them.
-pub const NAMES: [Name; 26] = [
+pub const NAMES: [Name; 27] = [
     Name::Config,
     Name::CheckConfig,
     Name::Leader,
@@ -47,6 +48,7 @@ pub const NAMES: [Name; 26] = [
     Name::Id,
     Name::Dialect,
     Name::Counter,
+    Name::SecretFile,
     Name::Workers,
     Name::Batch,
     Name::MaxClients,
@@ -210,6 +212,14 @@ const COUNTER: Row = Row {
     }),
     without: Without::Meaning("the clock, so that no id is given out again"),
     help: "the ids of sessions begin after this number",
+};
+
+const SECRET_FILE: Row = Row {
+    word: "--secret-file",
+    value: "FILE",
+    kind: Kind::File,
+    without: Without::Meaning("as ZooKeeper's own servers make them; in dialect 3.4 of no secret"),
+    help: "makes the passwords of sessions of the 1 to 64 bytes in this file, which others can't read",
 };
 
 const WORKERS: Row = Row {
@@ -405,6 +415,7 @@ impl Name {
             Name::Id => ID,
             Name::Dialect => DIALECT,
             Name::Counter => COUNTER,
+            Name::SecretFile => SECRET_FILE,
             Name::Workers => WORKERS,
             Name::Batch => BATCH,
             Name::MaxClients => MAX_CLIENTS,

@@ -12,7 +12,7 @@ use Rattle.jute.specs.declared.owned.Id.{Id}
 use Rattle.sessions.specs.declared.request.SessionRequest.{SessionRequest}
 use Rattle.sessions.specs.Credentials.{digest_id}
 use Rattle.sessions.specs.State.{ConnectedClient, SessionTable}
-use Rattle.sessions.specs.Sessions.{ConnectResult, AuthResult, ExpireResult, greatest_counter, are_within_limits, is_same_id, with_id, is_valid, session_of_connection, session_in, connection_of, time_out_in, time_out_of, told_timeout, close_as, close_if_some, expire_owner, give_session, name_session, connect_session, show_in, add_id, digest_text, auth_by}
+use Rattle.sessions.specs.Sessions.{ConnectResult, AuthResult, ExpireResult, greatest_counter, are_within_limits, is_same_id, with_id, is_valid, session_of_connection, session_in, connection_of, time_out_in, time_out_of, told_timeout, close_as, close_if_some, expire_owner, give_session, name_session, connect_session, show_in, add_id, super_id, is_super_digest, add_behind, add_digest, digest_text, auth_by}
 use Rattle.sessions.specs.Agreement.{SessionsAgree, AgreementIsKept, ResponsesNameSessions, nonzero_session}
 use Rattle.sessions.proofs.Cases.{at_if}
 use Rattle.values.proofs.Keyed.{inserted}
@@ -45,9 +45,19 @@ shows_in s n id (Some c) e a =
 shows_id : (s : SessionTable) (n : ℕ) (id : Id) → SessionsAgree s → SessionsAgree (add_id s n id).after
 shows_id s n id a = shows_in s n id (finmap.get s.connections n) refl a
 
+shows_behind : (before : AuthResult) (n : ℕ) (id : Id) → SessionsAgree before.after
+    → SessionsAgree (add_behind before n id).after
+shows_behind before n id a =
+    at_if (λ (x : AuthResult). SessionsAgree x.after) before.is_accepted _ _ (λ _. shows_id before.after n id a) (λ _. a)
+
+shows_digest : (s : SessionTable) (n : ℕ) (digest : Id) → SessionsAgree s → SessionsAgree (add_digest s n digest).after
+shows_digest s n digest a =
+    at_if (λ (x : AuthResult). SessionsAgree x.after) (is_super_digest s.terms.super_digest digest.id) _ _
+    (λ _. shows_behind (add_id s n super_id) n digest (shows_id s n super_id a)) (λ _. shows_id s n digest a)
+
 shows_by : (s : SessionTable) (n : ℕ) (o : Option (List ℕ)) → SessionsAgree s → SessionsAgree (auth_by s n o).after
 shows_by s n None a = a
-shows_by s n (Some text) a = shows_id s n (digest_id text) a
+shows_by s n (Some text) a = shows_digest s n (digest_id text) a
 
 -- ---- connect
 

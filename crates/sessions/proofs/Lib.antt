@@ -18,3 +18,5 @@ pub mod NewIds
 pub mod WorkedRows
 -- The number of entries of a map.
 pub mod Counting
+-- An id that was added is taken away again.
+pub mod Undone

@@ -9,7 +9,7 @@ use Rattle.jute.specs.declared.owned.Id.{Id}
 use Rattle.sessions.specs.declared.request.SessionRequest.{SessionRequest}
 use Rattle.sessions.specs.Credentials.{digest_id}
 use Rattle.sessions.specs.State.{ConnectedClient, SessionTable}
-use Rattle.sessions.specs.Sessions.{ConnectResult, AuthResult, greatest_counter, are_within_limits, is_same_id, with_id, is_valid, connection_of, close_as, close_if_some, give_session, connect_session, show_in, add_id, digest_text, auth_by}
+use Rattle.sessions.specs.Sessions.{ConnectResult, AuthResult, greatest_counter, are_within_limits, is_same_id, with_id, is_valid, connection_of, close_as, close_if_some, give_session, connect_session, show_in, add_id, super_id, is_super_digest, add_behind, add_digest, digest_text, auth_by}
 use Rattle.sessions.specs.Agreement.{OtherConnectionsStay}
 use Rattle.sessions.proofs.Agreeing.{session_client}
 use Rattle.sessions.proofs.Cases.{at_if}
@@ -45,9 +45,21 @@ shows_in s n id (Some c) m apart =
 shows : (s : SessionTable) (n : ℕ) (id : Id) (m : ℕ) → m ≢ n → Stays s m (add_id s n id).after
 shows s n id m apart = shows_in s n id (finmap.get s.connections n) m apart
 
+shows_behind : (s : SessionTable) (before : AuthResult) (n : ℕ) (id : Id) (m : ℕ) → m ≢ n → Stays s m before.after
+    → Stays s m (add_behind before n id).after
+shows_behind s before n id m apart stays =
+    at_if (λ (x : AuthResult). Stays s m x.after) before.is_accepted _ _
+    (λ _. shows before.after n id m apart ∙ stays) (λ _. stays)
+
+shows_digest : (s : SessionTable) (n : ℕ) (digest : Id) (m : ℕ) → m ≢ n → Stays s m (add_digest s n digest).after
+shows_digest s n digest m apart =
+    at_if (λ (x : AuthResult). Stays s m x.after) (is_super_digest s.terms.super_digest digest.id) _ _
+    (λ _. shows_behind s (add_id s n super_id) n digest m apart (shows s n super_id m apart))
+    (λ _. shows s n digest m apart)
+
 shows_by : (s : SessionTable) (n : ℕ) (o : Option (List ℕ)) (m : ℕ) → m ≢ n → Stays s m (auth_by s n o).after
 shows_by s n None m apart = refl
-shows_by s n (Some text) m apart = shows s n (digest_id text) m apart
+shows_by s n (Some text) m apart = shows_digest s n (digest_id text) m apart
 
 abbrev Leaves : SessionTable → ℕ → ConnectResult → Type 0
 Leaves s m x = x.connected.older ≢ Some m → Stays s m x.after

@@ -228,9 +228,28 @@ digest_text (Some scheme) None = None
 digest_text (Some scheme) (Some bytes) =
     if bytes_eq scheme (codes "digest") && is_auth_text bytes then Some bytes else None
 
+-- The id of the super user.
+abbrev pub super_id : Id
+super_id = record { scheme = codes "super"; id = [] }
+
+-- The digest is that of the super user, if there is one.
+abbrev pub is_super_digest : Option (List ℕ) → List ℕ → Bool
+is_super_digest None digest = false
+is_super_digest (Some super) digest = bytes_eq digest super
+
+-- Adds the id, if what came before was accepted.
+abbrev pub add_behind : AuthResult → ℕ → Id → AuthResult
+add_behind before n id = if before.is_accepted then add_id before.after n id else before
+
+-- A client that has the super user's digest is the super user first, and then the user of the digest.
+abbrev pub add_digest : SessionTable → ℕ → Id → AuthResult
+add_digest s n digest =
+    if is_super_digest s.terms.super_digest digest.id then add_behind (add_id s n super_id) n digest
+    else add_id s n digest
+
 abbrev pub auth_by : SessionTable → ℕ → Option (List ℕ) → AuthResult
 auth_by s n None = record { is_accepted = false; after = s }
-auth_by s n (Some text) = add_id s n (digest_id text)
+auth_by s n (Some text) = add_digest s n (digest_id text)
 
 abbrev pub add_auth : SessionTable → ℕ → Option (List ℕ) → Option (List ℕ) → AuthResult
 add_auth s n scheme bytes = auth_by s n (digest_text scheme bytes)

@@ -16,6 +16,8 @@ pub record SessionSettings : Type 0 where
   pub passwords : Passwords
   -- Session ids begin after this counter.
   pub first_counter : ℕ
+  -- The digest that makes a super user of a client, if there is one.
+  pub super_digest : Option (List ℕ)
 
 -- A connection that has a session, and the ids that it has added.
 pub record ConnectedClient : Type 0 where
@@ -39,9 +41,14 @@ pub record SessionTable : Type 0 where
   pub owners : SessionOwners
   pub connections : ConnectedClients
 
-abbrev pub session_settings_of : ℤ → TimeoutPair → Passwords → ℕ → SessionSettings
-session_settings_of server_id timeouts passwords first_counter =
-    record { server_id = server_id; timeouts = timeouts; passwords = passwords; first_counter = first_counter }
+abbrev pub session_settings_of : ℤ → TimeoutPair → Passwords → ℕ → Option (List ℕ) → SessionSettings
+session_settings_of server_id timeouts passwords first_counter super_digest = record {
+  server_id = server_id;
+  timeouts = timeouts;
+  passwords = passwords;
+  first_counter = first_counter;
+  super_digest = super_digest;
+}
 
 abbrev pub session_table_of : SessionSettings → ℕ → SessionOwners → ConnectedClients → SessionTable
 session_table_of terms counter owners connections =
@@ -72,10 +79,16 @@ passwords_code =
 
 abbrev pub session_settings_code : Coded SessionSettings
 session_settings_code =
-    code_by (ℤ × (TimeoutPair × (Passwords × ℕ)))
-    (coded× coded_ℤ (coded× timeouts_code (coded× passwords_code coded_ℕ)))
-    (λ t. (t.server_id, (t.timeouts, (t.passwords, t.first_counter))))
-    (λ p. record { server_id = p.0; timeouts = p.1.0; passwords = p.1.1.0; first_counter = p.1.1.1 }) (λ _. refl)
+    code_by (ℤ × (TimeoutPair × (Passwords × (ℕ × Option (List ℕ)))))
+    (coded× coded_ℤ (coded× timeouts_code (coded× passwords_code (coded× coded_ℕ (coded_option (coded_list coded_ℕ))))))
+    (λ t. (t.server_id, (t.timeouts, (t.passwords, (t.first_counter, t.super_digest)))))
+    (λ p. record {
+      server_id = p.0;
+      timeouts = p.1.0;
+      passwords = p.1.1.0;
+      first_counter = p.1.1.1.0;
+      super_digest = p.1.1.1.1;
+    }) (λ _. refl)
 
 abbrev pub id_code : Coded Id
 id_code =

@@ -1,10 +1,10 @@
 //! The connections that have a session.
 
-ghost use Rattle.std.specs.Prelude.{◌≡◌, OnOk, OnErr};
+ghost use Rattle.std.specs.Prelude.{◌≡◌, take, OnOk, OnErr};
 ghost use Rattle.std.specs.Option.{option_copied};
 ghost use Rattle.std.specs.FinMap as finmap;
 ghost use Rattle.sessions.specs.Sessions.{new_connection, with_id};
-ghost use Rattle.sessions.specs.Inner.{with_shown_id};
+ghost use Rattle.sessions.specs.Inner.{with_shown_id, with_first_ids};
 
 use jute::Id;
 use std::alloc::Global;
@@ -55,6 +55,12 @@ impl Connection {
     {
         self.ids.push(id)?;
         Ok(())
+    }
+
+    fn keep_first(&mut self, count: usize)
+        ensures { self.new ≡ record self.old { ids = take count self.old.ids } }
+    {
+        self.ids.truncate(count);
     }
 }
 
@@ -130,6 +136,17 @@ impl Connections {
         match self.map.get_mut(&number) {
             None => return Ok(()),
             Some(connection) => connection.show(id),
+        }
+    }
+
+    /// Takes all ids but the first of them from a connection that has a session.
+    pub fn keep_first(&mut self, number: u64, count: usize)
+        ensures { let connection = finmap.get self.old number in
+            self.new ≡ with_first_ids self.old number count connection }
+    {
+        match self.map.get_mut(&number) {
+            None => return,
+            Some(connection) => connection.keep_first(count),
         }
     }
 

@@ -3,6 +3,7 @@
 ghost use Rattle.std.specs.Prelude.{◌≡◌, ◌<◌, ◌^◌, bit_xor, IfOk};
 ghost use Rattle.std.specs.Int.{w64, cast_unsigned};
 ghost use Rattle.sessions.specs.Credentials.{session_id_of, keyed_password, first_state, next_state, state_bytes, java_password, password_of, user_of, digest_id};
+ghost use Rattle.sessions.specs.Sessions.{super_id};
 
 use crate::passwords::Passwords;
 use crate::request::PASSWORD_LEN;
@@ -116,5 +117,15 @@ pub(crate) fn digest_id(alloc: Global, text: &str) -> Result<Id, NoMemory>
     Ok(Id {
         scheme: Blob::new(alloc, b"digest")?,
         id: Blob::new(alloc, id.as_bytes())?,
+    })
+}
+
+/// The id of the super user. Fails only if an allocation is refused.
+pub(crate) fn super_id(alloc: Global) -> Result<Id, NoMemory>
+    ensures { IfOk result (λ id. id ≡ super_id) }
+{
+    Ok(Id {
+        scheme: Blob::new(alloc, b"super")?,
+        id: Blob::new(alloc, b"")?,
     })
 }

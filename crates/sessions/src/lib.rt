@@ -9,7 +9,7 @@
 //! leader says whether one that a client claims lives, see [`Sessions::claimed`].
 //!
 //! ```text
-//! let mut sessions = Sessions::new(alloc, server_id, timeouts, passwords, first_counter);
+//! let mut sessions = Sessions::new(alloc, server_id, timeouts, passwords, first_counter, super_digest);
 //! let named = sessions.connect(alloc, 1, false, &new_session)?;       // an id for a new session, or a refusal
 //! sessions.admit(alloc, 1, named.response.session_id, time_out)?;     // the leader has created it
 //! sessions.auth(alloc, 1, Some("digest"), Some(b"user:password"))?;

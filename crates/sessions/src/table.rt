@@ -8,11 +8,11 @@ ghost use Rattle.std.specs.Map.Iter.{ShowsInOrder, deref};
 ghost use Rattle.std.specs.FinMap as finmap;
 ghost use Rattle.jute.specs.Owned.{id_format};
 ghost use Rattle.sessions.specs.State.{session_settings_of};
-ghost use Rattle.sessions.specs.Sessions.{no_sessions, session_of_connection, connection_of, ids_of, told_timeout, close_connection, expire_owner, clamped_timeout, session_response, has_password, is_valid, claimed_session, give_session, name_session, connect_session, refusal_response, add_id, ip_id, digest_text, add_auth, ids_limit, ids_bytes_limit, id_len, bytes_of_ids, are_within_limits};
+ghost use Rattle.sessions.specs.Sessions.{no_sessions, session_of_connection, connection_of, ids_of, told_timeout, close_connection, expire_owner, clamped_timeout, session_response, has_password, is_valid, claimed_session, give_session, name_session, connect_session, refusal_response, add_id, ip_id, digest_text, is_super_digest, add_digest, add_auth, ids_limit, ids_bytes_limit, id_len, bytes_of_ids, are_within_limits};
 ghost use Rattle.sessions.specs.Agreement.{SessionsAgree};
 
 use crate::connections::Connections;
-use crate::credentials::{COUNTERS, digest_id, password, session_id};
+use crate::credentials::{COUNTERS, digest_id, password, session_id, super_id};
 use crate::passwords::Passwords;
 use crate::request::{Connected, PASSWORD_LEN, SessionRequest, SessionResponse};
 use jute::Id;
@@ -21,7 +21,7 @@ use settings::{FirstCounter, ServerId, TimeoutBounds};
 use std::alloc::Global;
 use std::collections::btree_map::Keys;
 use std::marker::Model;
-use values::{Blob, NoMemory};
+use values::{Blob, NoMemory, Text};
 
 /// The most ids that a connection may have.
 pub const IDS_LIMIT: usize = 1024;
@@ -40,6 +40,7 @@ pub struct Sessions {
     timeouts: TimeoutBounds,
     passwords: Passwords,
     first_counter: FirstCounter,
+    super_digest: Option<Text>,
     // The counter of the last session id that was given out; at first that after which they begin.
     counter: u64,
     owners: SessionMap,
@@ -54,11 +55,11 @@ impl Model for Sessions {
 
     ghost coded = { session_table_code };
 
-    ghost view = { λ s. session_table_of (session_settings_of s.server_id s.timeouts s.passwords s.first_counter)
-        s.counter s.owners s.connections };
+    ghost view = { λ s. session_table_of (session_settings_of s.server_id s.timeouts s.passwords s.first_counter
+        s.super_digest) s.counter s.owners s.connections };
 
     ghost invariant = { λ s. SessionsAgree (session_table_of (session_settings_of s.server_id s.timeouts s.passwords
-        s.first_counter) s.counter s.owners s.connections) };
+        s.first_counter s.super_digest) s.counter s.owners s.connections) };
 }
 
 // The timeout, in milliseconds, moved into the bounds.
@@ -138,16 +139,17 @@ fn has_room(ids: &[Id], id: &Id) -> bool
 }
 
 impl Sessions {
-    /// No session. `timeouts` are in milliseconds, and the first session id has the counter after `first_counter`.
-    /// Allocates nothing.
+    /// No session. `timeouts` are in milliseconds, and the first session id has the counter after `first_counter`. A
+    /// client whose digest is `super_digest` is the super user. Allocates nothing.
     pub fn new(
         alloc: Global,
         server_id: ServerId,
         timeouts: TimeoutBounds,
         passwords: Passwords,
         first_counter: FirstCounter,
+        super_digest: Option<Text>,
     ) -> Sessions
-        ensures { result ≡ no_sessions (session_settings_of server_id timeouts passwords first_counter) }
+        ensures { result ≡ no_sessions (session_settings_of server_id timeouts passwords first_counter super_digest) }
     {
         // The contract of `number` tells the prover the bounds of the server id, which the invariant needs.
         let _number = server_id.number();
@@ -157,6 +159,7 @@ impl Sessions {
             timeouts,
             passwords,
             first_counter,
+            super_digest,
             counter,
             owners: SessionMap::new(alloc),
             connections: Connections::new(alloc),
@@ -379,10 +382,44 @@ impl Sessions {
         Ok(())
     }
 
-    /// Adds the digest id of the bytes "user:password" to a connection. Returns false if that is refused: the scheme
-    /// isn't "digest", the bytes are null, not UTF-8 or more than `AUTH_LIMIT`, the connection has no session, or with
-    /// one more id it would have more than `IDS_LIMIT`, or more bytes of them than `IDS_BYTES_LIMIT`. An id that it has
-    /// already is added no second time, and isn't refused.
+    // Whether the digest is that of the super user.
+    fn is_super_digest(&self, digest: &[u8]) -> bool
+        ensures is { result ≡ is_super_digest self.now.terms.super_digest digest.now }
+        ensures agrees { SessionsAgree self.now }
+    {
+        match &self.super_digest {
+            None => return false,
+            Some(super_digest) => digest == super_digest.as_str().as_bytes(),
+        }
+    }
+
+    // Adds a digest, behind the id of the super user if it is the digest of the super user.
+    fn show_digest(&mut self, alloc: Global, connection: u64, digest: Id) -> Result<bool, NoMemory>
+        ensures ok { IfOk result (λ is_accepted. add_digest self.old connection digest
+            ≡ record { is_accepted = is_accepted; after = self.new }) }
+        ensures err { OnErr result (self.new ≡ self.old) }
+    {
+        if !self.is_super_digest(digest.id.as_slice()) {
+            return self.show(connection, digest);
+        }
+        let count = self.ids(connection).len();
+        if !self.show(connection, super_id(alloc)?)? {
+            return Ok(false);
+        }
+        match self.show(connection, digest) {
+            Ok(is_accepted) => Ok(is_accepted),
+            Err(e) => {
+                self.connections.keep_first(connection, count);
+                Err(e)
+            }
+        }
+    }
+
+    /// Adds the digest id of the bytes "user:password" to a connection, behind the id of the super user if it is that of
+    /// the super user. Returns false if that is refused: the scheme isn't "digest", the bytes are null, not UTF-8 or
+    /// more than `AUTH_LIMIT`, the connection has no session, or with one more id it would have more than `IDS_LIMIT`,
+    /// or more bytes of them than `IDS_BYTES_LIMIT`. An id that it has already is added no second time, and isn't
+    /// refused. A refused allocation changes nothing.
     pub fn auth(
         &mut self,
         alloc: Global,
@@ -399,7 +436,7 @@ impl Sessions {
         let Some(text) = digest_text(scheme, bytes) else {
             return Ok(false);
         };
-        self.show(connection, digest_id(alloc, text)?)
+        self.show_digest(alloc, connection, digest_id(alloc, text)?)
     }
 
     /// Drops a connection and its ids. No connection has its session here then, and the tree keeps it.

@@ -75,7 +75,7 @@ no_clients settings = record {
   connections = finmap.empty;
   sessions = no_sessions
       (session_settings_of settings.server_id settings.timeouts (passwords_of settings.dialect settings.secret)
-      settings.first_counter);
+      settings.first_counter settings.super_digest);
   watches = no_watch;
   pending = nothing_pending;
 }

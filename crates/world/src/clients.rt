@@ -59,6 +59,7 @@ impl Clients {
             settings.timeouts,
             passwords_of(settings)?,
             settings.first_counter,
+            settings.super_digest.clone()?,
         );
         Ok(Clients {
             connections: Connections::new(alloc),

@@ -4,6 +4,7 @@ use crate::clients::Clients;
 use replica::Replica;
 use settings::{Dialect, Epochs, FirstCounter, Secret, ServerId, TimeoutBounds};
 use std::marker::Model;
+use values::Text;
 
 /// The settings of an observer: the part of its configuration that its answers depend on.
 #[derive(Debug, Drop)]
@@ -14,6 +15,8 @@ pub struct Settings {
     pub secret: Secret,
     pub first_counter: FirstCounter,
     pub dialect: Dialect,
+    /// The digest "user:hash" that makes a super user of a client; None: no client is one.
+    pub super_digest: Option<Text>,
 }
 
 /// Everything but the state of the leader's stream.

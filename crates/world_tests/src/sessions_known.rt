@@ -16,6 +16,7 @@ fn takes_java_password(alloc: Global, dialect: Dialect, secret: &[u8]) -> Result
         epochs: Epochs::default(),
         timeouts: TimeoutBounds::default(),
         secret: Secret::new(Blob::new(alloc, secret)?).unwrap_or(Secret::empty(alloc)),
+        super_digest: None,
         first_counter: FirstCounter::default(),
         dialect,
     };

@@ -101,8 +101,9 @@ class Clients:
         return self.learner.dialect.is_later
 
     def password(self, session):
-        """The password of a session; in later dialects the one that each server of the ensemble makes of the id."""
-        if self.is_later:
+        """The password of a session; in later dialects without a secret the one that each server of the ensemble makes
+        of the id."""
+        if self.is_later and not self.secret:
             return java_password(session)
         return hashlib.sha1(self.secret + int64(session)).digest()[:16]
 

@@ -13,6 +13,7 @@ invariant_of-result c =
       timeouts = c.args.timeouts;
       passwords = c.args.passwords;
       first_counter = c.args.first_counter;
+      super_digest = c.args.super_digest;
     } in
     let below = first_below c.number-counter.result c.number-counter.ensures.bounds in
     rw (c.new.ensures, c.new-2.ensures) (none_agree terms _
