@@ -1,6 +1,5 @@
 //! The main thread: it has the desk, and the threads of the connections.
 
-use crate::address::address_text;
 use crate::bounds::Bounds;
 use crate::connections::{Client, Handed, start_client};
 use crate::leading::Leading;
@@ -12,7 +11,7 @@ use intake::{Budget, Desk, Port, Unlimited, Waker as HubWaker};
 use log::Log;
 use mio::net::TcpStream;
 use rtrb::Consumer;
-use serve_bounds::{Accepted, Door, Pause, Stopwatch, TurnBudget};
+use serve_bounds::{Accepted, Door, Pause, Stopwatch, TurnBudget, address_text};
 use serve_failures::Failure;
 use serve_journal::Journal;
 use std::alloc::Global;

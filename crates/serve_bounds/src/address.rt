@@ -27,8 +27,8 @@ fn put_address(text: &mut String, address: &IpAddr) -> Result<(), NoMemory> {
 
 /// The text of an address, as the servers of an ensemble write it, so that an entry of an access control list names the
 /// same client here and there: of IPv6 all eight groups are written, and an address of IPv4 within one of IPv6 is
-/// written as that of IPv4.
-pub(crate) fn address_text(alloc: Global, address: IpAddr) -> Result<Text, NoMemory> {
+/// written as that of IPv4. Fails only if an allocation is refused.
+pub fn address_text(alloc: Global, address: IpAddr) -> Result<Text, NoMemory> {
     let mut text = String::new(alloc);
     put_address(&mut text, &address.to_canonical())?;
     Text::new(alloc, text.as_str())
