@@ -8,14 +8,15 @@
  *   feed FILE COUNT           sends the INFORMs in a file, which has the first COUNT transactions, until all are done,
  *                             which the answer to a PING shows
  *   open PORT COUNT           opens so many connections, each with a session and a node of its own
- *   pipeline DEPTH SECONDS    sets the first connection's node and reads it, again and again, with DEPTH requests under
- *                             way
+ *   pipeline DEPTH SECONDS PARTS
+ *                             sets the first connection's node and reads it, again and again, with DEPTH requests under
+ *                             way; it is set by a setData, or by a multi of so many setDatas where PARTS isn't 0
  *   hold FRAMES write|sync    has FRAMES requests wait on each connection, one connection after the other: a setData or
  *                             a sync that isn't answered yet, and getDatas
  *   answer                    answers what waits, connection by connection
  *   close                     deletes the connections' nodes, and closes their sessions
  *
- * The leader does sessions, creates, deletes, setDatas and syncs at once, in the order in which they come, also between
+ * The leader does sessions, creates, deletes, setDatas, multis of these and syncs at once, in the order in which they come, also between
  * the commands. Each reply is looked at: it has to come in its turn, without an error, and a read has to show the write
  * before it and nothing later. One thread over epoll. Status 0, or 1 and what went wrong, as when no byte comes or goes
  * for DEADLINE seconds. */
@@ -42,9 +43,11 @@ enum { BUFFER = 1 << 18, REST = 1024, MOST_CONNECTIONS = 10000, MOST_WAITING = 1
 enum { DEADLINE = 30, PIECE = 250 };
 enum { REQUEST = 1, ACK = 3, PING = 5, SYNC = 7, INFORM = 8, NEWLEADER = 10, UPTODATE = 12, DIFF = 13 };
 enum { OBSERVERINFO = 16, LEADERINFO = 17, ACKEPOCH = 18 };
-enum { CREATE = 1, DELETE = 2, GET_DATA = 4, SET_DATA = 5, SYNC_PATH = 9, AUTH = 100 };
+enum { CREATE = 1, DELETE = 2, GET_DATA = 4, SET_DATA = 5, SYNC_PATH = 9, MULTI = 14, AUTH = 100 };
 enum { CREATE_SESSION = -10, CLOSE_SESSION = -11, AUTH_XID = -4 };
 enum { PATH = 10, VALUE = 16, HEADER = 16, STAT = 68 };
+/* A setData of a multi: a type, a byte and an error, and then as it is alone. The end of a multi is as long as the first. */
+enum { PART_HEADER = 9, SET = PATH + 4 + VALUE + 4, PART = PART_HEADER + SET, MOST_PARTS = 10 };
 static const uint64_t EPOCH = (uint64_t)1 << 32;
 /* Before this many seconds writes aren't counted. */
 static const double WARM_UP = 0.3;
@@ -90,6 +93,8 @@ static int is_holding;
 static struct bytes kept;
 static size_t kept_ends[MOST_CONNECTIONS], kept_count;
 static struct connection *answering;
+/* The setDatas of each multi of a pipeline, or 0 where its writes are setDatas alone. */
+static int parts;
 
 /* Says what went wrong, with why the last call of the system failed, if it did. */
 static void fail(const char *what) {
@@ -210,6 +215,22 @@ static int32_t *version_of(const unsigned char *body, size_t length) {
     return &versions[atoi(digits)];
 }
 
+/* Tells of a multi of setDatas: its parts lie in buffers, each with the version that its node has then. */
+static void inform_multi(struct bytes *to, const unsigned char *request, size_t length) {
+    static struct bytes done;
+    done.from = done.to = 0;
+    if (length < PART_HEADER || (length - PART_HEADER) % PART) fail("a multi of something else");
+    put_int(&done, (length - PART_HEADER) / PART);
+    for (const unsigned char *part = request + 16; length > PART; part += PART, length -= PART) {
+        expect("the type of a part", int_at(part), SET_DATA);
+        put_int(&done, SET_DATA);
+        put_int(&done, SET);
+        put(&done, part + PART_HEADER, SET - 4);
+        put_int(&done, ++*version_of(part + PART_HEADER, PATH));
+    }
+    inform(to, request, 0, done.at, done.to);
+}
+
 /* Answers a request of the observer, or keeps the answer. */
 static void do_request(const unsigned char *request, size_t length) {
     static const unsigned char lasting[5] = {0, 255, 255, 255, 255};
@@ -230,6 +251,8 @@ static void do_request(const unsigned char *request, size_t length) {
     } else if (kind == SET_DATA) {
         version = htonl(++*version_of(body, length));
         inform(to, request, length - 4, &version, 4);
+    } else if (kind == MULTI) {
+        inform_multi(to, request, length);
     } else if (kind == SYNC_PATH) {
         put_int(to, SYNC);
         put_long(to, 0);
@@ -312,6 +335,27 @@ static void ask_set(struct connection *it, uint64_t value) {
     put_int(&it->stream.out, -1);
 }
 
+static void put_part_header(struct bytes *to, int kind, int is_last, int error) {
+    put_int(to, kind);
+    put(to, &(unsigned char){is_last}, 1);
+    put_int(to, error);
+}
+
+/* A multi that sets the node to this value and to those after it. */
+static void ask_multi(struct connection *it, uint64_t value) {
+    struct bytes *to = &it->stream.out;
+    put_int(to, 8 + parts * PART + PART_HEADER);
+    put_int(to, ++it->asked);
+    put_int(to, MULTI);
+    for (int k = 0; k < parts; k++) {
+        put_part_header(to, SET_DATA, 0, -1);
+        put(to, it->path, PATH);
+        put_value(to, value + k);
+        put_int(to, -1);
+    }
+    put_part_header(to, -1, 1, -1);
+}
+
 static void ask_get(struct connection *it) {
     ask_of_node(it, GET_DATA, 1);
     put(&it->stream.out, "", 1);
@@ -359,6 +403,26 @@ static void judge_set(struct connection *it, const unsigned char *frame, size_t 
     judge_stat(it, frame + HEADER);
 }
 
+static void judge_part_header(const unsigned char *at, int kind, int is_last, int error) {
+    expect("the type of a result", (int32_t)int_at(at), kind);
+    expect("whether a result is the last", at[4], is_last);
+    expect("the error of a result", (int32_t)int_at(at + 5), error);
+}
+
+static void judge_multi(struct connection *it, const unsigned char *frame, size_t length) {
+    judge_header(it, frame, length);
+    expect("the length of a multi's reply", length, HEADER + parts * (PART_HEADER + STAT) + PART_HEADER);
+    if (long_at(frame + 4) <= it->zxid) fail("a write's zxid that isn't above the last one");
+    it->zxid = long_at(frame + 4);
+    frame += HEADER;
+    for (int k = 0; k < parts; k++, frame += PART_HEADER + STAT) {
+        judge_part_header(frame, SET_DATA, 0, 0);
+        it->value++;
+        judge_stat(it, frame + PART_HEADER);
+    }
+    judge_part_header(frame, -1, 1, -1);
+}
+
 static void judge_get(struct connection *it, const unsigned char *frame, size_t length) {
     judge_header(it, frame, length);
     expect("the length of a getData's reply", length, HEADER + 4 + VALUE + STAT);
@@ -369,7 +433,8 @@ static void judge_get(struct connection *it, const unsigned char *frame, size_t 
 /* Setting and reading the node in turns; the read is answered in the state that the write made. */
 static void judge_pair(struct connection *it, const unsigned char *frame, size_t length) {
     if (it->answered % 2) {
-        judge_set(it, frame, length);
+        if (parts) judge_multi(it, frame, length);
+        else judge_set(it, frame, length);
         return;
     }
     judge_get(it, frame, length);
@@ -528,7 +593,7 @@ static size_t open_all(int port, size_t count) {
 /* Keeps requests under way for so many seconds. Returns how many writes were answered, in how many seconds, and the
  * seconds of a processor that this process took for them. */
 static void pipeline(int depth, double seconds, double figures[3]) {
-    if (!open_count || depth < 2 || depth > MOST_WAITING) fail("no such pipeline");
+    if (!open_count || depth < 2 || depth > MOST_WAITING || parts < 0 || parts > MOST_PARTS) fail("no such pipeline");
     struct connection *it = connections[0];
     it->judge = judge_pair;
     double warm = now() + WARM_UP, began = 0, took = 0, at;
@@ -541,8 +606,9 @@ static void pipeline(int depth, double seconds, double figures[3]) {
             first = it->answered;
         }
         while (it->asked - it->answered < depth) {
-            if (it->asked % 2) ask_set(it, it->asked / 2 + 1);
-            else ask_get(it);
+            if (it->asked % 2 == 0) ask_get(it);
+            else if (parts) ask_multi(it, (uint64_t)parts * (it->asked / 2) + 1);
+            else ask_set(it, it->asked / 2 + 1);
         }
         flush(&it->stream);
     }
@@ -621,7 +687,7 @@ static void command(char *it) {
     if (sscanf(it, "feed %s %lf", word, &number) == 2) printf("seconds=%.6f\n", feed(word, number));
     else if (sscanf(it, "open %d %lf", &first, &number) == 2) printf("open=%zu\n", count = open_all(first, number));
     else if (sscanf(it, "hold %d %s", &first, word) == 2) printf("seconds=%.6f\n", hold(first, word, count));
-    else if (sscanf(it, "pipeline %d %lf", &first, &number) == 2) {
+    else if (sscanf(it, "pipeline %d %lf %d", &first, &number, &parts) == 3) {
         pipeline(first, number, figures);
         printf("writes=%.0f seconds=%.6f used=%.6f\n", figures[0], figures[1], figures[2]);
     } else if (!strcmp(it, "answer")) printf("seconds=%.6f\n", answer(count));

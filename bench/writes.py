@@ -3,13 +3,14 @@
 
     bench/writes.py PROGRAM                 as bench/writes.py crates/replay_runner/out/replay_runner
     bench/writes.py PROGRAM --before OTHER  beside another program too, as one of an earlier version
-    bench/writes.py PROGRAM --only waiting  one of pipelined, waiting, before; `waiting` in no other way
+    bench/writes.py PROGRAM --only waiting  one of pipelined, multis, waiting, before; `waiting` in no other way
     bench/writes.py PROGRAM --install       gets Debian's C compiler first, where there is none (as root)
 
 The leader and the clients are bench/writes.c, one thread of one process; the leader does what comes at once. `cc`
 compiles it into a folder that is removed again. Measured are
 
 - pipelined: one client that sets a node and reads it, again and again, with 1,000 requests under way;
+- multis: the same client, which sets the node by multis of 10 setDatas; each result is looked at;
 - waiting: 1,000 connections with 1,000 requests each that wait for the leader: a setData or a sync, and getDatas that
   are held after it. Then the leader answers, connection by connection. The same is done with half the connections, and
   with half the requests on each, and the times that a request takes are compared. It is for programs whose engine
@@ -42,7 +43,8 @@ CONTENT, UNDER_WAY, CONNECTIONS, REQUESTS = 16, 1000, 1000, 1000
 LEAST_WRITES, MOST_APART, LEAST_OF_OTHER = 20_000, 1.3, 0.95
 # How many seconds a program may take to begin, to do a command beyond the time that this asks for, and to end.
 BEGINNING, DOING, ENDING = 60, 300, 20
-MEASURED = ("pipelined", "waiting", "before")
+PARTS = 10
+MEASURED = ("pipelined", "multis", "waiting", "before")
 
 
 def line_of(ran, seconds):
@@ -129,17 +131,19 @@ class Tools:
             return float(FIGURE.match(" ".join(line_of(ran, options.seconds + DOING))).group(1))
 
 
-def pipelined(tools, options, figures):
+def pipelined(tools, options, figures, parts=0):
+    """Writes that are setDatas, or multis of so many."""
+    write = f"multi of {parts} setDatas" if parts else "setData"
     with tools.observer(options.program) as observer:
         for _ in range(options.rounds):
             with observer.clients(1):
-                words = ("pipeline", UNDER_WAY, options.seconds)
+                words = ("pipeline", UNDER_WAY, options.seconds, parts)
                 found = observer.does(*words, seconds=options.seconds)
-            figures.add("writes a second", found["writes"] / found["seconds"])
-            figures.add("processors that leader and client took", found["used"] / found["seconds"])
-    print(f"one client with {UNDER_WAY:,} requests under way: a setData, a getData of the node, and so on")
-    figures.tell("processors that leader and client took", "{:.2f}")
-    figures.judge("writes a second", "{:,.0f}", least=LEAST_WRITES)
+            figures.add(f"each a {write}: writes a second", found["writes"] / found["seconds"])
+            figures.add(f"{write}: processors that leader and client took", found["used"] / found["seconds"])
+    print(f"one client with {UNDER_WAY:,} requests under way: a {write}, a getData of the node, and so on")
+    figures.tell(f"{write}: processors that leader and client took", "{:.2f}")
+    figures.judge(f"each a {write}: writes a second", "{:,.0f}", least=LEAST_WRITES)
 
 
 class Shape:
@@ -236,6 +240,8 @@ def measure(tools, options, figures):
     wanted = [options.only] if options.only else [it for it in MEASURED if it != "waiting"]
     if "pipelined" in wanted:
         pipelined(tools, options, figures)
+    if "multis" in wanted:
+        pipelined(tools, options, figures, PARTS)
     if "waiting" in wanted:
         for front in ("write", "sync"):
             waiting(tools, options, figures, front)

@@ -26,7 +26,6 @@ SECONDS = 60
 
 # What isn't done yet, and the rows that ask for it.
 NOT_YET = {
-    "a deleteContainer told from a delete": "own-delete-container",
     "addresses": "address",
     "reads of the super user": "super",
 }

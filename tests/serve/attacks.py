@@ -281,7 +281,7 @@ def test_requests_with_many_ids():
                 assert forwarded.replied(client)[::2] == (-4, 0)
             for _ in range(count):
                 ids = server.leader.asked().ids
-                assert len(ids) == 63 and sum(len(part) for one in ids for part in one) <= 1 << 16
+                assert len(ids) == 64 and sum(len(part) for one in ids for part in one) <= 1 << 16
             client.sendall(user(63, 1000))
             assert is_refused(client)
 

@@ -6,6 +6,8 @@ from leader import CREATE, CREATE2, SYNC, buffer, received
 
 GET_DATA = 4
 OPEN_ACL = struct.pack(">ii", 1, 31) + b"\0\0\0\5world" + b"\0\0\0\6anyone"
+# The id of a client of this machine, in dialect 3.8.
+ADDRESS = (b"ip", b"127.0.0.1")
 CONNECT = struct.pack(">iiqiqi", 44, 0, 0, 10000, 0, 16) + bytes(16)
 
 

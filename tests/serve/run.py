@@ -3,8 +3,8 @@
 
 It plays a small leader and many clients: some are reset, some are cut in the middle of a frame, some say nothing, some
 don't read, some send what is no frame, some go while their session or a write of theirs waits for the leader, some
-bring their sessions from elsewhere (claims.py), or with passwords of a secret (keyed.py), and many of these load it
-together with clients that pipeline; and leaders that fault, or end in the middle of an image. Then it attacks the
+bring their sessions from elsewhere (claims.py), or with passwords of a secret (keyed.py), some ask for the address that
+they come from (addresses.py), and many of these load it together with clients that pipeline; and leaders that fault, or end in the middle of an image. Then it attacks the
 server (attacks.py, attacks_on_memory.py). By --long some of this is tried more often, or whole. PROGRAM is
 crates/replay_runner/out/replay_runner where none is named. The last line is `N passed, M failed`.
 """
@@ -22,6 +22,7 @@ import time
 from concurrent.futures import ThreadPoolExecutor
 
 sys.dont_write_bytecode = True
+import addresses  # noqa: E402
 import attacks  # noqa: E402
 import attacks_on_memory  # noqa: E402
 import bounds  # noqa: E402
@@ -43,8 +44,8 @@ from server import (  # noqa: E402
 )
 
 MODULES = (
-    commands, configured, sys.modules[__name__], claims, keyed, logs, next_leaders, silence, checkpoints, bounds, attacks,
-    attacks_on_memory,
+    commands, configured, sys.modules[__name__], claims, keyed, addresses, logs, next_leaders, silence, checkpoints, bounds,
+    attacks, attacks_on_memory,
 )
 
 
@@ -368,7 +369,7 @@ def test_writes_are_forwarded_and_answered():
         session = forwarded.joined(client)
         client.sendall(forwarded.create(1, b"/b") + forwarded.get_data(2, b"/b"))
         asked = server.leader.asked()
-        assert asked[:3] == (session, 1, CREATE) and asked.ids == [], asked
+        assert asked[:3] == (session, 1, CREATE) and asked.ids == [forwarded.ADDRESS], asked
         # Nobody else is held up, and what is held isn't answered yet.
         assert server.is_serving()
         assert is_silent(client)
@@ -381,7 +382,8 @@ def test_writes_are_forwarded_and_answered():
         client.sendall(forwarded.create(3, b"/b") + shown + forwarded.sync(4, b"/"))
         assert forwarded.replied(client) == (-4, 0, 0, b"")
         write, sync = server.leader.asked(), server.leader.asked()
-        assert write.ids == [] and sync.ids == [(b"digest", b"super:xQJmxLMiHGwaqBvst5y6rkB6HQs=")], (write, sync)
+        shown = [forwarded.ADDRESS, (b"digest", b"super:xQJmxLMiHGwaqBvst5y6rkB6HQs=")]
+        assert write.ids == [forwarded.ADDRESS] and sync.ids == shown, (write, sync)
         server.leader.does(sync)
         zxid = server.leader.refuses(write, -110)
         assert forwarded.replied(client) == (3, zxid, -110, b"")

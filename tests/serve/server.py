@@ -82,6 +82,8 @@ class Program:
     PROGRAM = os.path.join(TOP, "crates", "replay_runner", "out", "replay_runner")
     # What its environment has besides.
     ENVIRONMENT = {}
+    # The host at which its clients find it.
+    HOST = "127.0.0.1"
 
     def start(self, words, errors, limit=None):
         words, environment = [self.PROGRAM, "serve", *words], {**os.environ, **self.ENVIRONMENT}
@@ -102,7 +104,7 @@ class Program:
 
     def connection(self):
         """Returns a connection that has said nothing yet."""
-        connection = socket.create_connection(("127.0.0.1", self.port), 10)
+        connection = socket.create_connection((self.HOST, self.port), 10)
         connection.setsockopt(socket.IPPROTO_TCP, socket.TCP_NODELAY, 1)
         return connection
 
@@ -163,6 +165,8 @@ class Server(Program):
     """A leader, and the program that follows it alone. Before it serves there is only the leader's connection."""
 
     LEADER = Leader
+    # Where it takes clients.
+    CLIENT = "0"
 
     def __init__(self, *words, serves=True, limit=None):
         self.leader_socket = socket.socket()
@@ -171,7 +175,7 @@ class Server(Program):
         self.leader_socket.settimeout(10)
         self.leader = None
         leader_port = str(self.leader_socket.getsockname()[1])
-        self.start(["--leader", leader_port, "--client", "0", *words], subprocess.PIPE, limit)
+        self.start(["--leader", leader_port, "--client", self.CLIENT, *words], subprocess.PIPE, limit)
         self.stream, _ = self.leader_socket.accept()
         self.stream.settimeout(10)
         self.takes_clients()

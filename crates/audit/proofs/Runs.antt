@@ -31,7 +31,7 @@ use Rattle.node_map.specs.Children.{without_child, without_missing_child}
 use Rattle.node_map.specs.declared.node.Node.{Node}
 use Rattle.data_tree.specs.State.{State, Nodes}
 use Rattle.txn_codec.specs.Row.{error_of}
-use Rattle.data_tree.specs.Meaning.{TxnEffect, after_changes, gained_pair, create_under, create_taken, create_new, lost_pair, delete_missing, delete_at, set_data_at, set_acl_at, of_operation, of_parts, delete_operations, state_without_session, effect_of_body, effect_of_txn, state_after}
+use Rattle.data_tree.specs.Meaning.{TxnEffect, after_changes, gained_pair, create_under, create_taken, create_new, lost_pair, delete_missing, delete_at, delete_of, set_data_at, set_acl_at, of_operation, of_parts, delete_operations, state_without_session, effect_of_body, effect_of_txn, state_after}
 use Rattle.data_tree.specs.Meaning.Change.{Own, Disown}
 use Rattle.data_tree.specs.declared.outcome.Trigger.{Trigger}
 use Rattle.audit.specs.declared.count.Count.{Count}
@@ -152,8 +152,8 @@ create_holds h e c s counts child clean holds =
 
 delete_counts : (h : TxnHeader) (path : Bytes) (s : State) (counts : Bytes → Count) → is_root path ≡ false
     → is_childless (finmap.get s.nodes path) ≡ true → Holds s counts
-    → Holds (of_operation (earlier h) (op.Delete path) s).state
-    (counts_after counts h.zxid (of_operation (earlier h) (op.Delete path) s).triggers)
+    → Holds (of_operation (earlier h) (delete_of path) s).state
+    (counts_after counts h.zxid (of_operation (earlier h) (delete_of path) s).triggers)
 delete_counts h path s counts other none holds =
     by (finmap.get s.nodes path) (finmap.get (finmap.remove s.nodes path) (parent_of path)) refl refl none
   where
@@ -170,11 +170,11 @@ delete_counts h path s counts other none holds =
 delete_holds : (h : TxnHeader) → h.rules ≡ Zk34 → (path : Bytes) (s : State) (counts : Bytes → Count)
     → is_root path ≡ false
     → is_childless (finmap.get s.nodes path) ≡ true → Holds s counts
-    → Holds (of_operation h (op.Delete path) s).state
-    (counts_after counts h.zxid (of_operation h (op.Delete path) s).triggers)
+    → Holds (of_operation h (delete_of path) s).state
+    (counts_after counts h.zxid (of_operation h (delete_of path) s).triggers)
 delete_holds h e path s counts other none holds =
-    subst (λ (g : TxnHeader). Holds (of_operation g (op.Delete path) s).state
-    (counts_after counts g.zxid (of_operation g (op.Delete path) s).triggers)) (is_earlier h e)
+    subst (λ (g : TxnHeader). Holds (of_operation g (delete_of path) s).state
+    (counts_after counts g.zxid (of_operation g (delete_of path) s).triggers)) (is_earlier h e)
     (delete_counts h path s counts other none holds)
 
 set_data_holds : (h : TxnHeader) (b : SetData) (s : State) (counts : Bytes → Count) (o : Option Node)
@@ -191,10 +191,10 @@ operation_holds : (h : TxnHeader) → h.rules ≡ Zk34 → (o : Operation) (s : 
     → is_clean_operation h o s ≡ true → Holds s counts
     → Holds (of_operation h o s).state (counts_after counts h.zxid (of_operation h o s).triggers)
 operation_holds h e (op.Create c) s counts has clean holds = create_holds h e c s counts has clean holds
-operation_holds h e (op.Delete path) s counts has clean holds =
-    let none = both (is_childless (finmap.get s.nodes path)) (int_eq (of_operation h (op.Delete path) s).err (pos 0))
-    clean in
-    delete_holds h e path s counts (child_no_root path has) none.0 holds
+operation_holds h e (op.Delete d) s counts has clean holds =
+    let none = both (is_childless (finmap.get s.nodes d.path))
+    (int_eq (of_operation h (delete_of d.path) s).err (pos 0)) clean in
+    delete_holds h e d.path s counts (child_no_root d.path has) none.0 holds
 operation_holds h e (op.SetData b) s counts has clean holds =
     set_data_holds h b s counts (finmap.get s.nodes b.path) refl clean holds
 operation_holds h e (op.Check b) s counts has clean holds = holds
@@ -221,7 +221,7 @@ parts_hold h e (o ∷ os) s counts has clean holds =
 -- A delete can only remove children.
 still_childless : (h : TxnHeader) (path : Bytes) (s : State) (r : Bytes)
     → is_childless (finmap.get s.nodes r) ≡ true
-    → is_childless (finmap.get (of_operation h (op.Delete path) s).state.nodes r) ≡ true
+    → is_childless (finmap.get (of_operation h (delete_of path) s).state.nodes r) ≡ true
 still_childless h path s r none =
     by (finmap.get s.nodes path) (finmap.get (finmap.remove s.nodes path) (parent_of path)) refl
   where
@@ -320,14 +320,14 @@ closing_holds h e (p ∷ ps) s counts no_root none holds =
     (list_all (λ (path : Bytes). is_childless (finmap.get s.nodes path)) ps) none in
     let apart = neither (eq_by_cmp path_cmp (codes "/") p) (list_any (eq_by_cmp path_cmp (codes "/")) ps) no_root in
     let one = delete_holds h e p s counts (inner apart.0 (is_root p) refl) split.0 holds in
-    let next : State = (of_operation h (op.Delete p) s).state in
-    let all = closing_holds h e ps next (counts_after counts h.zxid (of_operation h (op.Delete p) s).triggers) apart.1
+    let next : State = (of_operation h (delete_of p) s).state in
+    let all = closing_holds h e ps next (counts_after counts h.zxid (of_operation h (delete_of p) s).triggers) apart.1
     (list_all_map (λ (path : Bytes). is_childless (finmap.get s.nodes path))
-    (λ (path : Bytes). is_childless (finmap.get (of_operation h (op.Delete p) s).state.nodes path))
+    (λ (path : Bytes). is_childless (finmap.get (of_operation h (delete_of p) s).state.nodes path))
     (still_childless h p s) ps split.1) one in
-    subst (Holds (of_parts h (delete_operations ps) (of_operation h (op.Delete p) s).state).state)
-    (λ i (path : Bytes). sym (counted_all-append path (counts path) h.zxid (of_operation h (op.Delete p) s).triggers
-    (of_parts h (delete_operations ps) (of_operation h (op.Delete p) s).state).triggers) i)
+    subst (Holds (of_parts h (delete_operations ps) (of_operation h (delete_of p) s).state).state)
+    (λ i (path : Bytes). sym (counted_all-append path (counts path) h.zxid (of_operation h (delete_of p) s).triggers
+    (of_parts h (delete_operations ps) (of_operation h (delete_of p) s).state).triggers) i)
     all
   where
     neither : (a b : Bool) → (a || b) ≡ false → (a ≡ false) × (b ≡ false)

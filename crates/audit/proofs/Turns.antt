@@ -18,11 +18,10 @@ use Rattle.settings.specs.declared.dialect.Dialect.{Dialect}
 use Rattle.settings.specs.declared.dialect.Dialect.TheVariants.{Zk34, Zk38}
 use Rattle.paths_and_acls.specs.Paths.{is_root, is_child_path, parent_of, name_of}
 use Rattle.txn_codec.specs.declared.txn.TxnHeader.{TxnHeader}
-use Rattle.txn_codec.specs.declared.txn.Operation.TheVariants as op
 use Rattle.node_map.specs.Children.{without_child, without_missing_child}
 use Rattle.node_map.specs.declared.node.Node.{Node}
 use Rattle.data_tree.specs.State.{State, Nodes}
-use Rattle.data_tree.specs.Meaning.{after_changes, delete_missing, delete_at, of_operation, state_without_session}
+use Rattle.data_tree.specs.Meaning.{after_changes, delete_missing, delete_at, delete_of, of_operation, state_without_session}
 use Rattle.data_tree.specs.Meaning.Change.{Disown}
 use Rattle.audit.specs.Clean.{is_childless, are_childless}
 use Rattle.audit.specs.Laws.{are_childless_in_turn, DeletesGoInTurn}
@@ -117,7 +116,7 @@ members P (p ∷ ps) f = (
 
 unchanged : (h : TxnHeader) (p : Bytes) (s : State) (q : Bytes) → eq_by_cmp path_cmp q p ≡ false
     → eq_by_cmp path_cmp q (parent_of p) ≡ false
-    → finmap.get (of_operation h (op.Delete p) s).state.nodes q ≡ finmap.get s.nodes q
+    → finmap.get (of_operation h (delete_of p) s).state.nodes q ≡ finmap.get s.nodes q
 unchanged h p s q apart above = by (finmap.get s.nodes p) (finmap.get (finmap.remove s.nodes p) (parent_of p))
   where
     removed : finmap.get (finmap.remove s.nodes p) q ≡ finmap.get s.nodes q
@@ -166,7 +165,7 @@ same_childless m n (p ∷ ps) all = λ i. is_childless (all.0 i) && same_childle
 unmoved : (h : TxnHeader) (p : Bytes) (s : State) → is_child_path p ≡ true → (qs : List Bytes)
     → AllByRecursion (λ (q : Bytes). path_cmp p q ≡ Less) qs
     → AllByRecursion
-    (λ (q : Bytes). finmap.get s.nodes q ≡ finmap.get (of_operation h (op.Delete p) s).state.nodes q) qs
+    (λ (q : Bytes). finmap.get s.nodes q ≡ finmap.get (of_operation h (delete_of p) s).state.nodes q) qs
 unmoved h p s child [] all = tt
 unmoved h p s child (q ∷ qs) all = (
   sym (unchanged h p s q (other p q all.0)
@@ -180,8 +179,8 @@ in_turn : (h : TxnHeader) (ps : List Bytes) (s : State) → Ascends ps
 in_turn h [] s order children = refl
 in_turn h (p ∷ ps) s order children =
     ap (λ (b : Bool). is_childless (finmap.get s.nodes p) && b)
-    (same_childless s.nodes (of_operation h (op.Delete p) s).state.nodes ps (unmoved h p s children.0 ps order.0)
-    ∙ in_turn h ps (of_operation h (op.Delete p) s).state order.1 children.1)
+    (same_childless s.nodes (of_operation h (delete_of p) s).state.nodes ps (unmoved h p s children.0 ps order.0)
+    ∙ in_turn h ps (of_operation h (delete_of p) s).state order.1 children.1)
 
 pub deletes_go_in_turn : DeletesGoInTurn
 deletes_go_in_turn h s children =

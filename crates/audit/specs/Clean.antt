@@ -37,7 +37,7 @@ counts_up wanted (Some parent) =
 
 abbrev pub is_orderly : Operation → Nodes → Bool
 is_orderly (op.Create create) nodes = counts_up create.parent_cversion (finmap.get nodes (parent_of create.path))
-is_orderly (op.Delete path) nodes = is_childless (finmap.get nodes path)
+is_orderly (op.Delete body) nodes = is_childless (finmap.get nodes body.path)
 is_orderly (op.SetData body) nodes = true
 is_orderly (op.Check body) nodes = true
 is_orderly (op.Error error) nodes = true

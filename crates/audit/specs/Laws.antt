@@ -8,11 +8,10 @@ use Rattle.txn_codec.specs.Parents.{HaveParents}
 use Rattle.paths_and_acls.specs.Paths.{is_child_path}
 use Rattle.txn_codec.specs.declared.txn.TxnHeader.{TxnHeader}
 use Rattle.txn_codec.specs.declared.txn.Txn.{Txn}
-use Rattle.txn_codec.specs.declared.txn.Operation.TheVariants as op
 use Rattle.node_map.specs.Stats.{stat_of}
 use Rattle.node_map.specs.declared.node.Node.{Node}
 use Rattle.data_tree.specs.State.{State}
-use Rattle.data_tree.specs.Meaning.{of_operation, state_without_session, state_after, fresh_state}
+use Rattle.data_tree.specs.Meaning.{delete_of, of_operation, state_without_session, state_after, fresh_state}
 use Rattle.audit.specs.declared.count.Count.{Count}
 use Rattle.audit.specs.Clean.{is_childless, closes_clean, are_clean}
 use Rattle.audit.specs.Count.{count_from_log}
@@ -33,7 +32,7 @@ CountsAreShown =
 abbrev pub are_childless_in_turn : TxnHeader → List Bytes → State → Bool
 are_childless_in_turn header [] s = true
 are_childless_in_turn header (p ∷ ps) s =
-    is_childless (finmap.get s.nodes p) && are_childless_in_turn header ps (of_operation header (op.Delete p) s).state
+    is_childless (finmap.get s.nodes p) && are_childless_in_turn header ps (of_operation header (delete_of p) s).state
 
 -- No ephemeral node of a session has a child before the first delete, exactly if none has one when its turn comes.
 abbrev pub DeletesGoInTurn : Type 0

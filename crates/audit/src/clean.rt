@@ -38,7 +38,7 @@ pub(crate) fn is_orderly(operation: &Operation, tree: &Tree) -> bool
             create.parent_cversion,
             tree.node(create.path.parent()),
         ),
-        Operation::Delete(path) => is_childless(tree.node(path.as_str())),
+        Operation::Delete(delete) => is_childless(tree.node(delete.path.as_str())),
         Operation::SetData(_) | Operation::Check(_) | Operation::Error(_) => true,
     }
 }

@@ -5,7 +5,7 @@ use paths_and_acls::Path;
 use settings::Dialect;
 use std::alloc::Global;
 use std::test::Fail;
-use txn_codec::{Body, Create, Operation, Owner, Txn, TxnHeader};
+use txn_codec::{Body, Create, Delete, Operation, Owner, Txn, TxnHeader};
 use values::Listed;
 
 // Session 9's transaction number `zxid`.
@@ -38,7 +38,10 @@ fn create(alloc: Global, path: &str, ephemeral: bool, wanted: i32) -> Result<Ope
 }
 
 fn delete(alloc: Global, path: &str) -> Result<Operation, Fail> {
-    Ok(Operation::Delete(Path::new(alloc, path)?))
+    Ok(Operation::Delete(Delete {
+        path: Path::new(alloc, path)?,
+        of_container: false,
+    }))
 }
 
 fn single(zxid: i64, operation: Operation) -> Txn {

@@ -56,6 +56,7 @@ fn set_data(alloc: Global, path: Path, content: &[u8]) -> Result<Operation> {
         path,
         bytes: Some(bytes),
         version: 1,
+        is_reconfig: false,
     }))
 }
 

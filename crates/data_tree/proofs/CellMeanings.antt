@@ -68,7 +68,7 @@ apart_before x effect stat rest = refl
 -- Stats are of nodes.
 apart_stat : (x : SessionTimeouts) (o : Operation) (s : State) → stat_after o (with_sessions x s) ≡ stat_after o s
 apart_stat x (op.Create c) s = refl
-apart_stat x (op.Delete path) s = refl
+apart_stat x (op.Delete d) s = refl
 apart_stat x (op.SetData d) s = refl
 apart_stat x (op.Check c) s = refl
 apart_stat x (op.Error error) s = refl

@@ -12,7 +12,7 @@ use Rattle.node_map.specs.Updates.{owner_of}
 use Rattle.node_map.specs.declared.node.Node.{Node}
 use Rattle.data_tree.specs.State.{State, Nodes}
 use Rattle.txn_codec.specs.Row.{has_error, footprint_of_operation, footprint_of_parts, session_change}
-use Rattle.data_tree.specs.Meaning.{Effect, effect_of, create_under, create_taken, create_new, Change, mended_list, delete_missing, delete_at, set_data_at, set_acl_at, TxnEffect, answer_of, of_effect, of_operation, of_set_acl, of_parts, stat_after, of_failed, first_error, effect_of_txn, effect_of_body, after_changes, of_create_session, of_close_session, delete_operations, ended_paths, state_without_session}
+use Rattle.data_tree.specs.Meaning.{Effect, effect_of, create_under, create_taken, create_new, Change, mended_list, delete_missing, delete_at, delete_of, set_data_at, set_acl_at, TxnEffect, answer_of, of_effect, of_operation, of_set_acl, of_parts, stat_after, of_failed, first_error, effect_of_txn, effect_of_body, after_changes, of_create_session, of_close_session, delete_operations, ended_paths, state_without_session}
 use Rattle.data_tree.specs.Meaning.Change.{Put, Own, Disown}
 use Rattle.data_tree.specs.Footprint.{has_path, IsSameCell, AreSameAt, AreApart, footprint, KeepsToCells}
 use Rattle.data_tree.specs.Commuting.{IsConfined, IsConfinedTo, TransactionsKeepToTheirFootprints, TransactionsSetTheirTimeouts, DisjointTransactionsCommute, with_timeout_of, with_timeouts}
@@ -70,21 +70,21 @@ within_create h c (Some parent) =
     ]
 
 within_missing : (rules : Dialect) (h : TxnHeader) (p : Bytes) (parent : Option Node)
-    → AreWithin (footprint_of_operation (op.Delete p)) (delete_missing rules h p parent).changes
+    → AreWithin (footprint_of_operation (delete_of p)) (delete_missing rules h p parent).changes
 within_missing Zk34 h p parent = tt
 within_missing Zk38 h p None = tt
 within_missing Zk38 h p (Some parent) = (touches_second (parent_of p) p [], tt)
 
 within_delete : (h : TxnHeader) (p : Bytes) (node parent : Option Node)
-    → AreWithin (footprint_of_operation (op.Delete p)) (delete_at h p node parent).changes
+    → AreWithin (footprint_of_operation (delete_of p)) (delete_at h p node parent).changes
 within_delete h p None parent = within_missing h.rules h p parent
 within_delete h p (Some node) None = (touches_first p (parent_of p ∷ []), tt)
 within_delete h p (Some node) (Some parent) =
-    let here : has_path (footprint_of_operation (op.Delete p)) p ≡ true = touches_first p (parent_of p ∷ []) in (
+    let here : has_path (footprint_of_operation (delete_of p)) p ≡ true = touches_first p (parent_of p ∷ []) in (
       here,
       (
         touches_second (parent_of p) p [],
-        within_lost (footprint_of_operation (op.Delete p)) node.stat.ephemeral_owner p
+        within_lost (footprint_of_operation (delete_of p)) node.stat.ephemeral_owner p
             (int_eq node.stat.ephemeral_owner (pos 0)) here,
       ),
     )
@@ -98,8 +98,8 @@ within_set_data h b (Some node) = (touches_first b.path [], tt)
 effect-within : (h : TxnHeader) (o : Operation) (nodes : Nodes)
     → AreWithin (footprint_of_operation o) (effect_of h o nodes).changes
 effect-within h (op.Create c) nodes = within_create h c (finmap.get nodes (parent_of c.path))
-effect-within h (op.Delete p) nodes =
-    within_delete h p (finmap.get nodes p) (finmap.get (finmap.remove nodes p) (parent_of p))
+effect-within h (op.Delete d) nodes =
+    within_delete h d.path (finmap.get nodes d.path) (finmap.get (finmap.remove nodes d.path) (parent_of d.path))
 effect-within h (op.SetData b) nodes = within_set_data h b (finmap.get nodes b.path)
 effect-within h (op.Check p) nodes = tt
 effect-within h (op.Error e) nodes = tt
@@ -109,7 +109,8 @@ effect-local : (h : TxnHeader) (o : Operation) (s t : State) → AreSameAt (foot
     → effect_of h o s.nodes ≡ effect_of h o t.nodes
 effect-local h (op.Create c) s t same =
     ap (create_under h c) (same (parent_of c.path) (touches_second (parent_of c.path) c.path [])).node
-effect-local h (op.Delete p) s t same =
+effect-local h (op.Delete d) s t same =
+    let p : Bytes = d.path in
     let parent : finmap.get (finmap.remove s.nodes p) (parent_of p)
     ≡ finmap.get (finmap.remove t.nodes p) (parent_of p) =
     finmap.get-remove path_total s.nodes p (parent_of p)
@@ -225,7 +226,7 @@ stat-local : (o : Operation) (s t : State) → AreSameAt (footprint_of_operation
 stat-local (op.Create c) s t same =
     ap (λ (node : Option Node). if c.asks_stat then option_map stat_of node else None)
     (same c.path (touches_first c.path (parent_of c.path ∷ []))).node
-stat-local (op.Delete p) s t same = refl
+stat-local (op.Delete d) s t same = refl
 stat-local (op.SetData b) s t same = ap (option_map stat_of) (same b.path (touches_first b.path [])).node
 stat-local (op.Check p) s t same = refl
 stat-local (op.Error e) s t same = refl

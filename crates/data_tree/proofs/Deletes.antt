@@ -12,12 +12,11 @@ use Rattle.settings.specs.declared.dialect.Dialect.TheVariants.{Zk34, Zk38}
 use Rattle.paths_and_acls.specs.Paths.{parent_of, name_of}
 use Rattle.jute.specs.declared.codes.TheConstants.{NO_NODE}
 use Rattle.txn_codec.specs.declared.txn.TxnHeader.{TxnHeader}
-use Rattle.txn_codec.specs.declared.txn.Operation.TheVariants as op
 use Rattle.node_map.specs.Updates.{update_node, update_found}
 use Rattle.node_map.specs.Children.{without_child, without_missing_child}
 use Rattle.node_map.specs.declared.node.Node.{Node}
 use Rattle.data_tree.specs.State.{State, Nodes}
-use Rattle.data_tree.specs.Meaning.{Effect, after_changes, delete_missing, delete_at, of_operation}
+use Rattle.data_tree.specs.Meaning.{Effect, after_changes, delete_missing, delete_at, delete_of, of_operation}
 use Rattle.data_tree.specs.Inner.Doing.{IsEffectDone}
 use Rattle.data_tree.specs.Inner.Mending.{with_missing}
 use Rattle.data_tree.specs.declared.outcome.Trigger.{Trigger}
@@ -72,7 +71,7 @@ missing-effect s h path none =
 
 pub missing-done : (s : State) (h : TxnHeader) (path : Bytes) (n : Nodes) (before after : List Trigger)
     → None ≡ finmap.get s.nodes path → n ≡ finmap.remove s.nodes path → after ≡ before
-    → IsEffectDone (of_operation h (op.Delete path) s) NO_NODE
+    → IsEffectDone (of_operation h (delete_of path) s) NO_NODE
     (with_missing h.rules h path
     (let t : State = record { nodes = n; pairs = s.pairs; sessions = s.sessions } in t)) before after
 missing-done s h path n before after none is same = record {

@@ -84,7 +84,7 @@ after_all s (c ∷ cs) fine each = after_all (after_change s c) cs fine.1 (after
 -- A created path has a parent.
 abbrev Makes : Operation → Type 0
 Makes (op.Create c) = is_child_path c.path ≡ true
-Makes (op.Delete path) = Unit {0}
+Makes (op.Delete d) = Unit {0}
 Makes (op.SetData b) = Unit {0}
 Makes (op.Check b) = Unit {0}
 Makes (op.Error e) = Unit {0}
@@ -182,9 +182,9 @@ effect_fine : (h : TxnHeader) (o : Operation) (nodes : Nodes) → Makes o → Ea
     → AreFine (effect_of h o nodes).changes
 effect_fine h (op.Create c) nodes makes each =
     create_fine h c nodes makes each (finmap.get nodes (parent_of c.path)) refl
-effect_fine h (op.Delete path) nodes makes each =
-    delete_fine h path (finmap.remove nodes path) (each_without nodes path each) (finmap.get nodes path)
-    (finmap.get (finmap.remove nodes path) (parent_of path)) refl
+effect_fine h (op.Delete d) nodes makes each =
+    delete_fine h d.path (finmap.remove nodes d.path) (each_without nodes d.path each) (finmap.get nodes d.path)
+    (finmap.get (finmap.remove nodes d.path) (parent_of d.path)) refl
 effect_fine h (op.SetData b) nodes makes each = set_data_fine h b nodes each (finmap.get nodes b.path) refl
 effect_fine h (op.Check b) nodes makes each = tt
 effect_fine h (op.Error e) nodes makes each = tt
@@ -204,7 +204,7 @@ delete_makes (p ∷ ps) = (tt, delete_makes ps)
 
 makes_of : (o : Operation) → HasParent o → Makes o
 makes_of (op.Create c) has = has
-makes_of (op.Delete path) has = tt
+makes_of (op.Delete d) has = tt
 makes_of (op.SetData b) has = tt
 makes_of (op.Check b) has = tt
 makes_of (op.Error e) has = tt

@@ -6,11 +6,10 @@ use Rattle.std.specs.Ordering.{int_eq}
 use Rattle.ephemerals.specs.Orders.{Bytes, Names, sorted_names}
 use Rattle.txn_codec.specs.declared.txn.TxnHeader.{TxnHeader}
 use Rattle.txn_codec.specs.declared.txn.Operation.{Operation}
-use Rattle.txn_codec.specs.declared.txn.Operation.TheVariants as op
 use Rattle.data_tree.specs.State.{State}
 use Rattle.jute.specs.declared.codes.TheConstants.{RUNTIME_INCONSISTENCY}
 use Rattle.txn_codec.specs.Row.{error_of}
-use Rattle.data_tree.specs.Meaning.{of_parts, of_operation, delete_operations, first_error, without_stat, stat_after, results_of_failed, result_in_failed, answer_of}
+use Rattle.data_tree.specs.Meaning.{of_parts, of_operation, delete_of, delete_operations, first_error, without_stat, stat_after, results_of_failed, result_in_failed, answer_of}
 use Rattle.data_tree.specs.Refused.{IsAfterFront}
 use Rattle.data_tree.specs.declared.outcome.Trigger.{Trigger}
 use Rattle.data_tree.specs.declared.outcome.Outcome.{Outcome}
@@ -120,8 +119,8 @@ midway_done h ps i old now results triggers past m =
 pub closing_step : (h : TxnHeader) (paths left left' : Names) (path : Bytes) (old now new : State)
     (before triggers triggers' : List Trigger)
     → sorted_names left ≡ path ∷ sorted_names left' → IsClosing h paths left old now before triggers
-    → new ≡ (of_operation h (op.Delete path) now).state
-    → triggers' ≡ triggers ++ (of_operation h (op.Delete path) now).triggers
+    → new ≡ (of_operation h (delete_of path) now).state
+    → triggers' ≡ triggers ++ (of_operation h (delete_of path) now).triggers
     → IsClosing h paths left' old new before triggers'
 closing_step h paths left left' path old now new before triggers triggers' first m n ts = record {
   state = ap (λ s. (of_parts h (delete_operations (sorted_names left')) s).state) n
@@ -129,8 +128,8 @@ closing_step h paths left left' path old now new before triggers triggers' first
       ∙ m.state;
   triggers_are =
       (λ j. ts j ++ (of_parts h (delete_operations (sorted_names left')) (n j)).triggers)
-      ∙ append_assoc triggers (of_operation h (op.Delete path) now).triggers
-      (of_parts h (delete_operations (sorted_names left')) (of_operation h (op.Delete path) now).state).triggers
+      ∙ append_assoc triggers (of_operation h (delete_of path) now).triggers
+      (of_parts h (delete_operations (sorted_names left')) (of_operation h (delete_of path) now).state).triggers
       ∙ ap (λ ps. triggers ++ (of_parts h (delete_operations ps) now).triggers) (sym first)
       ∙ m.triggers_are;
 }

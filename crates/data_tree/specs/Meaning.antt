@@ -157,8 +157,9 @@ set_data_at header body (Some node) =
 -- An operation reads only the nodes at its path and at the parent.
 abbrev pub effect_of : TxnHeader → Operation → Nodes → Effect
 effect_of header (op.Create body) nodes = create_under header body (finmap.get nodes (parent_of body.path))
-effect_of header (op.Delete path) nodes =
-    delete_at header path (finmap.get nodes path) (finmap.get (finmap.remove nodes path) (parent_of path))
+effect_of header (op.Delete body) nodes =
+    delete_at header body.path (finmap.get nodes body.path)
+    (finmap.get (finmap.remove nodes body.path) (parent_of body.path))
 effect_of header (op.SetData body) nodes = set_data_at header body (finmap.get nodes body.path)
 effect_of header (op.Check body) nodes = no_change (pos 0)
 effect_of header (op.Error error) nodes = no_change error
@@ -218,7 +219,7 @@ of_failed parts s =
 -- node whose create asks for it.
 abbrev pub stat_after : Operation → State → Option Stat
 stat_after (op.Create c) s = if c.asks_stat then option_map stat_of (finmap.get s.nodes c.path) else None
-stat_after (op.Delete path) s = None
+stat_after (op.Delete d) s = None
 stat_after (op.SetData d) s = option_map stat_of (finmap.get s.nodes d.path)
 stat_after (op.Check c) s = None
 stat_after (op.Error error) s = None
@@ -250,8 +251,12 @@ of_create_session header timeout s =
       triggers = [];
     }
 
+-- A delete of this node.
+abbrev pub delete_of : Bytes → Operation
+delete_of path = op.Delete (record { path = path; of_container = false })
+
 abbrev pub delete_operations : List Bytes → List Operation
-delete_operations paths = map op.Delete paths
+delete_operations paths = map delete_of paths
 
 -- The state without the session and its pairs.
 abbrev pub state_without_session : ℤ → State → State

@@ -13,7 +13,7 @@ ghost use Rattle.data_tree.specs.Inner.Placing.{with_new_node_placed};
 ghost use Rattle.data_tree.specs.Inner.Mending.{with_mended, with_missing};
 ghost use Rattle.data_tree.specs.Whole.{IsWhole};
 ghost use Rattle.txn_codec.specs.Row.{has_error};
-ghost use Rattle.data_tree.specs.Meaning.{of_operation, of_set_acl, of_create_session, of_close_session, of_parts, stat_after, of_multi, with_names, delete_operations, effect_of_txn, answer_of, fresh_state};
+ghost use Rattle.data_tree.specs.Meaning.{of_operation, of_set_acl, of_create_session, of_close_session, of_parts, stat_after, of_multi, with_names, delete_of, delete_operations, effect_of_txn, answer_of, fresh_state};
 ghost use Rattle.data_tree.specs.Cells.{cells_at, without_cells, with_cells};
 ghost use Rattle.data_tree.specs.Refused.{IsAfterFront};
 ghost use Rattle.data_tree.specs.Refused.{IsPartlyDone, IsLeftByRefused};
@@ -267,7 +267,7 @@ impl Tree {
         path: &str,
         triggers: &mut Vec<Trigger>,
     ) -> Result<i32, NoMemory>
-        ensures { DoesEffect (of_operation header.now (Operation.Delete path.now) self.old) result
+        ensures { DoesEffect (of_operation header.now (delete_of path.now) self.old) result
             self.old self.new triggers.old.items triggers.new.items }
     {
         let before = triggers.len();
@@ -338,7 +338,7 @@ impl Tree {
     {
         match operation {
             Operation::Create(create) => self.create(alloc, header, create, triggers),
-            Operation::Delete(path) => self.delete(alloc, header, path.as_str(), triggers),
+            Operation::Delete(body) => self.delete(alloc, header, body.path.as_str(), triggers),
             Operation::SetData(body) => self.set_data(alloc, header, body, triggers),
             Operation::Check(_) => Ok(0),
             Operation::Error(error) => Ok(*error),

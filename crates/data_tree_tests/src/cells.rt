@@ -41,6 +41,7 @@ fn set_data(alloc: Global, path: &str) -> Result<Txn, Fail> {
         path: path_of(alloc, path).ok_or("a path")?,
         bytes: Some(Blob::new(alloc, b"bc")?),
         version: 1,
+        is_reconfig: false,
     };
     Ok(txn_of(7, Body::Single(Operation::SetData(set_data))))
 }

@@ -9,7 +9,7 @@ use paths_and_acls::AclList;
 use settings::Dialect;
 use std::alloc::Global;
 use std::test::Fail;
-use txn_codec::{Body, Create, Operation, Owner, Txn, TxnHeader};
+use txn_codec::{Body, Create, Delete, Operation, Owner, Txn, TxnHeader};
 use values::Listed;
 
 // A node with the cversion 6 and the pzxid 8, and without entries in its list.
@@ -72,7 +72,10 @@ fn create_of(alloc: Global, path: &str, parent_cversion: i32) -> Result<Body, Fa
 
 fn delete_of(alloc: Global, path: &str) -> Result<Body, Fail> {
     let path = path_of(alloc, path).ok_or("a path")?;
-    Ok(Body::Single(Operation::Delete(path)))
+    Ok(Body::Single(Operation::Delete(Delete {
+        path,
+        of_container: false,
+    })))
 }
 
 // The end of the session, which lists this path.

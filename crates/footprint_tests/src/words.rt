@@ -3,7 +3,7 @@
 use paths_and_acls::Path;
 use settings::Dialect;
 use std::alloc::Global;
-use txn_codec::{Body, Check, Create, Operation, Owner, SetData, Txn, TxnHeader};
+use txn_codec::{Body, Check, Create, Delete, Operation, Owner, SetData, Txn, TxnHeader};
 use values::ReadError;
 
 /// The operation of a sign: "+" a create, "-" a delete, "=" new data, "?" a check, and any other an error.
@@ -18,11 +18,15 @@ pub fn operation_of(alloc: Global, sign: char, path: &str) -> Result<Operation, 
             asks_stat: false,
             parent_cversion: -1,
         }),
-        '-' => Operation::Delete(path),
+        '-' => Operation::Delete(Delete {
+            path,
+            of_container: false,
+        }),
         '=' => Operation::SetData(SetData {
             path,
             bytes: None,
             version: 1,
+            is_reconfig: false,
         }),
         '?' => Operation::Check(Check { path, version: 1 }),
         _ => Operation::Error(-101),

@@ -22,7 +22,7 @@ pending_limit = 1024
 
 -- ---- writes
 
--- The type of the request.
+-- The type of the request, and of its transaction.
 abbrev pub write_number : WriteKind → ℤ
 write_number Create = pos 1
 write_number Delete = pos 2
@@ -36,19 +36,13 @@ write_number DeleteContainer = pos 20
 write_number CreateTtl = pos 21
 write_number CloseSession = negsuc 10
 
--- The type of its transaction, as it is kept: that of a container's end is a delete, and that of a reconfig sets data.
-abbrev pub kept_number : WriteKind → ℤ
-kept_number DeleteContainer = write_number Delete
-kept_number Reconfig = write_number SetData
-kept_number kind = write_number kind
-
 -- The type of a transaction that stands for one that failed.
 abbrev pub error_txn : ℤ
 error_txn = negsuc 0
 
 -- A transaction of this xid and type answers the write.
 abbrev pub is_answered_by : PendingWrite → ℤ → ℤ → Bool
-is_answered_by w xid txn_kind = int_eq w.xid xid && (int_eq txn_kind (kept_number w.kind) || int_eq txn_kind error_txn)
+is_answered_by w xid txn_kind = int_eq w.xid xid && (int_eq txn_kind (write_number w.kind) || int_eq txn_kind error_txn)
 
 abbrev pub is_write : PendingRequest → Bool
 is_write (Write w) = true

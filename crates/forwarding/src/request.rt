@@ -1,7 +1,7 @@
 //! The requests of clients that the leader's stream hasn't answered yet.
 
 ghost use Rattle.std.specs.Prelude.{◌≡◌, [], None};
-ghost use Rattle.forwarding.specs.Queue.{is_same_kind, is_write, write_number, kept_number, is_answered_by, is_unsettled, settled_request};
+ghost use Rattle.forwarding.specs.Queue.{is_same_kind, is_write, write_number, is_answered_by, is_unsettled, settled_request};
 ghost use Rattle.forwarding.specs.Inner.{as_write, is_close_request};
 
 use std::alloc::Global;
@@ -30,7 +30,7 @@ pub enum WriteKind {
 }
 
 impl WriteKind {
-    /// The type of the request.
+    /// The type of the request, and of its transaction.
     pub fn number(self) -> i32
         ensures { result ≡ write_number self }
     {
@@ -46,17 +46,6 @@ impl WriteKind {
             WriteKind::DeleteContainer => 20,
             WriteKind::CreateTtl => 21,
             WriteKind::CloseSession => -11,
-        }
-    }
-
-    // The type of its transaction, as it is kept.
-    pub(crate) fn kept_number(self) -> i32
-        ensures { result ≡ kept_number self }
-    {
-        match self {
-            WriteKind::DeleteContainer => WriteKind::Delete.number(),
-            WriteKind::Reconfig => WriteKind::SetData.number(),
-            _ => self.number(),
         }
     }
 }
@@ -123,7 +112,7 @@ impl PendingWrite {
     pub(crate) fn is_answered_by(&self, xid: i32, txn_kind: i32) -> bool
         ensures { result ≡ is_answered_by self.now xid txn_kind }
     {
-        self.xid == xid && (txn_kind == self.kind.kept_number() || txn_kind == ERROR_TXN)
+        self.xid == xid && (txn_kind == self.kind.number() || txn_kind == ERROR_TXN)
     }
 }
 

@@ -134,6 +134,28 @@ fn a_session_can_be_claimed_again(rt: HostRuntime) -> Result<(), Fail> {
     Ok(())
 }
 
+// A deleteContainer is forwarded, and a reconfig by another connection.
+fn asked_alike(alloc: Global) -> Result<Pending, NoMemory> {
+    let mut pending = Pending::new(alloc);
+    let requests = [
+        (1, Asked::Write(4, WriteKind::DeleteContainer)),
+        (2, Asked::Write(5, WriteKind::Reconfig)),
+    ];
+    ask(alloc, &mut pending, &requests)?;
+    Ok(pending)
+}
+
+#[test]
+fn a_write_is_answered_by_its_own_type(rt: HostRuntime) -> Result<(), Fail> {
+    let mut pending = asked_alike(rt.alloc())?;
+    assert_eq!(rt; answer(&mut pending, 1, 4, 2), 0);
+    assert_eq!(rt; answer(&mut pending, 2, 5, 5), 0);
+    assert_eq!(rt; answer(&mut pending, 1, 4, 20), 20);
+    assert_eq!(rt; answer(&mut pending, 2, 5, 16), 16);
+    assert!(rt; pending.is_empty());
+    Ok(())
+}
+
 #[test]
 fn each_kind_has_its_number(rt: HostRuntime) -> Result<(), Fail> {
     for (kind, number) in [

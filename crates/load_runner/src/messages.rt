@@ -100,6 +100,7 @@ pub fn set_data(alloc: Global, path: Path, content: &[u8]) -> Result<Body>
         path,
         bytes: Some(bytes),
         version: 1,
+        is_reconfig: false,
     })))
 }
 

@@ -135,7 +135,7 @@ abbrev set_header : TxnHeader
 set_header = record { client_id = pos 7; cxid = pos 2; zxid = pos 4294967298; time = pos 2000; rules = Zk34 }
 
 abbrev set_body : SetData
-set_body = record { path = codes "/a"; bytes = None; version = pos 1 }
+set_body = record { path = codes "/a"; bytes = None; version = pos 1; is_reconfig = false }
 
 abbrev set_txn : Txn
 set_txn = record { header = set_header; body = bodies.Single (operations.SetData set_body) }

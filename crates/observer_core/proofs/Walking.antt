@@ -22,7 +22,7 @@ use Rattle.client_frames.specs.declared.connecting.Connecting.{Connecting}
 use Rattle.client_frames.specs.Connect.{connecting_in, session_request_of, answer_to_connect}
 use Rattle.sessions.specs.State.{SessionTable as Sessions, ConnectedClient as Joined}
 use Rattle.sessions.specs.Credentials.{session_id_of, digest_id}
-use Rattle.sessions.specs.Sessions.{session_in, session_of_connection, connection_of, ids_of, greatest_counter, claimed_session, is_valid, ConnectResult, session_response, refusal_response, refused_connect, give_session, name_session, connect_session, AuthResult, add_id, digest_text, auth_by, add_auth}
+use Rattle.sessions.specs.Sessions.{session_in, session_of_connection, connection_of, ids_of, greatest_counter, claimed_session, is_valid, ConnectResult, session_response, refusal_response, refused_connect, give_session, name_session, connect_session, AuthResult, add_id, super_id, is_super_digest, add_digest, digest_text, auth_by, add_auth}
 use Rattle.sessions.specs.declared.request.SessionResponse.{SessionResponse}
 use Rattle.forwarding.specs.declared.request.ConnectKind.TheVariants.{New, Claimed}
 use Rattle.forwarding.specs.declared.request.PendingConnect.{PendingConnect}
@@ -57,7 +57,7 @@ use Rattle.client_service.specs.LaterReads.{answer_sasl, unreadable_error, answe
 use Rattle.client_service.specs.Serve.{with_watch, with_watch_if, with_each_watch, answer_set_watches, answer_add_watch, has_sought_watch, look_of_sought, answer_check_watches, answer_remove_watches, answer_auth, touched_as, touch_client, send_auth_result, send_connect_response, ask_for_session, close_others, ask_about_session, claim_session, claim_or_refuse, is_claim, is_new_session, finish_connect, may_connect, is_live, connect_client, call_of, handle_connect, handle_local, forward_frame, with_leaving, handle_call, serve_as, serve_by, header_len, is_refused_frame, serve_frame, figures_of, word_at, is_unheard, with_waiting_bytes, wait_if_heard, wait_at, frames_of_client, tell_or_serve, take_client_bytes}
 use Rattle.world.proofs.NatMaps.{get-inserted, get-kept}
 use Rattle.observer_core.proofs.Passing.{closed_none}
-pub use Rattle.observer_core.proofs.Idle.{first_false, first_true, none_is, no_session, idle_queue, idle_connect, heard_there}
+pub use Rattle.observer_core.proofs.Idle.{first_false, first_true, none_is, no_session, idle_queue, idle_connect, idle_if_closed, heard_there}
 
 abbrev pub IsOpen : ℕ → World → Type 0
 IsOpen n w = is_open n w.clients ≡ true
@@ -208,17 +208,6 @@ pub none_if_closed : (n : ℕ) (w : World) (o : Option ℕ) → HasNone n w → 
 none_if_closed n w None none = none
 none_if_closed n w (Some k) none = closed_none w.clients.sessions k n none
 
-pub idle_if_closed : (n : ℕ) (w : World) (o : Option ℕ) → is_idle w.clients.pending n ≡ true
-    → is_idle (close_client_if_some w o).after.clients.pending n ≡ true
-idle_if_closed n w None idle = idle
-idle_if_closed n w (Some k) idle =
-    ap (λ (o : Option RequestQueue). not (is_some o)) (finmap.get-remove nat_cmp_total w.clients.pending.queues k n)
-    ∙ by (eq_by_cmp nat_cmp n k)
-  where
-    by : (b : Bool) → not (is_some (cond b None (finmap.get w.clients.pending.queues n))) ≡ true
-    by true = refl
-    by false = idle
-
 pub open_if_closed : (n : ℕ) (w : World) (o : Option ℕ) → ((k : ℕ) → o ≡ Some k → k ≢ n) → IsOpen n w
     → IsOpen n (close_client_if_some w o).after
 open_if_closed n w None other here = here
@@ -341,10 +330,26 @@ module _ (n : ℕ) (Strict : Type 0) (A : World → Type 0) (Q : Steps) (ground 
       → Makes A Q w (no_output (with_sessions w (add_id w.clients.sessions n id).after))
   id_makes w id here a = record { keeps = ground.shows w id here a; is = r.shows w id a }
 
+  abbrev MakesShown : World → AuthResult → Type 0
+  MakesShown w shown = Makes A Q w (no_output (with_sessions w shown.after))
+
+  -- The id of the super user comes first, where the digest is that user's.
+  digest_makes : (w : World) (digest : Id) → (Strict → IsOpen n w) → A w
+      → MakesShown w (add_digest w.clients.sessions n digest)
+  digest_makes w digest here a =
+      let first = add_id w.clients.sessions n super_id in
+      let v = with_sessions w first.after in
+      cond_both (is_super_digest w.clients.sessions.terms.super_digest digest.id) _ _ (MakesShown w)
+      (λ _. cond_both first.is_accepted _ _ (MakesShown w)
+      (λ _. then_makes w (no_output v) (λ u. no_output (with_sessions u (add_id u.clients.sessions n digest).after))
+      (id_makes w super_id here a) (id_makes v digest here))
+      (λ _. id_makes w super_id here a))
+      (λ _. id_makes w digest here a)
+
   auth_makes : (w : World) (text : Option (List ℕ)) → (Strict → IsOpen n w) → A w
-      → Makes A Q w (no_output (with_sessions w (auth_by w.clients.sessions n text).after))
+      → MakesShown w (auth_by w.clients.sessions n text)
   auth_makes w None here a = stay_makes w a
-  auth_makes w (Some text) here a = id_makes w (digest_id text) here a
+  auth_makes w (Some text) here a = digest_makes w (digest_id text) here a
 
   shown_makes : (w : World) (xid : ℤ) (packet : AuthPacket) → (Strict → IsOpen n w) → A w
       → Makes A Q w (send_auth_result n w xid (add_auth w.clients.sessions n packet.scheme packet.auth))

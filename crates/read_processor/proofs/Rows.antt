@@ -60,18 +60,11 @@ worked = record {
 
 pub worked_later : WorkedLater
 worked_later = record {
-  masked = refl;
-  without_hash = refl;
-  another_scheme = refl;
-  user = refl;
-  address = refl;
   below = refl;
   alike = refl;
   itself = refl;
   below_root = refl;
   root_itself = refl;
-  read_before = refl;
-  not_read = refl;
 }
 
 pub worked_watches : WorkedWatches

@@ -13,9 +13,9 @@ use Rattle.paths_and_acls.specs.Paths.{is_root}
 use Rattle.node_map.specs.Stats.{java_int}
 use Rattle.node_map.specs.declared.node.Node.{Node}
 use Rattle.data_tree.specs.State.{State}
-use Rattle.read_processor.specs.Digests.{client_info_of}
+use Rattle.permissions.specs.Digests.{client_info_of}
 use Rattle.read_processor.specs.Look.{is_request_path, without_body, shown_look}
-use Rattle.read_processor.specs.Permissions.{may_read}
+use Rattle.permissions.specs.Permissions.{may_read}
 use Rattle.read_processor.specs.declared.shown.Look.{Look}
 use Rattle.settings.specs.declared.dialect.Dialect.TheVariants.{Zk38}
 

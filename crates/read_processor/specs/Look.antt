@@ -11,8 +11,8 @@ use Rattle.node_map.specs.Stats.{stat_of}
 use Rattle.node_map.specs.declared.node.Node.{Node}
 use Rattle.data_tree.specs.State.{State}
 use Rattle.read_processor.specs.Kinds.{read_row, guards_acl, acl_body, reply_body}
-use Rattle.read_processor.specs.Permissions.{may_read, may_see_acl, may_administrate}
-use Rattle.read_processor.specs.Digests.{masked_acl}
+use Rattle.permissions.specs.Permissions.{may_read, may_see_acl, may_administrate}
+use Rattle.permissions.specs.Digests.{masked_acl}
 use Rattle.read_processor.specs.Limits.{fitting_body}
 use Rattle.read_processor.specs.declared.shown.Look.{Look}
 use Rattle.read_processor.specs.declared.request.Request.{Request}

@@ -5,7 +5,6 @@ use Rattle.std.specs.FinSet as set
 use Rattle.values.specs.Hex.{hex_bytes}
 use Rattle.settings.specs.declared.dialect.Dialect.{Dialect}
 use Rattle.settings.specs.declared.dialect.Dialect.TheVariants.{Zk34, Zk38}
-use Rattle.jute.specs.declared.owned.Acl.{Acl}
 use Rattle.jute.specs.declared.owned.Id.{Id}
 use Rattle.jute.specs.declared.codes.TheConstants.{BAD_ARGUMENTS, NO_NODE, NO_AUTH}
 use Rattle.client_records.specs.declared.kind.ReadKind.{ReadKind}
@@ -20,9 +19,7 @@ use Rattle.watch_manager.specs.declared.event.EventKind.TheVariants.{NodeDataCha
 use Rattle.read_processor.specs.declared.request.Request.{Request}
 use Rattle.read_processor.specs.declared.watch.Watch.TheVariants.{Data, Child, Lasting, LastingAlone}
 use Rattle.read_processor.specs.Look.{look_at_state, without_body, shown_look}
-use Rattle.read_processor.specs.Digests.{masked_acl, client_info_of}
 use Rattle.read_processor.specs.LaterReads.{is_below}
-use Rattle.read_processor.specs.Permissions.{may_read}
 use Rattle.read_processor.specs.Watch.{watch_of, watch_to_add, watch_sought}
 use Rattle.read_processor.specs.Renewal.{renew_watches, renew_all_watches}
 
@@ -88,32 +85,12 @@ pub record WorkedLooks : Type 0 where
 
 -- ---- later clients
 
--- An id of the scheme digest without a hash.
-abbrev pub bare_id : Id
-bare_id = record { scheme = codes "digest"; id = codes "ann" }
-
--- An id of another scheme.
-abbrev pub address_id : Id
-address_id = record { scheme = codes "ip"; id = codes "::1" }
-
-abbrev pub reading_entry : Id → Acl
-reading_entry id = record { perms = pos 1; id = id }
-
 pub record WorkedLater : Type 0 where
-  pub masked : masked_acl (reading_entry reader_id)
-      ≡ reading_entry (record { scheme = codes "digest"; id = codes "ann:x" })
-  pub without_hash : masked_acl (reading_entry bare_id) ≡ reading_entry bare_id
-  pub another_scheme : masked_acl (reading_entry address_id) ≡ reading_entry address_id
-  pub user : client_info_of reader_id ≡ record { auth_scheme = codes "digest"; user = codes "ann" }
-  pub address : client_info_of address_id ≡ record { auth_scheme = codes "ip"; user = codes "::1" }
   pub below : is_below (codes "/a") (codes "/a/b/c") ≡ true
   pub alike : is_below (codes "/a") (codes "/ab") ≡ false
   pub itself : is_below (codes "/a") (codes "/a") ≡ false
   pub below_root : is_below (codes "/") (codes "/a") ≡ true
   pub root_itself : is_below (codes "/") (codes "/") ≡ false
-  -- An empty list lets the clients of ZooKeeper 3.4 read, and no later one.
-  pub read_before : may_read Zk34 [] [] ≡ true
-  pub not_read : may_read Zk38 [] [] ≡ false
 
 -- ---- watches
 

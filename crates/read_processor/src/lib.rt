@@ -2,8 +2,8 @@
 //!
 //! `look` gives the answer to a read: an error code, or 0 and the body of a reply. The body is made once, with room
 //! before it, and `Look::into_frame` fills the length and the header in there, so the only copy is the one out of the
-//! tree. specs/Look defines the answers, specs/Permissions who may read a node, and specs/Reply the frame. What the
-//! kinds of reads differ in is in one place: a row and a body for each (`kinds`, specs/Kinds).
+//! tree. specs/Look defines the answers, `permissions` who may read a node, and specs/Reply the frame. What the kinds of
+//! reads differ in is in one place: a row and a body for each (`kinds`, specs/Kinds).
 //!
 //! `look_each` answers several reads of one tree; an `Ask` is a read with the ids of its client (specs/Asking).
 //!
@@ -14,7 +14,7 @@
 //!
 //! What later clients alone ask for has functions of its own (specs/LaterReads): the ephemeral nodes of a session, the
 //! number of nodes below another, and the ids that the client has shown. Later clients need a permission for a getACL,
-//! and who may not administrate the node sees no hash of a digest id in its list (specs/Digests).
+//! and who may not administrate the node sees no hash of a digest id in its list.
 //!
 //! ```text
 //! let request = Request { kind: ReadKind::GetData, path, watch, rules };
@@ -39,12 +39,10 @@
 mod asking;
 mod body;
 mod counts;
-mod digests;
 mod kinds;
 mod later_reads;
 mod law;
 mod multi_reads;
-mod permissions;
 mod reads;
 mod renewal;
 mod request;
@@ -57,7 +55,6 @@ pub use kinds::{ReadRow, WatchTable, may_watch, read_row};
 pub use later_reads::{look_at_ephemerals, look_at_ids, look_below, look_of_sasl};
 pub use law::worked_looks;
 pub use multi_reads::look_at_parts;
-pub use permissions::ADMIN;
 pub use reads::{is_readable_path, look};
 pub use renewal::{Renewal, renew, renew_all};
 pub use request::Request;

@@ -5,12 +5,12 @@ ghost use Rattle.std.specs.Option.{option_copied};
 ghost use Rattle.read_processor.specs.Look.{look_at_state, look_at_acl, look_at_node, is_request_path};
 
 use crate::kinds::{guards_acl, read_row};
-use crate::permissions::{may_read, may_see_acl};
 use crate::request::Request;
 use crate::shown::Look;
 use data_tree::{Node, Tree};
 use jute::Id;
 use jute::codes::{BAD_ARGUMENTS, NO_AUTH, NO_NODE};
+use permissions::{may_read, may_see_acl};
 use std::alloc::Global;
 use values::NoMemory;
 

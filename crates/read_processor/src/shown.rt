@@ -7,13 +7,12 @@ ghost use Rattle.read_processor.specs.Kinds.{acl_body};
 ghost use Rattle.read_processor.specs.Reply.{reply_frame};
 
 use crate::body::{BODY_LIMIT, Body};
-use crate::digests::masked_acls;
 use crate::kinds::{acl_body, body_of};
-use crate::permissions::may_administrate;
 use client_records::codes::{OK, SYNC_CONNECTED};
 use client_records::{Create2Response, PathResponse, ReadKind, WatcherEvent};
 use data_tree::Node;
 use jute::{Id, ReplyHeader};
+use permissions::{masked_acls, may_administrate};
 use std::alloc::Global;
 use values::{Blob, NoMemory, Str};
 use watch_manager::Event;

@@ -2,7 +2,7 @@
 use Rattle.std.proofs.Common.{◌≡◌, ℕ, ◌-◌, ◌^◌, ◌≤◌, List, [], ◌∷◌, Some, map, length, get_or, take, drop, sym, ap, ◌∙◌, arith}
 use Rattle.std.proofs.lemmas.List.{take_all}
 use Rattle.values.specs.Maybe.{◌>>=◌}
-use Rattle.replay_script.specs.Number.{number_up_to}
+use Rattle.texts.specs.Number.{number_up_to}
 use Rattle.replay.specs.Command.{with_option, with_options}
 use Rattle.replay.specs.declared.command.GivenLimits.{GivenLimits}
 

@@ -4,7 +4,7 @@ use Rattle.std.specs.Option.{unwrap_or, option_map}
 use Rattle.std.specs.Str.{bytes_eq}
 use Rattle.values.specs.Maybe.{◌>>=◌}
 use Rattle.batcher.specs.Limits.{LimitNumbers, limit_numbers, are_limits}
-use Rattle.replay_script.specs.Number.{number_up_to}
+use Rattle.texts.specs.Number.{number_up_to}
 use Rattle.replay.specs.declared.command.Source.{Source}
 use Rattle.replay.specs.declared.command.Source.TheVariants.{Input, File}
 use Rattle.replay.specs.declared.command.Command.{Command}

@@ -5,7 +5,7 @@ ghost use Rattle.replay.specs.Command.{source_of, with_option, limits_of, limits
 
 use batcher::Limits;
 use observer_core::default_limits;
-use replay_script::number_up_to;
+use texts::number_up_to;
 use values::Str;
 
 /// The source of a script.

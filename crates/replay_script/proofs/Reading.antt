@@ -6,10 +6,10 @@ use Rattle.std.specs.List.{before_first, position_or_len}
 use Rattle.std.proofs.lemmas.List.Splits.{slice_split_first, slice_split_none}
 use Rattle.std.proofs.lemmas.List.Sums.{fails_before_first}
 use Rattle.std.proofs.lemmas.Grind.{common_steps}
-use Rattle.replay_script.specs.Cut.{cut_at}
+use Rattle.texts.specs.Cut.{cut_at}
 use Rattle.replay_script.specs.Script.{PartialScript, lines_of, with_text, or_bad, script_after}
 use Rattle.replay_script.specs.declared.script.Script.{Script}
-use Rattle.replay_script.specs.declared.cut.Cut.{Cut}
+use Rattle.texts.specs.declared.cut.Cut.{Cut}
 use Rattle.replay_script.specs.declared.parser.ScriptError.{ScriptError}
 use Rattle.replay_script.specs.declared.parser.ScriptError.TheVariants.{BadLine}
 

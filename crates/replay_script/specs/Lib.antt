@@ -1,5 +1,4 @@
-pub mod Cut
+pub mod Ints
 pub mod Line
-pub mod Number
 pub mod Rows
 pub mod Script

@@ -8,9 +8,10 @@ use Rattle.std.specs.Str.{bytes_eq, is_utf8}
 use Rattle.byteorder.specs.Endian.{big_number}
 use Rattle.settings.specs.Settings as settings
 use Rattle.settings.specs.declared.dialect.Dialect.TheVariants.{Zk34, Zk38}
-use Rattle.replay_script.specs.Cut.{cut_at}
+use Rattle.texts.specs.Cut.{cut_at}
 use Rattle.values.specs.Maybe.{◌>>=◌}
-use Rattle.replay_script.specs.Number.{number_up_to, int_of, ints_of}
+use Rattle.texts.specs.Number.{number_up_to}
+use Rattle.replay_script.specs.Ints.{int_of, ints_of}
 use Rattle.values.specs.Hex.{bytes_of_hex}
 use Rattle.replay_script.specs.declared.event.ScriptEvent.{ScriptEvent}
 use Rattle.replay_script.specs.declared.event.ScriptEvent.TheVariants.{LeaderUp, LeaderBytes, LeaderEnd, ClientUp, ClientBytes, ClientEnd, Expire, Checkpoint}
@@ -62,13 +63,13 @@ abbrev pub address_limit : ℕ
 address_limit = 64
 
 -- An address is a text of printable ASCII without a blank.
-abbrev pub is_address : List ℕ → Bool
-is_address text = nat_lt 0 (length text) && nat_le (length text) address_limit && list_all is_ascii_graphic text
+abbrev pub is_address_text : List ℕ → Bool
+is_address_text text = nat_lt 0 (length text) && nat_le (length text) address_limit && list_all is_ascii_graphic text
 
 -- A client's connection opens, and its address is told or not.
 abbrev pub client_up : ℕ → Option (List ℕ) → Option ScriptEvent
 client_up client None = Some (ClientUp client None)
-client_up client (Some text) = if is_address text then Some (ClientUp client (Some text)) else None
+client_up client (Some text) = if is_address_text text then Some (ClientUp client (Some text)) else None
 
 -- The texts `up`, `up ADDRESS`, `HEX` and `end`.
 abbrev pub coming_of_client : ℕ → List ℕ → Option ScriptEvent

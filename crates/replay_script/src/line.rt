@@ -2,15 +2,15 @@
 
 ghost use Rattle.std.specs.Prelude.{◌≡◌, true, IfOk};
 ghost use Rattle.std.specs.Str.{is_utf8};
-ghost use Rattle.replay_script.specs.Line.{keyword_of, coming_of, leader_event, client_event, is_address, client_up, coming_of_client, client_of, expire_of, server_setting, counter_setting, epochs_setting, timeouts_setting, secret_setting, dialect_setting, super_setting, line_of_keyword, line_with_text, line_of_words, line_of};
+ghost use Rattle.replay_script.specs.Line.{keyword_of, coming_of, leader_event, client_event, is_address_text, client_up, coming_of_client, client_of, expire_of, server_setting, counter_setting, epochs_setting, timeouts_setting, secret_setting, dialect_setting, super_setting, line_of_keyword, line_with_text, line_of_words, line_of};
 
-use crate::cut::cut_at;
 use crate::event::{Coming, Keyword, Line, ScriptEvent, Setting};
 use crate::hex::read_hex;
-use crate::number::{int_of, ints_of, number_up_to};
+use crate::ints::{int_of, ints_of};
 use byteorder::{BigEndian, ByteOrder};
 use settings::{Dialect, Epochs, FirstCounter, Secret, ServerId, TimeoutBounds};
 use std::alloc::Global;
+use texts::{cut_at, number_up_to};
 use values::{Bytes, NoMemory, Text};
 
 // The longest address of a client, in bytes.
@@ -80,15 +80,15 @@ fn client_event(client: u64, coming: Coming) -> ScriptEvent
     }
 }
 
-fn is_address(text: &[u8]) -> bool
-    ensures { result ≡ is_address text.now }
+fn is_address_text(text: &[u8]) -> bool
+    ensures { result ≡ is_address_text text.now }
 {
     !text.is_empty() && text.len() <= ADDRESS_LIMIT && text.iter().all(|b| b.is_ascii_graphic())
 }
 
 // The text of these bytes, which are an address.
 fn address_text(alloc: Global, bytes: &[u8]) -> Result<Text, NoMemory>
-    requires { is_address bytes.now ≡ true }
+    requires { is_address_text bytes.now ≡ true }
     ensures { IfOk result (λ text. text ≡ bytes.now) }
 {
     match str::from_utf8(bytes) {
@@ -107,7 +107,7 @@ fn client_up(
     let Some(address) = address else {
         return Ok(Some(ScriptEvent::ClientUp(client, None)));
     };
-    if !is_address(address.as_slice()) {
+    if !is_address_text(address.as_slice()) {
         return Ok(None);
     }
     let text = address_text(alloc, address.as_slice())?;

@@ -4,10 +4,10 @@ ghost use Rattle.std.specs.Prelude.{◌≡◌, ℕ, Ok, Err, IfOk};
 ghost use Rattle.replay_script.specs.Script.{script_of};
 ghost use Rattle.replay_script.specs.declared.parser.ScriptError.TheVariants as errors;
 
-use crate::cut::cut_at;
 use crate::draft::Draft;
 use crate::script::Script;
 use std::alloc::Global;
+use texts::cut_at;
 use thiserror::Error;
 use values::{Bytes, NoMemory};
 

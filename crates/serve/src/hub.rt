@@ -12,7 +12,7 @@ use intake::{Budget, Desk, Port, Unlimited, Waker as HubWaker};
 use log::Log;
 use mio::net::TcpStream;
 use rtrb::Consumer;
-use serve_bounds::{Accepted, Door, Pause, Stopwatch, TurnBudget};
+use serve_bounds::{Accepted, Door, Pause, Stopwatch, TurnBudget, address_text};
 use serve_failures::Failure;
 use serve_journal::Journal;
 use std::alloc::Global;

@@ -17,12 +17,14 @@
 #![tactic(auto)]
 
 mod accept;
+mod address;
 mod budget;
 mod places;
 mod stopwatch;
 mod watching;
 
 pub use accept::{Accepted, Accepting, Acceptor, Door, Places, accept_all, open_door};
+pub use address::address_text;
 pub use budget::{Pause, TurnBudget};
 pub use stopwatch::Stopwatch;
 pub use watching::are_too_many;

@@ -7,7 +7,7 @@ use Rattle.log.specs.declared.level.LevelFilter.TheVariants.{Off, Error, Warn, I
 use Rattle.settings.specs.declared.dialect.Dialect.{Dialect}
 use Rattle.settings.specs.declared.dialect.Dialect.TheVariants.{Zk34, Zk38}
 use Rattle.values.specs.Maybe.{◌>>=◌}
-use Rattle.replay_script.specs.Number.{number_up_to}
+use Rattle.texts.specs.Number.{number_up_to}
 use Rattle.serve_options.specs.declared.row.Bounds.{Bounds}
 use Rattle.serve_options.specs.declared.value.LogFormat.{LogFormat}
 use Rattle.serve_options.specs.declared.value.LogFormat.TheVariants.{Text, Json}

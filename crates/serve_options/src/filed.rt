@@ -3,8 +3,8 @@
 use crate::given::Given;
 use crate::row::Name;
 use crate::words::is_word;
-use replay_script::number_up_to;
 use std::alloc::{AllocError, Global};
+use texts::number_up_to;
 use zoo_config::{
     BadLine, ConfigError, Entry, Reason, Server, server_in, setting_in, value_in, voters_beside,
 };

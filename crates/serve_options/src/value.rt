@@ -7,10 +7,10 @@ ghost use Rattle.serve_options.specs.Values.{number_within, port_number_of, Spel
 
 use crate::row::Bounds;
 use log::LevelFilter;
-use replay_script::number_up_to;
 use settings::Dialect;
 use std::alloc::{AllocError, Global};
 use std::fmt;
+use texts::number_up_to;
 
 /// A host and a port.
 #[derive(Clone, Copy, Debug, PartialEq, Eq)]

@@ -13,18 +13,18 @@ use Rattle.txn_codec.specs.declared.kind.TxnKind.TheVariants as kinds
 use Rattle.txn_codec.specs.declared.place.Place.TheVariants.{Alone}
 use Rattle.txn_codec.specs.declared.txn.Owner.{Owner}
 use Rattle.txn_codec.specs.declared.txn.Create.{Create}
+use Rattle.txn_codec.specs.declared.txn.Delete.{Delete}
+use Rattle.txn_codec.specs.declared.txn.SetData.{SetData}
 use Rattle.txn_codec.specs.declared.txn.Operation.{Operation}
 use Rattle.txn_codec.specs.declared.txn.Operation.TheVariants as operations
 use Rattle.txn_codec.specs.declared.txn.Body.{Body}
 use Rattle.txn_codec.specs.declared.txn.Body.TheVariants as bodies
-use Rattle.txn_codec.specs.Kinds.{create_kind, operation_kind, body_kind}
-use Rattle.paths_and_acls.specs.Paths.{is_child_path}
+use Rattle.txn_codec.specs.Kinds.{create_kind, delete_kind, set_data_kind, operation_kind, body_kind}
 use Rattle.txn_codec.specs.Endings.{with_trailer_if, closing_if}
-use Rattle.paths_and_acls.specs.Fields.{child_path}
-use Rattle.txn_codec.specs.Spelling.{last_field, kind_format_in, part_kind_in, owner_if, owner_format, shows_stat, create_with, set_data, set_acl_in, check_format, header_in, as_create, as_delete, as_set_data, as_check, as_error, created_operation, operation_format, is_lenient, part_content, part_format_in, parts_format_in, as_single, as_set_acl, as_multi, as_session, as_close, has_own_end, body_fields, body_content, body_in, txn_in}
+use Rattle.txn_codec.specs.Spelling.{last_field, kind_format_in, part_kind_in, owner_if, owner_format, shows_stat, create_with, delete_with, set_data_with, set_acl_in, check_format, header_in, as_create, as_delete, as_set_data, as_check, as_error, created_operation, deleted_operation, set_operation, operation_format, is_lenient, part_content, part_format_in, parts_format_in, as_single, as_set_acl, as_multi, as_session, as_close, has_own_end, body_fields, body_content, body_in, txn_in}
 use Rattle.txn_codec.proofs.Closing.{closing_if_sound}
 use Rattle.txn_codec.proofs.Endings.{trailer_if_sound, in_buffer_sound, before_trailer, buffered}
-use Rattle.txn_codec.proofs.Spelled.{path_sound, last_sound, kind_sound, part_kind_sound, create_sound, create_at_end, set_data_sound, set_acl_sound, check_sound, header_sound}
+use Rattle.txn_codec.proofs.Spelled.{last_sound, kind_sound, part_kind_sound, create_sound, create_at_end, delete_sound, set_data_sound, set_acl_sound, check_sound, header_sound}
 
 -- ---- operations
 
@@ -32,13 +32,23 @@ created_sound : (surrogates : Bool) (k : TxnKind) → IsSound (created_operation
 created_sound surrogates k =
     case_sound operations.Create as_create (create_with surrogates int k) (λ c. refl) (create_sound surrogates k)
 
+deleted_sound : (of_container : Bool) → IsSound (deleted_operation of_container)
+deleted_sound of_container =
+    case_sound operations.Delete as_delete (delete_with of_container) (λ d. refl) (delete_sound of_container)
+
+set_sound : (is_reconfig : Bool) → IsSound (set_operation is_reconfig)
+set_sound is_reconfig =
+    case_sound operations.SetData as_set_data (set_data_with is_reconfig) (λ s. refl) (set_data_sound is_reconfig)
+
 pub operation_sound : (surrogates : Bool) (k : TxnKind) → IsSound (operation_format surrogates int k)
 operation_sound surrogates kinds.Create = created_sound surrogates kinds.Create
 operation_sound surrogates kinds.Create2 = created_sound surrogates kinds.Create2
 operation_sound surrogates kinds.CreateContainer = created_sound surrogates kinds.CreateContainer
 operation_sound surrogates kinds.CreateTtl = created_sound surrogates kinds.CreateTtl
-operation_sound surrogates kinds.Delete = case_sound operations.Delete as_delete child_path (λ p. refl) (path_sound is_child_path)
-operation_sound surrogates kinds.SetData = case_sound operations.SetData as_set_data set_data (λ s. refl) set_data_sound
+operation_sound surrogates kinds.Delete = deleted_sound false
+operation_sound surrogates kinds.DeleteContainer = deleted_sound true
+operation_sound surrogates kinds.SetData = set_sound false
+operation_sound surrogates kinds.Reconfig = set_sound true
 operation_sound surrogates kinds.Check = case_sound operations.Check as_check check_format (λ c. refl) check_sound
 operation_sound surrogates kinds.Error = case_sound operations.Error as_error int (λ e. refl) int_sound
 operation_sound surrogates kinds.SetAcl = refusal_sound BadTxnType
@@ -69,6 +79,8 @@ owner_tells last kinds.SetData v text s = absurd s
 owner_tells last kinds.SetAcl v text s = absurd s
 owner_tells last kinds.Check v text s = absurd s
 owner_tells last kinds.Multi v text s = absurd s
+owner_tells last kinds.Reconfig v text s = absurd s
+owner_tells last kinds.DeleteContainer v text s = absurd s
 owner_tells last kinds.CreateSession v text s = absurd s
 owner_tells last kinds.CloseSession v text s = absurd s
 owner_tells last kinds.Error v text s = absurd s
@@ -81,6 +93,18 @@ created_tells surrogates last k o text s =
     ∙ ap (λ (c : Create). create_kind c.owner c.asks_stat) (sym (ok_is _ s.0 s.2.1))
     ∙ owner_tells last k s.2.0.1.1.1 s.2.2.4.4.1 s.2.2.4.4.4
 
+deleted_tells : (of_container : Bool) (o : Operation) (text : List ℕ) → (deleted_operation of_container).Spells o text
+    → operation_kind o ≡ delete_kind of_container
+deleted_tells of_container o text s =
+    ap operation_kind (sym (ok_is (operations.Delete s.0) o s.1))
+    ∙ ap (λ (d : Delete). delete_kind d.of_container) (sym (ok_is _ s.0 s.2.1))
+
+set_tells : (is_reconfig : Bool) (o : Operation) (text : List ℕ) → (set_operation is_reconfig).Spells o text
+    → operation_kind o ≡ set_data_kind is_reconfig
+set_tells is_reconfig o text s =
+    ap operation_kind (sym (ok_is (operations.SetData s.0) o s.1))
+    ∙ ap (λ (d : SetData). set_data_kind d.is_reconfig) (sym (ok_is _ s.0 s.2.1))
+
 -- An operation that is spelled after a type is of that type.
 operation_tells : (surrogates : Bool) (last : Format ℤ) (k : TxnKind) (o : Operation) (text : List ℕ)
     → (operation_format surrogates last k).Spells o text
@@ -89,8 +113,10 @@ operation_tells surrogates last kinds.Create o text s = created_tells surrogates
 operation_tells surrogates last kinds.Create2 o text s = created_tells surrogates last kinds.Create2 o text s
 operation_tells surrogates last kinds.CreateContainer o text s = created_tells surrogates last kinds.CreateContainer o text s
 operation_tells surrogates last kinds.CreateTtl o text s = created_tells surrogates last kinds.CreateTtl o text s
-operation_tells surrogates last kinds.Delete o text s = ap operation_kind (sym (ok_is (operations.Delete s.0) o s.1))
-operation_tells surrogates last kinds.SetData o text s = ap operation_kind (sym (ok_is (operations.SetData s.0) o s.1))
+operation_tells surrogates last kinds.Delete o text s = deleted_tells false o text s
+operation_tells surrogates last kinds.DeleteContainer o text s = deleted_tells true o text s
+operation_tells surrogates last kinds.SetData o text s = set_tells false o text s
+operation_tells surrogates last kinds.Reconfig o text s = set_tells true o text s
 operation_tells surrogates last kinds.Check o text s = ap operation_kind (sym (ok_is (operations.Check s.0) o s.1))
 operation_tells surrogates last kinds.Error o text s = ap operation_kind (sym (ok_is (operations.Error s.0) o s.1))
 operation_tells surrogates last kinds.SetAcl o text s = absurd s
@@ -148,6 +174,14 @@ module _ (reads : Reads) where
       trailed reads.trailer (body_fields reads kinds.Delete)
       (case_sound bodies.Single as_single (operation_format reads.surrogates (last_field reads Alone) kinds.Delete) (λ o. refl)
       (operation_sound reads.surrogates kinds.Delete))
+  content_at_end kinds.DeleteContainer =
+      trailed reads.trailer (body_fields reads kinds.DeleteContainer)
+      (case_sound bodies.Single as_single (operation_format reads.surrogates (last_field reads Alone) kinds.DeleteContainer) (λ o. refl)
+      (operation_sound reads.surrogates kinds.DeleteContainer))
+  content_at_end kinds.Reconfig =
+      trailed reads.trailer (body_fields reads kinds.Reconfig)
+      (case_sound bodies.Single as_single (operation_format reads.surrogates (last_field reads Alone) kinds.Reconfig) (λ o. refl)
+      (operation_sound reads.surrogates kinds.Reconfig))
   content_at_end kinds.SetData =
       trailed reads.trailer (body_fields reads kinds.SetData)
       (case_sound bodies.Single as_single (operation_format reads.surrogates (last_field reads Alone) kinds.SetData) (λ o. refl)
@@ -184,6 +218,9 @@ module _ (reads : Reads) where
   fields_tell kinds.CreateContainer b text s =
       single_tells kinds.CreateContainer s.0 b text (ok_is (bodies.Single s.0) b s.1) s.2
   fields_tell kinds.CreateTtl b text s = single_tells kinds.CreateTtl s.0 b text (ok_is (bodies.Single s.0) b s.1) s.2
+  fields_tell kinds.DeleteContainer b text s =
+      single_tells kinds.DeleteContainer s.0 b text (ok_is (bodies.Single s.0) b s.1) s.2
+  fields_tell kinds.Reconfig b text s = single_tells kinds.Reconfig s.0 b text (ok_is (bodies.Single s.0) b s.1) s.2
   fields_tell kinds.Delete b text s = single_tells kinds.Delete s.0 b text (ok_is (bodies.Single s.0) b s.1) s.2
   fields_tell kinds.SetData b text s = single_tells kinds.SetData s.0 b text (ok_is (bodies.Single s.0) b s.1) s.2
   fields_tell kinds.Check b text s = single_tells kinds.Check s.0 b text (ok_is (bodies.Single s.0) b s.1) s.2

@@ -1,5 +1,5 @@
 -- A decoded transaction is within the limits, and each node that it creates or deletes has a parent.
-use Rattle.std.proofs.Common.{◌≡◌, ℕ, Bool, ◌&&◌, List, [], ◌∷◌, Option, Some, None, Result, Ok, Err, subst}
+use Rattle.std.proofs.Common.{◌≡◌, ℕ, Bool, true, false, ◌&&◌, List, [], ◌∷◌, Option, Some, None, Result, Ok, Err, subst}
 use Rattle.std.specs.Prelude.{ℤ, IfOk, IsTrue, not}
 use Rattle.std.specs.List.{AllByRecursion}
 use Rattle.std.proofs.lemmas.List.Elements.{All-from_recursion}
@@ -13,6 +13,7 @@ use Rattle.txn_codec.specs.declared.kind.TxnKind.{TxnKind}
 use Rattle.txn_codec.specs.declared.kind.TxnKind.TheVariants as kinds
 use Rattle.txn_codec.specs.declared.place.Place.TheVariants.{Alone}
 use Rattle.txn_codec.specs.declared.txn.Create.{Create}
+use Rattle.txn_codec.specs.declared.txn.Delete.{Delete}
 use Rattle.txn_codec.specs.declared.txn.Operation.{Operation}
 use Rattle.txn_codec.specs.declared.txn.Operation.TheVariants as operations
 use Rattle.txn_codec.specs.declared.txn.Body.{Body}
@@ -22,7 +23,7 @@ use Rattle.txn_codec.specs.Kinds.{operation_kind, body_kind}
 use Rattle.txn_codec.specs.Parents.{HasParent, HaveParents}
 use Rattle.paths_and_acls.specs.Paths.{is_child_path}
 use Rattle.paths_and_acls.specs.Fields.{child_path}
-use Rattle.txn_codec.specs.Spelling.{last_field, created_operation, operation_format, is_lenient, part_format_in, has_own_end, body_fields, body_in, txn_in}
+use Rattle.txn_codec.specs.Spelling.{last_field, created_operation, deleted_operation, operation_format, is_lenient, part_format_in, has_own_end, body_fields, body_in, txn_in}
 use Rattle.txn_codec.proofs.Bodies.{txn_at_end}
 use Rattle.txn_codec.proofs.Closing.{closing_children}
 use Rattle.txn_codec.proofs.Endings.{before_trailer, buffered}
@@ -38,15 +39,22 @@ created_parent surrogates last k o text s =
     (subst (λ (c : Create). IsTrue (is_child_path c.path)) (ok_is _ s.0 s.2.1)
     (child_spelled s.2.0.0 s.2.2.0 s.2.2.3))
 
+deleted_parent : (of_container : Bool) (o : Operation) (text : List ℕ)
+    → (deleted_operation of_container).Spells o text → HasParent o
+deleted_parent of_container o text s =
+    subst HasParent (ok_is (operations.Delete s.0) o s.1)
+    (subst (λ (d : Delete). IsTrue (is_child_path d.path)) (ok_is _ s.0 s.2.1) (child_spelled s.2.0 text s.2.2))
+
 operation_parent : (surrogates : Bool) (last : Format ℤ) (k : TxnKind) (o : Operation) (text : List ℕ)
     → (operation_format surrogates last k).Spells o text → HasParent o
 operation_parent surrogates last kinds.Create o text s = created_parent surrogates last kinds.Create o text s
 operation_parent surrogates last kinds.Create2 o text s = created_parent surrogates last kinds.Create2 o text s
 operation_parent surrogates last kinds.CreateContainer o text s = created_parent surrogates last kinds.CreateContainer o text s
 operation_parent surrogates last kinds.CreateTtl o text s = created_parent surrogates last kinds.CreateTtl o text s
-operation_parent surrogates last kinds.Delete o text s =
-    subst HasParent (ok_is (operations.Delete s.0) o s.1) (child_spelled s.0 text s.2)
+operation_parent surrogates last kinds.Delete o text s = deleted_parent false o text s
+operation_parent surrogates last kinds.DeleteContainer o text s = deleted_parent true o text s
 operation_parent surrogates last kinds.SetData o text s = subst HasParent (ok_is (operations.SetData s.0) o s.1) tt
+operation_parent surrogates last kinds.Reconfig o text s = subst HasParent (ok_is (operations.SetData s.0) o s.1) tt
 operation_parent surrogates last kinds.Check o text s = subst HasParent (ok_is (operations.Check s.0) o s.1) tt
 operation_parent surrogates last kinds.Error o text s = subst HasParent (ok_is (operations.Error s.0) o s.1) tt
 operation_parent surrogates last kinds.SetAcl o text s = absurd s
@@ -82,6 +90,10 @@ module _ (reads : Reads) where
       single_parent kinds.CreateContainer s.0 b text (ok_is (bodies.Single s.0) b s.1) s.2
   fields_parents kinds.CreateTtl b text s =
       single_parent kinds.CreateTtl s.0 b text (ok_is (bodies.Single s.0) b s.1) s.2
+  fields_parents kinds.DeleteContainer b text s =
+      single_parent kinds.DeleteContainer s.0 b text (ok_is (bodies.Single s.0) b s.1) s.2
+  fields_parents kinds.Reconfig b text s =
+      single_parent kinds.Reconfig s.0 b text (ok_is (bodies.Single s.0) b s.1) s.2
   fields_parents kinds.Delete b text s = single_parent kinds.Delete s.0 b text (ok_is (bodies.Single s.0) b s.1) s.2
   fields_parents kinds.SetData b text s = single_parent kinds.SetData s.0 b text (ok_is (bodies.Single s.0) b s.1) s.2
   fields_parents kinds.Check b text s = single_parent kinds.Check s.0 b text (ok_is (bodies.Single s.0) b s.1) s.2

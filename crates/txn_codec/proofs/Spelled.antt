@@ -1,5 +1,5 @@
 -- The fields and records of transactions are sound.
-use Rattle.std.proofs.Common.{◌≡◌, ℕ, ◌≤◌, Bool, true, false, cond, List, [], ◌∷◌, length, Option, Some, None, Ok, Err, refl, sym, ap, subst, ◌∙◌, arith}
+use Rattle.std.proofs.Common.{◌≡◌, ℕ, Bool, true, false, cond, List, [], ◌∷◌, Option, Some, None, Ok, Err, refl, sym, ap, subst, ◌∙◌, arith}
 use Rattle.std.specs.Prelude.{ℤ, negsuc, find}
 use Rattle.std.specs.Option.{ok_or}
 use Rattle.std.specs.Ordering.{int_eq}
@@ -10,17 +10,17 @@ use Rattle.settings.specs.declared.dialect.Reads.{Reads}
 use Rattle.jute.specs.Format.{Format, int, long, boolean, buffer, text_format, vector_of, pair_of}
 use Rattle.jute.specs.Laws.{IsSound, IsSoundAtEnd}
 use Rattle.jute.specs.Owned.{acl_in}
-use Rattle.jute.proofs.Public.{guard_ended, int_sound, long_sound, boolean_sound, buffer_sound, text_sound, acl_in_sound, both_sound, both_at_end, mapped_sound, case_sound, case_at_end, refusal_sound, judged_sound, judged_back_sound, vector_sound}
+use Rattle.jute.proofs.Public.{guard_ended, int_sound, long_sound, boolean_sound, buffer_sound, text_sound, acl_in_sound, both_sound, both_at_end, mapped_sound, case_sound, case_at_end, refusal_sound, judged_sound, vector_sound}
 use Rattle.txn_codec.specs.declared.kind.TxnKind.{TxnKind}
 use Rattle.txn_codec.specs.declared.kind.TxnKind.TheVariants as kinds
 use Rattle.txn_codec.specs.declared.place.Place.{Place}
-use Rattle.txn_codec.specs.declared.place.Place.TheVariants.{Alone, Part}
-use Rattle.txn_codec.specs.Kinds.{txn_kinds, kind_of, later_kind_of, kind_at, code_of, is_part_kind, part_kind_of}
+use Rattle.txn_codec.specs.declared.place.Place.TheVariants.{Part}
+use Rattle.txn_codec.specs.Kinds.{txn_kinds, kinds_at, kind_of, later_kind_of, kind_at, code_of, is_part_kind, part_kind_of}
 use Rattle.txn_codec.specs.Endings.{or_end, with_trailer_if}
 use Rattle.paths_and_acls.specs.Paths.{is_path, is_child_path}
 use Rattle.paths_and_acls.specs.Fields.{tested_text, path_by, path_format, child_path}
-use Rattle.txn_codec.specs.Spelling.{kind_format_in, part_kind_in, owner_if, with_flag, flagged_owner, owner_format, fields_of, create_with, set_data, set_acl_in, check_format, header_of, header_numbers, header_in}
-use Rattle.txn_codec.proofs.Endings.{number_long, trailer_if_sound, last_at_end}
+use Rattle.txn_codec.specs.Spelling.{kind_format_in, part_kind_in, owner_if, with_flag, flagged_owner, owner_format, fields_of, create_with, delete_with, set_data_with, set_acl_in, check_format, header_of, header_numbers, header_in}
+use Rattle.txn_codec.proofs.Endings.{trailer_if_sound, last_at_end}
 
 -- ---- paths
 
@@ -69,59 +69,15 @@ code_found z (j ∷ ks) k e =
     code_step (int_eq z (code_of j)) z j k (find (λ i. int_eq z (code_of i)) ks) (Decides-int_eq z (code_of j)).0
     (code_found z ks k) e
 
-code_fits : (k : TxnKind) → int.Fits (code_of k)
-code_fits kinds.Create = record { sfits = omega arith }
-code_fits kinds.Delete = record { sfits = omega arith }
-code_fits kinds.SetData = record { sfits = omega arith }
-code_fits kinds.SetAcl = record { sfits = omega arith }
-code_fits kinds.Check = record { sfits = omega arith }
-code_fits kinds.Multi = record { sfits = omega arith }
-code_fits kinds.Create2 = record { sfits = omega arith }
-code_fits kinds.CreateContainer = record { sfits = omega arith }
-code_fits kinds.CreateTtl = record { sfits = omega arith }
-code_fits kinds.CreateSession = record { sfits = omega arith }
-code_fits kinds.CloseSession = record { sfits = omega arith }
-code_fits kinds.Error = record { sfits = omega arith }
-
--- A type is read again from its code.
-later_again : (place : Place) (k : TxnKind) → later_kind_of place (code_of k) ≡ Ok k
-later_again Alone kinds.Create = refl
-later_again Alone kinds.Delete = refl
-later_again Alone kinds.SetData = refl
-later_again Alone kinds.SetAcl = refl
-later_again Alone kinds.Check = refl
-later_again Alone kinds.Multi = refl
-later_again Alone kinds.Create2 = refl
-later_again Alone kinds.CreateContainer = refl
-later_again Alone kinds.CreateTtl = refl
-later_again Alone kinds.CreateSession = refl
-later_again Alone kinds.CloseSession = refl
-later_again Alone kinds.Error = refl
-later_again Part kinds.Create = refl
-later_again Part kinds.Delete = refl
-later_again Part kinds.SetData = refl
-later_again Part kinds.SetAcl = refl
-later_again Part kinds.Check = refl
-later_again Part kinds.Multi = refl
-later_again Part kinds.Create2 = refl
-later_again Part kinds.CreateContainer = refl
-later_again Part kinds.CreateTtl = refl
-later_again Part kinds.CreateSession = refl
-later_again Part kinds.CloseSession = refl
-later_again Part kinds.Error = refl
-
-kind_again : (are_extended : Bool) (place : Place) (z : ℤ) (k : TxnKind)
-    → cond are_extended (later_kind_of place z) (kind_of z) ≡ Ok k
-    → cond are_extended (later_kind_of place (code_of k)) (kind_of (code_of k)) ≡ Ok k
-kind_again true place z k e = later_again place k
-kind_again false place z k e = subst (λ (c : ℤ). kind_of c ≡ Ok k) (code_found z txn_kinds k e) e
-
-same_length : (y z : ℤ) → length (int.written y) ≤ length (int.written z)
-same_length y z = omega (arith, number_long y, number_long z)
+-- The type that is read has the code.
+kind_code : (are_extended : Bool) (place : Place) (z : ℤ) (k : TxnKind)
+    → cond are_extended (later_kind_of place z) (kind_of z) ≡ Ok k → z ≡ code_of k
+kind_code true place z k e = code_found z (kinds_at place) k e
+kind_code false place z k e = code_found z txn_kinds k e
 
 pub kind_sound : (reads : Reads) (place : Place) → IsSound (kind_format_in reads place)
-kind_sound reads place = judged_back_sound (kind_at reads place) (λ k. Some (code_of k)) int
-    (λ z k e. (kind_again reads.extended_types place z k e, λ h. code_fits k, same_length (code_of k) z)) int_sound
+kind_sound reads place = judged_sound (kind_at reads place) (λ k. Some (code_of k)) int
+    (λ z k e. ap (λ (c : ℤ). Some c) (sym (kind_code reads.extended_types place z k e))) int_sound
 
 part_is : (k j : TxnKind) → part_kind_of k ≡ Ok j → k ≡ j
 part_is k j e = (guard_ended (is_part_kind k) BadTxnType k j e).1
@@ -155,6 +111,8 @@ owner_sound kinds.SetData = refusal_sound BadTxnType
 owner_sound kinds.SetAcl = refusal_sound BadTxnType
 owner_sound kinds.Check = refusal_sound BadTxnType
 owner_sound kinds.Multi = refusal_sound BadTxnType
+owner_sound kinds.Reconfig = refusal_sound BadTxnType
+owner_sound kinds.DeleteContainer = refusal_sound BadTxnType
 owner_sound kinds.Create2 = flagged_sound
 owner_sound kinds.CreateContainer = case_sound _ _ int (λ z. refl) int_sound
 owner_sound kinds.CreateTtl = case_sound _ _ (pair_of int long) (λ v. refl) (both_sound int long int_sound long_sound)
@@ -177,8 +135,11 @@ create_at_end surrogates last s =
     (both_at_end buffer _ buffer_sound
     (both_at_end (vector_of (acl_in surrogates)) (flagged_owner last) (acls_sound surrogates) (flagged_at_end last s))))
 
-pub set_data_sound : IsSound set_data
-set_data_sound = mapped_sound _ _ _ (λ v. refl) (λ s. refl)
+pub delete_sound : (of_container : Bool) → IsSound (delete_with of_container)
+delete_sound of_container = case_sound _ (λ d. Some d.path) child_path (λ p. refl) (path_sound is_child_path)
+
+pub set_data_sound : (is_reconfig : Bool) → IsSound (set_data_with is_reconfig)
+set_data_sound is_reconfig = case_sound _ (λ s. Some (s.path, (s.bytes, s.version))) _ (λ v. refl)
     (both_sound path_format _ (path_sound is_path) (both_sound buffer int buffer_sound int_sound))
 
 pub set_acl_sound : (surrogates : Bool) → IsSound (set_acl_in surrogates)

@@ -1,4 +1,4 @@
--- What is written of a create.
+-- What is written of an operation.
 use Rattle.std.proofs.Common.{◌≡◌, ◌<◌, ◌^◌, ℕ, Bool, true, false, List, ◌++◌, length, Some, refl, ap, ◌∙◌}
 use Rattle.std.specs.Prelude.{ℤ}
 use Rattle.jute.specs.Format.{int, buffer, vector_of}
@@ -6,10 +6,13 @@ use Rattle.jute.specs.Owned.{acl_format}
 use Rattle.txn_codec.specs.declared.txn.Owner.{Owner}
 use Rattle.txn_codec.specs.declared.txn.Owner.TheVariants.{Nobody, Client, Container, Ttl}
 use Rattle.txn_codec.specs.declared.txn.Create.{Create}
+use Rattle.txn_codec.specs.declared.txn.Delete.{Delete}
+use Rattle.txn_codec.specs.declared.txn.SetData.{SetData}
 use Rattle.txn_codec.specs.declared.txn.Operation.TheVariants as operations
-use Rattle.txn_codec.specs.Kinds.{create_kind}
+use Rattle.txn_codec.specs.Kinds.{create_kind, delete_kind, set_data_kind}
+use Rattle.paths_and_acls.specs.Fields.{child_path}
 use Rattle.txn_codec.specs.Inner.{owner_bytes, create_bytes}
-use Rattle.txn_codec.specs.Spelling.{flagged_owner, owner_format, create_format, operation_format, format_of_operation}
+use Rattle.txn_codec.specs.Spelling.{flagged_owner, owner_format, create_format, set_data, operation_format, format_of_operation}
 
 owner_written : (o : Owner) (s : Bool) (z : ℤ) → (owner_format int (create_kind o s)).written (o, z) ≡ owner_bytes o z
 owner_written Nobody true z = refl
@@ -55,6 +58,44 @@ front_writable (Ttl milliseconds) s c h = (h.0, h.1.0, h.1.1.0)
 pub created_writable : (c : Create) → (format_of_operation (operations.Create c)).Writable (operations.Create c)
     → AreWritable c
 created_writable c h = front_writable c.owner c.asks_stat c h
+
+-- ---- deletes, and writes of data: both types alike
+
+deleted_written : (of_container : Bool) (d : Delete)
+    → (operation_format false int (delete_kind of_container)).written (operations.Delete d) ≡ child_path.written d.path
+deleted_written true d = refl
+deleted_written false d = refl
+
+pub delete_written : (d : Delete)
+    → (format_of_operation (operations.Delete d)).written (operations.Delete d) ≡ child_path.written d.path
+delete_written d = deleted_written d.of_container d
+
+deleted_writable : (of_container : Bool) (d : Delete)
+    → (operation_format false int (delete_kind of_container)).Writable (operations.Delete d) → child_path.Writable d.path
+deleted_writable true d h = h
+deleted_writable false d h = h
+
+pub delete_writable : (d : Delete) → (format_of_operation (operations.Delete d)).Writable (operations.Delete d)
+    → child_path.Writable d.path
+delete_writable d h = deleted_writable d.of_container d h
+
+set_written : (is_reconfig : Bool) (s : SetData)
+    → (operation_format false int (set_data_kind is_reconfig)).written (operations.SetData s) ≡ set_data.written s
+set_written true s = refl
+set_written false s = refl
+
+pub set_data_written : (s : SetData)
+    → (format_of_operation (operations.SetData s)).written (operations.SetData s) ≡ set_data.written s
+set_data_written s = set_written s.is_reconfig s
+
+set_writable : (is_reconfig : Bool) (s : SetData)
+    → (operation_format false int (set_data_kind is_reconfig)).Writable (operations.SetData s) → set_data.Writable s
+set_writable true s h = h
+set_writable false s h = h
+
+pub set_data_writable : (s : SetData) → (format_of_operation (operations.SetData s)).Writable (operations.SetData s)
+    → set_data.Writable s
+set_data_writable s h = set_writable s.is_reconfig s h
 
 -- ---- a CreateTxn by itself
 

@@ -9,7 +9,7 @@ use Rattle.paths_and_acls.specs.Paths.{is_child_path}
 -- The node that is created or deleted has a parent.
 abbrev pub HasParent : Operation → Type 0
 HasParent (operations.Create c) = IsTrue (is_child_path c.path)
-HasParent (operations.Delete p) = IsTrue (is_child_path p)
+HasParent (operations.Delete d) = IsTrue (is_child_path d.path)
 HasParent (operations.SetData s) = Unit {0}
 HasParent (operations.Check c) = Unit {0}
 HasParent (operations.Error e) = Unit {0}

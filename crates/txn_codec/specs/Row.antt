@@ -16,7 +16,7 @@ use Rattle.txn_codec.specs.declared.row.SessionChange.TheVariants.{Nothing, Begi
 abbrev pub error_of : Operation → Option ℤ
 error_of (operations.Error error) = Some error
 error_of (operations.Create c) = None
-error_of (operations.Delete path) = None
+error_of (operations.Delete d) = None
 error_of (operations.SetData s) = None
 error_of (operations.Check c) = None
 
@@ -28,7 +28,7 @@ has_error parts = list_any (λ (o : Operation). is_some (error_of o)) parts
 -- What creates or deletes a node changes its parent too.
 abbrev pub footprint_of_operation : Operation → List (List ℕ)
 footprint_of_operation (operations.Create c) = c.path ∷ parent_of c.path ∷ []
-footprint_of_operation (operations.Delete path) = path ∷ parent_of path ∷ []
+footprint_of_operation (operations.Delete d) = d.path ∷ parent_of d.path ∷ []
 footprint_of_operation (operations.SetData s) = s.path ∷ []
 footprint_of_operation (operations.Check c) = []
 footprint_of_operation (operations.Error error) = []
@@ -50,7 +50,7 @@ footprint_of_body (bodies.CloseSession listed) = []
 abbrev pub data_len_of_operation : Operation → ℕ
 data_len_of_operation (operations.Create c) = length (unwrap_or c.bytes [])
 data_len_of_operation (operations.SetData s) = length (unwrap_or s.bytes [])
-data_len_of_operation (operations.Delete path) = 0
+data_len_of_operation (operations.Delete d) = 0
 data_len_of_operation (operations.Check c) = 0
 data_len_of_operation (operations.Error error) = 0
 
@@ -70,7 +70,7 @@ data_len_of_body (bodies.CloseSession listed) = 0
 abbrev pub shown_path_of_operation : Operation → Option (List ℕ)
 shown_path_of_operation (operations.Create c) = Some c.path
 shown_path_of_operation (operations.SetData s) = Some s.path
-shown_path_of_operation (operations.Delete path) = None
+shown_path_of_operation (operations.Delete d) = None
 shown_path_of_operation (operations.Check c) = None
 shown_path_of_operation (operations.Error error) = None
 

@@ -18,6 +18,7 @@ use Rattle.txn_codec.specs.declared.txn.TxnHeader.{TxnHeader}
 use Rattle.txn_codec.specs.declared.txn.Owner.{Owner}
 use Rattle.txn_codec.specs.declared.txn.Owner.TheVariants.{Nobody, Client, Container, Ttl}
 use Rattle.txn_codec.specs.declared.txn.Create.{Create}
+use Rattle.txn_codec.specs.declared.txn.Delete.{Delete}
 use Rattle.txn_codec.specs.declared.txn.SetData.{SetData}
 use Rattle.txn_codec.specs.declared.txn.SetAcl.{SetAcl}
 use Rattle.txn_codec.specs.declared.txn.Check.{Check}
@@ -113,11 +114,20 @@ create_format = create_with false int kinds.Create
 
 -- ---- records
 
-abbrev pub set_data : Format SetData
-set_data = mapped_format
-    (λ v. record { path = v.0; bytes = v.1.0; version = v.1.1 })
-    (λ s. (s.path, (s.bytes, s.version)))
+-- A delete, of a container or not: its type says so.
+abbrev pub delete_with : Bool → Format Delete
+delete_with of_container =
+    case_of (λ p. record { path = p; of_container = of_container }) (λ d. Some d.path) child_path
+
+-- A write of data, a reconfig or not: its type says so.
+abbrev pub set_data_with : Bool → Format SetData
+set_data_with is_reconfig = case_of
+    (λ v. record { path = v.0; bytes = v.1.0; version = v.1.1; is_reconfig = is_reconfig })
+    (λ s. Some (s.path, (s.bytes, s.version)))
     (pair_of path_format (pair_of buffer int))
+
+abbrev pub set_data : Format SetData
+set_data = set_data_with false
 
 -- The texts of its list may have surrogates or not.
 abbrev pub set_acl_in : Bool → Format SetAcl
@@ -152,8 +162,8 @@ abbrev pub as_create : Operation → Option Create
 as_create (operations.Create c) = Some c
 as_create o = None
 
-abbrev pub as_delete : Operation → Option (List ℕ)
-as_delete (operations.Delete p) = Some p
+abbrev pub as_delete : Operation → Option Delete
+as_delete (operations.Delete d) = Some d
 as_delete o = None
 
 abbrev pub as_set_data : Operation → Option SetData
@@ -171,13 +181,21 @@ as_error o = None
 abbrev pub created_operation : Bool → Format ℤ → TxnKind → Format Operation
 created_operation surrogates last k = case_of operations.Create as_create (create_with surrogates last k)
 
+abbrev pub deleted_operation : Bool → Format Operation
+deleted_operation of_container = case_of operations.Delete as_delete (delete_with of_container)
+
+abbrev pub set_operation : Bool → Format Operation
+set_operation is_reconfig = case_of operations.SetData as_set_data (set_data_with is_reconfig)
+
 abbrev pub operation_format : Bool → Format ℤ → TxnKind → Format Operation
 operation_format surrogates last kinds.Create = created_operation surrogates last kinds.Create
 operation_format surrogates last kinds.Create2 = created_operation surrogates last kinds.Create2
 operation_format surrogates last kinds.CreateContainer = created_operation surrogates last kinds.CreateContainer
 operation_format surrogates last kinds.CreateTtl = created_operation surrogates last kinds.CreateTtl
-operation_format surrogates last kinds.Delete = case_of operations.Delete as_delete child_path
-operation_format surrogates last kinds.SetData = case_of operations.SetData as_set_data set_data
+operation_format surrogates last kinds.Delete = deleted_operation false
+operation_format surrogates last kinds.DeleteContainer = deleted_operation true
+operation_format surrogates last kinds.SetData = set_operation false
+operation_format surrogates last kinds.Reconfig = set_operation true
 operation_format surrogates last kinds.Check = case_of operations.Check as_check check_format
 operation_format surrogates last kinds.Error = case_of operations.Error as_error int
 operation_format surrogates last kinds.SetAcl = refusal_format BadTxnType

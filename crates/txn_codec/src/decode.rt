@@ -5,7 +5,7 @@ ghost use Rattle.jute.specs.Reads.{ReadsOwned, ReadsOwnedWhole};
 ghost use Rattle.jute.specs.Format.{int, read_n};
 ghost use Rattle.txn_codec.specs.Endings.{value_in_buffer};
 ghost use Rattle.paths_and_acls.specs.Fields.{path_format, child_path};
-ghost use Rattle.txn_codec.specs.Spelling.{last_field, kind_format_in, part_kind_in, flagged_owner, timed_owner, owner_format, create_with, created_operation, create_format, set_data as set_data_format, set_acl_in, set_acl as set_acl_format, check_format, header_in, operation_format, is_lenient, multi_part, part_content, part_format_in, parts_format_in, body_fields, body_content, body_in, txn_in, txn_format, value_of_whole};
+ghost use Rattle.txn_codec.specs.Spelling.{last_field, kind_format_in, part_kind_in, flagged_owner, timed_owner, owner_format, create_with, created_operation, create_format, delete_with, set_data_with, set_data as set_data_format, set_acl_in, set_acl as set_acl_format, check_format, header_in, operation_format, is_lenient, multi_part, part_content, part_format_in, parts_format_in, body_fields, body_content, body_in, txn_in, txn_format, value_of_whole};
 ghost use Rattle.txn_codec.specs.Parents.{HaveParents};
 ghost use Rattle.txn_codec.specs.Refusals.{IfFault, AgainstIn, AgainstTxn};
 ghost use Rattle.txn_codec.specs.declared.txn.Txn.{Txn as TheTxn};
@@ -13,7 +13,7 @@ ghost use Rattle.txn_codec.specs.declared.txn.Txn.{Txn as TheTxn};
 use crate::ending::{pass_trailer, read_closing};
 use crate::kind::TxnKind;
 use crate::place::Place;
-use crate::txn::{Body, Check, Create, Operation, Owner, SetAcl, SetData, Txn, TxnHeader};
+use crate::txn::{Body, Check, Create, Delete, Operation, Owner, SetAcl, SetData, Txn, TxnHeader};
 use jute::{ReadRecord, Reader, read_acls, read_blob};
 use paths_and_acls::Path;
 use settings::{Dialect, Reads};
@@ -160,6 +160,8 @@ fn read_owner(
         | TxnKind::SetAcl
         | TxnKind::Check
         | TxnKind::Multi
+        | TxnKind::Reconfig
+        | TxnKind::DeleteContainer
         | TxnKind::CreateSession
         | TxnKind::CloseSession
         | TxnKind::Error => Err(ReadError::Fault(Fault::BadTxnType)),
@@ -206,20 +208,48 @@ impl<'a> ReadRecord<'a> for Create {
     }
 }
 
+// A delete, whose type was read.
+#[tactic(auto, unfolding(jute::specs::Format::judged_at))]
+fn read_delete(
+    of_container: bool,
+    alloc: Global,
+    reader: &mut Reader<'_>,
+) -> Result<Delete, ReadError>
+    ensures { ReadsOwned (delete_with of_container).read (λ d. d) result reader.old reader.new }
+{
+    Ok(Delete {
+        path: read_child_path(alloc, reader)?,
+        of_container,
+    })
+}
+
+// A write of data, whose type was read.
+#[tactic(auto, unfolding(jute::specs::Format::judged_at))]
+fn read_set_data(
+    is_reconfig: bool,
+    alloc: Global,
+    reader: &mut Reader<'_>,
+) -> Result<SetData, ReadError>
+    ensures { ReadsOwned (set_data_with is_reconfig).read (λ s. s) result reader.old reader.new }
+{
+    let mut ahead = reader.ahead();
+    let path = read_path(alloc, &mut ahead)?;
+    let bytes = read_blob(alloc, &mut ahead)?;
+    let version = ahead.read_int()?;
+    *reader = ahead;
+    Ok(SetData {
+        path,
+        bytes,
+        version,
+        is_reconfig,
+    })
+}
+
 impl<'a> ReadRecord<'a> for SetData {
     ghost read_of = { set_data_format.read };
 
     fn read(alloc: Global, reader: &mut Reader<'a>) -> Result<SetData, ReadError> {
-        let mut ahead = reader.ahead();
-        let path = read_path(alloc, &mut ahead)?;
-        let bytes = read_blob(alloc, &mut ahead)?;
-        let version = ahead.read_int()?;
-        *reader = ahead;
-        Ok(SetData {
-            path,
-            bytes,
-            version,
-        })
+        read_set_data(false, alloc, reader)
     }
 }
 
@@ -285,8 +315,10 @@ fn read_operation(
     match kind {
         TxnKind::Create | TxnKind::Create2 | TxnKind::CreateContainer | TxnKind::CreateTtl =>
             read_created(reads, alloc, kind, place, reader),
-        TxnKind::Delete => Ok(Operation::Delete(read_child_path(alloc, reader)?)),
-        TxnKind::SetData => Ok(Operation::SetData(SetData::read(alloc, reader)?)),
+        TxnKind::Delete => Ok(Operation::Delete(read_delete(false, alloc, reader)?)),
+        TxnKind::DeleteContainer => Ok(Operation::Delete(read_delete(true, alloc, reader)?)),
+        TxnKind::SetData => Ok(Operation::SetData(read_set_data(false, alloc, reader)?)),
+        TxnKind::Reconfig => Ok(Operation::SetData(read_set_data(true, alloc, reader)?)),
         TxnKind::Check => Ok(Operation::Check(Check::read(alloc, reader)?)),
         TxnKind::Error => Ok(Operation::Error(reader.read_int()?)),
         TxnKind::SetAcl | TxnKind::Multi | TxnKind::CreateSession | TxnKind::CloseSession => {
@@ -407,7 +439,9 @@ fn read_fields(
         | TxnKind::CreateContainer
         | TxnKind::CreateTtl
         | TxnKind::Delete
+        | TxnKind::DeleteContainer
         | TxnKind::SetData
+        | TxnKind::Reconfig
         | TxnKind::Check
         | TxnKind::Error => {
             Ok(Body::Single(read_operation(reads, alloc, kind, Place::Alone, reader)?))

@@ -156,7 +156,7 @@ impl WriteRecord for Check {
 }
 
 // The length in bytes of an operation after its type, or in a part's buffer.
-#[tactic(auto, using(crate::proofs::Written::created_written, crate::proofs::Written::created_writable), unfolding(jute::specs::Format::number_bytes))]
+#[tactic(auto, using(crate::proofs::Written::created_written, crate::proofs::Written::created_writable, crate::proofs::Written::delete_written, crate::proofs::Written::delete_writable, crate::proofs::Written::set_data_written, crate::proofs::Written::set_data_writable), unfolding(jute::specs::Format::number_bytes))]
 fn operation_len(operation: &Operation) -> usize
     requires writable { (format_of_operation operation.now).Writable operation.now }
     requires small { length ((format_of_operation operation.now).written operation.now) < 2 ^ 63 }
@@ -164,7 +164,7 @@ fn operation_len(operation: &Operation) -> usize
 {
     match operation {
         Operation::Create(create) => create_len(create),
-        Operation::Delete(path) => path.as_str().len() + 4,
+        Operation::Delete(delete) => delete.path.as_str().len() + 4,
         Operation::SetData(set_data) => set_data.written_len(),
         Operation::Check(check) => check.written_len(),
         Operation::Error(_) => 4,
@@ -172,7 +172,7 @@ fn operation_len(operation: &Operation) -> usize
 }
 
 // Appends an operation without its type.
-#[tactic(auto, using(crate::proofs::Written::created_written, crate::proofs::Written::created_writable))]
+#[tactic(auto, using(crate::proofs::Written::created_written, crate::proofs::Written::created_writable, crate::proofs::Written::delete_written, crate::proofs::Written::delete_writable, crate::proofs::Written::set_data_written, crate::proofs::Written::set_data_writable))]
 fn put_operation(out: &mut Vec<u8>, operation: &Operation) -> Result<(), NoMemory>
     requires { (format_of_operation operation.now).Writable operation.now }
     ensures { Puts result out.old.items
@@ -180,7 +180,7 @@ fn put_operation(out: &mut Vec<u8>, operation: &Operation) -> Result<(), NoMemor
 {
     match operation {
         Operation::Create(create) => put_create(out, create),
-        Operation::Delete(path) => put_string(out, path.as_str()),
+        Operation::Delete(delete) => put_string(out, delete.path.as_str()),
         Operation::SetData(set_data) => set_data.write(out),
         Operation::Check(check) => check.write(out),
         Operation::Error(error) => error.write(out),

@@ -25,8 +25,12 @@ pub enum TxnKind {
     Multi = 14,
     /// A node is created, and the reply shows its Stat.
     Create2 = 15,
+    /// The data of the ensemble's configuration is replaced.
+    Reconfig = 16,
     /// A container is created.
     CreateContainer = 19,
+    /// A container without children is deleted, or a node whose time is over.
+    DeleteContainer = 20,
     /// A node with a time to live is created.
     CreateTtl = 21,
     /// A session begins.
@@ -62,9 +66,9 @@ impl TxnKind {
     {
         match code {
             15 => Ok(TxnKind::Create2),
-            16 if matches!(place, Place::Alone) => Ok(TxnKind::SetData),
+            16 if matches!(place, Place::Alone) => Ok(TxnKind::Reconfig),
             19 => Ok(TxnKind::CreateContainer),
-            20 => Ok(TxnKind::Delete),
+            20 => Ok(TxnKind::DeleteContainer),
             21 => Ok(TxnKind::CreateTtl),
             _ => TxnKind::from_code(code),
         }
@@ -119,10 +123,14 @@ impl TxnKind {
             | TxnKind::Check
             | TxnKind::Create2
             | TxnKind::CreateContainer
+            | TxnKind::DeleteContainer
             | TxnKind::CreateTtl
             | TxnKind::Error => Ok(self),
-            TxnKind::SetAcl | TxnKind::Multi | TxnKind::CreateSession | TxnKind::CloseSession =>
-                Err(Fault::BadTxnType),
+            TxnKind::SetAcl
+            | TxnKind::Multi
+            | TxnKind::Reconfig
+            | TxnKind::CreateSession
+            | TxnKind::CloseSession => Err(Fault::BadTxnType),
         }
     }
 }

@@ -30,4 +30,4 @@ pub use encode::encode_txn;
 pub use kind::TxnKind;
 pub use law::{transactions, transactions_in};
 pub use row::{SessionChange, has_error};
-pub use txn::{Body, Check, Create, Operation, Owner, SetAcl, SetData, Txn, TxnHeader};
+pub use txn::{Body, Check, Create, Delete, Operation, Owner, SetAcl, SetData, Txn, TxnHeader};

@@ -96,7 +96,7 @@ impl Operation {
     {
         match self {
             Operation::Create(create) => add_with_parent(&create.path, paths),
-            Operation::Delete(path) => add_with_parent(path, paths),
+            Operation::Delete(delete) => add_with_parent(&delete.path, paths),
             Operation::SetData(set_data) => add(set_data.path.as_str(), paths),
             Operation::Check(_) | Operation::Error(_) => Ok(()),
         }

@@ -51,6 +51,15 @@ pub struct Create {
     pub parent_cversion: i32,
 }
 
+/// A node is deleted (DeleteTxn).
+#[derive(Clone, Debug, Drop)]
+pub struct Delete {
+    pub path: Path,
+    /// Its type is deleteContainer: the leader deletes a container without children, or a node whose time is over. It
+    /// does what a delete does.
+    pub of_container: bool,
+}
+
 /// A node's data is replaced (SetDataTxn).
 #[derive(Clone, Debug, Drop)]
 pub struct SetData {
@@ -58,6 +67,8 @@ pub struct SetData {
     pub bytes: Option<Blob>,
     /// The node's version after the write.
     pub version: i32,
+    /// Its type is reconfig: it replaces the data of the ensemble's configuration.
+    pub is_reconfig: bool,
 }
 
 /// A node's access control list is replaced (SetACLTxn).
@@ -80,8 +91,7 @@ pub struct Check {
 #[derive(Debug, Drop)]
 pub enum Operation {
     Create(Create),
-    /// A node is deleted (DeleteTxn).
-    Delete(Path),
+    Delete(Delete),
     SetData(SetData),
     Check(Check),
     /// The request failed, with this error code (ErrorTxn).
@@ -134,7 +144,9 @@ impl Operation {
     {
         match self {
             Operation::Create(create) => create.kind(),
+            Operation::Delete(delete) if delete.of_container => TxnKind::DeleteContainer,
             Operation::Delete(_) => TxnKind::Delete,
+            Operation::SetData(set_data) if set_data.is_reconfig => TxnKind::Reconfig,
             Operation::SetData(_) => TxnKind::SetData,
             Operation::Check(_) => TxnKind::Check,
             Operation::Error(_) => TxnKind::Error,
@@ -163,7 +175,7 @@ impl Clone for Operation {
     fn clone(&self) -> Result<Operation, AllocError> {
         Ok(match self {
             Operation::Create(create) => Operation::Create(create.clone()?),
-            Operation::Delete(path) => Operation::Delete(path.clone()?),
+            Operation::Delete(delete) => Operation::Delete(delete.clone()?),
             Operation::SetData(set_data) => Operation::SetData(set_data.clone()?),
             Operation::Check(check) => Operation::Check(check.clone()?),
             Operation::Error(error) => Operation::Error(*error),

@@ -17,8 +17,10 @@ an ephemeral of the old form | 00000001 00000002 2f65 ffffffff ffffffff 01 | cre
 create2 | 0000000f 00000003 2f7032 00000002 5032 00000001 0000001f 00000005 776f726c64 00000006 616e796f6e65 00 00000002 00000002 0000000283c3b12e | create /p2 Nobody true 2
 a container | 00000013 00000002 2f63 00000001 43 00000001 0000001f 00000005 776f726c64 00000006 616e796f6e65 00000004 00000002 0000000479c6de74 | create /c Container true 4
 a time to live | 00000015 00000002 2f74 00000001 54 00000001 0000001f 00000005 776f726c64 00000006 616e796f6e65 00000008 00000000000186a0 00000002 0000000650e0aae1 | create /t Ttl(100000) true 8
-the end of a container | 00000014 00000002 2f63 00000002 000000012ce4cee4 | delete /c
-a reconfig | 00000010 00000011 2f7a6f6f6b65657065722f636f6e666967 00000001 78 ffffffff 00000002 000000013afa8f1b | set /zookeeper/config -1
+the end of a container | 00000014 00000002 2f63 00000002 000000012ce4cee4 | delete /c true
+a delete | 00000002 00000002 2f63 00000002 000000012ce4cee4 | delete /c false
+a reconfig | 00000010 00000011 2f7a6f6f6b65657065722f636f6e666967 00000001 78 ffffffff 00000002 000000013afa8f1b | set /zookeeper/config -1 true
+new data | 00000005 00000002 2f70 00000001 78 00000001 | set /p 1 false
 a check | 0000000d 00000002 2f70 00000001 00000002 00000001748e7f8c | check /p 1
 a session that lists a path | fffffff5 00000001 00000003 2f6578 00000002 00000000a5ad3dbe | close /ex
 a session that lists none | fffffff5 00000000 00000002 00000000a5ad3dbe | close
@@ -31,7 +33,7 @@ a null list | fffffff5 ffffffff | close
 a list of one path in 12 bytes | fffffff5 00000001 00000004 2f616263 | close /abc
 an error with a digest | ffffffff ffffff9b 00000002 00000000a5ad3dbe | error -101
 a failed multi of a DIFF | 0000000e 00000004 ffffffff 0000002d 00000003 2f7a31 00000002 7a7a 00000001 0000001f 00000005 776f726c64 00000006 616e796f6e65 00 0000000c ffffffff 00000004 ffffff99 ffffffff 00000004 fffffffe ffffffff 00000004 fffffffe 00000002 00000000a5ad3dbe | multi, error 3, error -103, error -2, error -2
-a container and its end in a multi | 0000000e 00000002 00000013 00000012 00000002 2f63 ffffffff ffffffff 00000004 00000014 00000006 00000002 2f63 | multi, create /c Container true 4, delete /c
+a container and its end in a multi | 0000000e 00000002 00000013 00000012 00000002 2f63 ffffffff ffffffff 00000004 00000014 00000006 00000002 2f63 | multi, create /c Container true 4, delete /c true
 an id of two halves | 00000001 00000003 2f6561 00000000 00000001 0000001f 00000006 646967657374 00000008 eda0bdedb8803a78 00 00000001 | create /ea Nobody false 1
 an id of two halves, and a digest | 0000000f 00000003 2f6561 00000000 00000001 0000001f 00000006 646967657374 00000008 eda0bdedb8803a78 00 00000001 00000002 0000000283c3b12e | create /ea Nobody true 1
 a container with such an id | 00000013 00000003 2f6561 00000000 00000001 0000001f 00000006 646967657374 00000008 eda0bdedb8803a78 00000001 | create /ea Container true 1
@@ -69,6 +71,7 @@ const EARLIER: &str = "\
 a digest | 00000002 00000002 2f70 00000002 00000000a5ad3dbe | TrailingBytes
 create2 | 0000000f 00000002 2f70 ffffffff ffffffff 00 00000002 | BadTxnType
 a reconfig | 00000010 00000002 2f70 ffffffff ffffffff | BadTxnType
+the end of a container | 00000014 00000002 2f63 | BadTxnType
 a list of paths | fffffff5 00000001 00000003 2f6578 | TrailingBytes
 bytes after an error in a multi | 0000000e 00000001 ffffffff 00000005 ffffff9b 00 | TrailingBytes
 an id of two halves | 00000001 00000003 2f6561 00000000 00000001 0000001f 00000006 646967657374 00000008 eda0bdedb8803a78 00 00000001 | BadText
@@ -92,8 +95,13 @@ fn operation_told(alloc: Global, operation: &Operation) -> Result<String, Fail> 
                 create.owner, create.asks_stat, create.parent_cversion
             )?
         }
-        Operation::Delete(path) => format!(in alloc; "delete {}", path.as_str())?,
-        Operation::SetData(set) => format!(in alloc; "set {} {}", set.path.as_str(), set.version)?,
+        Operation::Delete(delete) => {
+            format!(in alloc; "delete {} {}", delete.path.as_str(), delete.of_container)?
+        }
+        Operation::SetData(set) => {
+            let path = set.path.as_str();
+            format!(in alloc; "set {path} {} {}", set.version, set.is_reconfig)?
+        }
         Operation::Check(check) => {
             format!(in alloc; "check {} {}", check.path.as_str(), check.version)?
         }

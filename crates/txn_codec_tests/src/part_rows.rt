@@ -64,7 +64,10 @@ fn check_written(alloc: Global) -> Result<Vec<u8>, Fail> {
 fn is_set_data(alloc: Global, bytes: &[u8]) -> Result<bool, ReadError> {
     let mut reader = Reader::new(bytes);
     let set = SetData::read(alloc, &mut reader)?;
-    let is_set = set.path.as_str() == "/a" && set.version == 5 && reader.rest().is_empty();
+    let is_set = set.path.as_str() == "/a"
+        && set.version == 5
+        && !set.is_reconfig
+        && reader.rest().is_empty();
     Ok(is_set && is_x(alloc, &set.bytes)?)
 }
 
@@ -73,6 +76,7 @@ fn set_data_written(alloc: Global) -> Result<Vec<u8>, Fail> {
         path: a_path(alloc)?,
         bytes: Some(Blob::new(alloc, b"x")?),
         version: 5,
+        is_reconfig: false,
     };
     let mut out = Vec::new(alloc);
     set.write(&mut out)?;

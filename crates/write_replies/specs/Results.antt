@@ -49,7 +49,7 @@ set_result (Some stat) = shown_result (done_header requests.SetData) (exists_res
 -- The result of a part that was done.
 abbrev pub done_result : Operation → PartResult → List ℕ
 done_result (op.Create c) outcome = created_result c.path c.asks_stat outcome.stat
-done_result (op.Delete path) outcome = multi_header.written (done_header requests.Delete)
+done_result (op.Delete d) outcome = multi_header.written (done_header requests.Delete)
 done_result (op.SetData s) outcome = set_result outcome.stat
 done_result (op.Check c) outcome = multi_header.written (done_header requests.Check)
 done_result (op.Error error) outcome = error_result outcome.err

@@ -2,7 +2,7 @@
 use Rattle.std.specs.Prelude.{◌≡◌, ◌≢◌, ℕ, List, [], ◌++◌, ◌⊎◌, ◌&&◌, not, Bool, Option, Some, None, nat_eq, codes}
 use Rattle.std.specs.List.{ends_with}
 use Rattle.std.specs.Option.{option_map}
-use Rattle.replay_script.specs.Number.{number_up_to}
+use Rattle.texts.specs.Number.{number_up_to}
 use Rattle.zoo_config.specs.declared.form.Entry.{Entry}
 use Rattle.zoo_config.specs.declared.server.Server.{Server}
 

@@ -6,8 +6,8 @@ ghost use Rattle.zoo_config.specs.Servers.{client_part, IsWithRole, SpellsServer
 
 use crate::error::{BadLine, Reason};
 use crate::form::Entry;
-use replay_script::number_up_to;
 use std::alloc::Global;
+use texts::number_up_to;
 use values::NoMemory;
 
 /// A server of the ensemble.

@@ -16,18 +16,18 @@ def is_request_path(path):
 
 
 def allows(acl, perms, ids):
-    """Whether an entry of a list grants one of these rights to everybody or to one of the ids. The super user has all."""
+    """Whether an entry of a list grants one of these rights to everybody or to one of the ids; super has each."""
     if any(scheme == b"super" for scheme, _ in ids):
         return True
     return any(granted & perms and (who == (b"world", b"anyone") or is_shown(who, ids)) for granted, who in acl)
 
 
 def is_shown(who, ids):
-    """Whether an id is among those of a connection; one of scheme ip may mean many addresses."""
+    """Whether an id is among those of a connection; one of scheme ip may mean many addresses, beside its own text."""
     scheme, text = who
-    if scheme == b"ip":
-        return any(each == b"ip" and is_address_in(address, text) for each, address in ids)
-    return who in ids
+    if who in ids:
+        return True
+    return scheme == b"ip" and any(each == b"ip" and is_address_in(address, text) for each, address in ids)
 
 
 def is_address_in(address, text):

@@ -1,5 +1,5 @@
 use Rattle.std.proofs.Common.{◌≡◌, ◌++◌, drop, map}
-use Rattle.read_processor.specs.Digests.{client_info_of}
+use Rattle.permissions.specs.Digests.{client_info_of}
 use Rattle.read_processor.proofs.later_reads.infos_of.Given as goal
 
 abbrev pub invariant-loop-id : goal.invariant-loop-id

@@ -3,7 +3,7 @@ use Rattle.jute.specs.Format.{vector_of}
 use Rattle.client_records.specs.Responses.{client_info, who_am_i_response}
 use Rattle.client_records.specs.declared.response.ClientInfo.{ClientInfo}
 use Rattle.read_processor.specs.Limits.{body_limit}
-use Rattle.read_processor.specs.Digests.{client_info_of}
+use Rattle.permissions.specs.Digests.{client_info_of}
 use Rattle.read_processor.specs.declared.shown.Look.{Look}
 use Rattle.read_processor.proofs.Filling.{too_long}
 use Rattle.read_processor.proofs.Writing.{infos_writable}

@@ -1,5 +1,5 @@
 use Rattle.std.proofs.Common.{◌+◌, None, Some, sym, ap, ◌∙◌, cond, length, arith}
-use Rattle.replay_script.specs.Cut.{cut_at}
+use Rattle.texts.specs.Cut.{cut_at}
 use Rattle.replay_script.specs.Script.{PartialScript, lines_of, or_bad, script_after, empty_script}
 use Rattle.replay_script.proofs.Reading.{lines_behind, length_behind, length_behind_cut, named, reads}
 use Rattle.replay_script.proofs.parser.parse.Goals as goal

@@ -3,7 +3,6 @@ use mir.Val.{SFits}
 use Rattle.std.specs.FinMap as finmap
 use Rattle.std.proofs.Math.Path.{subst}
 use Rattle.jute.specs.declared.codes.TheConstants.{NO_NODE}
-use Rattle.txn_codec.specs.declared.txn.Operation.TheVariants as op
 use Rattle.data_tree.specs.Inner.Doing.{IsEffectDone}
 use Rattle.data_tree.specs.Inner.Mending.{with_missing}
 use Rattle.std.proofs.lemmas.Int.{to_z-of_z}
@@ -11,7 +10,7 @@ use Rattle.std.proofs.lemmas.Grind.{common_steps}
 use Rattle.ephemerals.specs.Pairs.{without_pair}
 use Rattle.paths_and_acls.specs.Paths.{parent_of}
 use Rattle.data_tree.specs.State.{State}
-use Rattle.data_tree.specs.Meaning.{Effect, after_changes, delete_at, of_operation}
+use Rattle.data_tree.specs.Meaning.{Effect, after_changes, delete_at, delete_of, of_operation}
 use Rattle.node_map.specs.Updates.{update_node}
 use Rattle.node_map.specs.Children.{without_child}
 use Rattle.data_tree.specs.declared.outcome.Trigger.{Trigger}
@@ -28,9 +27,9 @@ returns-in_default c =
     record { nodes = c.remove.new.self; pairs = c.self.inside.ephemerals; sessions = c.self.inside.timeouts } in
     let ended : c.miss.new.self ≡ with_missing c.args.header.now.rules c.args.header.now c.args.path.now t =
     c.miss.ensures in
-    subst (λ (s : State). IsEffectDone (of_operation c.args.header.now (op.Delete c.args.path.now) s) NO_NODE
+    subst (λ (s : State). IsEffectDone (of_operation c.args.header.now (delete_of c.args.path.now) s) NO_NODE
     c.miss.new.self c.args.triggers.now.items c.truncate.new.self.items) c.self.view_is
-    (subst (λ (s : State). IsEffectDone (of_operation c.args.header.now (op.Delete c.args.path.now) before) NO_NODE s
+    (subst (λ (s : State). IsEffectDone (of_operation c.args.header.now (delete_of c.args.path.now) before) NO_NODE s
     c.args.triggers.now.items c.truncate.new.self.items) (sym ended)
     (missing-done before c.args.header.now c.args.path.now c.remove.new.self c.args.triggers.now.items
     c.truncate.new.self.items c.in_default.ensures.value c.in_default.ensures.removed front))

@@ -1,0 +1,2 @@
+-- Entries and ids that were worked out by hand.
+pub mod Rows

@@ -1,0 +1,4 @@
+pub mod Addresses
+pub mod Digests
+pub mod Permissions
+pub mod Rows

@@ -1,0 +1,2 @@
+-- Decimal numbers, digit by digit.
+pub mod Numbers
