@@ -1,17 +1,15 @@
 //! The texts of clients' addresses.
 
 use std::alloc::Global;
-use std::fmt;
-use std::fmt::Write;
 use std::net::{IpAddr, Ipv6Addr};
 use values::{NoMemory, Text};
 
 // Appends the eight groups of an address, each in hexadecimal digits without zeros in front.
-fn put_groups(text: &mut String, address: &Ipv6Addr) -> fmt::Result {
+fn put_groups(text: &mut String, address: &Ipv6Addr) -> Result<(), NoMemory> {
     let mut is_first = true;
     for group in address.segments() {
         if !is_first {
-            write!(text, ":")?;
+            text.push_str(":")?;
         }
         is_first = false;
         write!(text, "{group:x}")?;
@@ -19,11 +17,12 @@ fn put_groups(text: &mut String, address: &Ipv6Addr) -> fmt::Result {
     Ok(())
 }
 
-fn put_address(text: &mut String, address: &IpAddr) -> fmt::Result {
+fn put_address(text: &mut String, address: &IpAddr) -> Result<(), NoMemory> {
     match address {
-        IpAddr::V4(address) => write!(text, "{address}"),
-        IpAddr::V6(address) => put_groups(text, address),
+        IpAddr::V4(address) => write!(text, "{address}")?,
+        IpAddr::V6(address) => put_groups(text, address)?,
     }
+    Ok(())
 }
 
 /// The text of an address, as the servers of an ensemble write it, so that an entry of an access control list names the
@@ -31,8 +30,6 @@ fn put_address(text: &mut String, address: &IpAddr) -> fmt::Result {
 /// written as that of IPv4.
 pub(crate) fn address_text(alloc: Global, address: IpAddr) -> Result<Text, NoMemory> {
     let mut text = String::new(alloc);
-    match put_address(&mut text, &address.to_canonical()) {
-        Err(_) => Err(NoMemory),
-        Ok(()) => Text::new(alloc, text.as_str()),
-    }
+    put_address(&mut text, &address.to_canonical())?;
+    Text::new(alloc, text.as_str())
 }
