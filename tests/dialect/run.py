@@ -27,6 +27,7 @@ SECONDS = 60
 # What isn't done yet, and the rows that ask for it.
 NOT_YET = {
     "addresses": "address",
+    "reads of the super user": "super",
 }
 
 

@@ -44,8 +44,9 @@ class Bench:
     """What a suite works with: the leader, the server under test, and their folder. `against` says what is under test,
     and `dialect` what else Java is told for each real server."""
 
-    # What a suite needs besides the default settings: properties of Java, and lines of the configuration.
-    FLAGS, LINES = (), ()
+    # What a suite needs besides the default settings: properties of Java, lines of the configuration, and options of the
+    # program that say the same.
+    FLAGS, LINES, OPTIONS = (), (), ()
 
     def __init__(self, program, folder):
         self.against, self.dialect, self.folder = PROGRAM, (), folder
@@ -81,7 +82,7 @@ class Bench:
             return
         if self.against == PROGRAM:
             later = () if self.dialect else ("info", "--dialect", "3.8")
-            self.ours.start(self.places[0].quorum, self.places[1].client, *later)
+            self.ours.start(self.places[0].quorum, self.places[1].client, *later, *self.OPTIONS)
         else:
             self.theirs.start((*self.dialect, *self.FLAGS), "Mode: observer")
 

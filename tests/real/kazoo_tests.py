@@ -40,7 +40,9 @@ class Bench(defaults.Bench):
     """The ensemble with the settings of kazoo's harness, and the outcomes of the files whose tests have run."""
 
     LINES = ("4lw.commands.whitelist=*", "reconfigEnabled=true", "maxClientCnxns=0")
-    FLAGS = ("-Dzookeeper.DigestAuthenticationProvider.superDigest=super:D/InIHSb7yEEbrWz8b9l71RjZJU=",)
+    SUPER = "super:D/InIHSb7yEEbrWz8b9l71RjZJU="
+    FLAGS = (f"-Dzookeeper.DigestAuthenticationProvider.superDigest={SUPER}",)
+    OPTIONS = ("--super-digest", SUPER)
 
     def __init__(self, program, folder):
         super().__init__(program, folder)

@@ -12,7 +12,7 @@ from typing import List, NamedTuple
 import drawn_bodies as bodies
 import drawn_packets as packets
 import drawn_requests as requests
-from clients import signed
+from clients import digest_id, signed
 from dialects import Dialect
 from learner import DOWN, HELLO, IMAGE, REPLAY, SERVING, SYNCING
 from observer import Observer, play
@@ -137,13 +137,15 @@ class Drawing:
             told["timeouts"] = self.one(((1, 1), (4000, 9000), (10000, 2**31 - 1), (20000, 20000)))
         if self.chance(0.25):
             told["secret"] = self.one((b"\0", b"secret", bytes(64)))
+        if self.chance(0.1):
+            told["super_digest"] = digest_id(self.one(bodies.USERS))[1].decode()
         if self.chance(0.6):
             told["primed"] = True
         for name in self.dice.sample(sorted(told), len(told)):
             value = told[name]
             words = value if isinstance(value, tuple) else () if value is True else (value,)
             words = [it.hex() if isinstance(it, bytes) else str(it) for it in words]
-            self.atoms.append(Atom(0, " ".join([name, *words])))
+            self.atoms.append(Atom(0, " ".join([name.removesuffix("_digest"), *words])))
         if self.is_later:
             told["dialect"] = self.dialect
             self.atoms.append(Atom(0, f"dialect {self.dialect.value}"))

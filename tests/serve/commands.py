@@ -46,6 +46,7 @@ BAD = [
     (GOOD + ["--dialect", "3.9"], "--dialect 3.9: 3.4 or 3.8"),
     (GOOD + ["--counter", str(MOST_COUNTER + 1)], f"--counter {MOST_COUNTER + 1}: 0 to {MOST_COUNTER}"),
     (GOOD + ["--secret-file"], "--secret-file has no value"),
+    (GOOD + ["--super-digest", "super:test"], "--super-digest super:test: a user, a colon and SHA-1 of"),
     (GOOD + ["--secret-file", "/no/such/file"], "--secret-file /no/such/file: there is no such file: "),
     (GOOD + ["--max-clients", "0"], "--max-clients 0: "),
     (GOOD + ["--max-per-address", "0"], "--max-per-address 0: at least 1"),

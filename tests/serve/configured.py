@@ -64,9 +64,11 @@ def test_a_file_starts_it():
 
 
 def test_an_option_wins():
-    with file_of(text_of("server.7=zk1:2888:3888")) as name:
+    digest = "DigestAuthenticationProvider.superDigest=super:D/InIHSb7yEEbrWz8b9l71RjZJU="
+    with file_of(text_of("server.7=zk1:2888:3888", digest)) as name:
         status, out, told = commands.run("--check-config", name, "--tick", "500", "--words", "none")
     assert (status, told) == (0, ""), (status, told)
+    assert " --super-digest super:x" in out, out
     assert " --tick 500 " in out and out.rstrip().endswith(" --words none"), out
 
 

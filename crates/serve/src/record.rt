@@ -96,11 +96,21 @@ fn put_settings(out: &mut Vec<u8>, settings: &Settings) -> Result<(), NoMemory> 
     {
         return Err(NoMemory);
     }
-    if settings.secret.as_slice().is_empty() {
-        return Ok(());
+    if !settings.secret.as_slice().is_empty() {
+        put(out, b"secret ")?;
+        put_hex(out, settings.secret.as_slice())?;
+        put(out, b"\n")?;
     }
-    put(out, b"secret ")?;
-    put_hex(out, settings.secret.as_slice())?;
+    put_super(out, settings)
+}
+
+// Appends the line of the super user's digest, if there is one.
+fn put_super(out: &mut Vec<u8>, settings: &Settings) -> Result<(), NoMemory> {
+    let Some(digest) = &settings.super_digest else {
+        return Ok(());
+    };
+    put(out, b"super ")?;
+    put(out, digest.as_str().as_bytes())?;
     put(out, b"\n")
 }
 
@@ -141,7 +151,7 @@ impl<W: Write + Drop> Record<W> {
     }
 
     /// Records the observer's settings that aren't those of every script: its id, the dialect, the counter after which
-    /// its session ids begin, and the secret of passwords, if there is one.
+    /// its session ids begin, and the secret of passwords and the super user's digest, if there are any.
     pub fn begin(&mut self, settings: &Settings) {
         if self.writer.is_none() {
             return;

@@ -31,6 +31,7 @@ use std::sync::{Arc, Wait};
 use std::thread::{JoinHandle, Threads};
 use std::time::{Clock, Duration, SystemTime};
 use std::{fs, io, net, slice, thread};
+use values::{NoMemory, Text};
 
 // Work that is less than this is done by the hub's thread: starting threads takes as long as storing some megabytes.
 // Small reads are quicker on one thread even in runs of some thousands.
@@ -58,7 +59,16 @@ fn first_counter<R: Clock>(rt: &R, options: &Options<'_>) -> io::Result<FirstCou
 }
 
 // The observer's settings. Those without an option have the defaults of a script.
-fn config_of(options: &Options<'_>, secret: Secret, first_counter: FirstCounter) -> Config {
+fn config_of(
+    alloc: Global,
+    options: &Options<'_>,
+    secret: Secret,
+    first_counter: FirstCounter,
+) -> Result<Config, NoMemory> {
+    let super_digest = match options.super_digest {
+        Some(digest) => Some(Text::new(alloc, digest)?),
+        None => None,
+    };
     let settings = Settings {
         server_id: options.server_id,
         epochs: Epochs::default(),
@@ -66,8 +76,9 @@ fn config_of(options: &Options<'_>, secret: Secret, first_counter: FirstCounter)
         secret,
         first_counter,
         dialect: options.dialect,
+        super_digest,
     };
-    Config::from_settings(settings, options.limits).with_threshold(WORTH_THREADS)
+    Ok(Config::from_settings(settings, options.limits).with_threshold(WORTH_THREADS))
 }
 
 // Creates or empties a file. A new one can be read by its owner alone.
@@ -314,7 +325,7 @@ pub(crate) fn try_serve_on<
     let file = record_file(rt, alloc, options)?;
     let mut record = Record::new(alloc, file);
     let port = listener.local_addr()?.port();
-    let config = config_of(options, secret, first_counter);
+    let config = config_of(alloc, options, secret, first_counter)?;
     record.begin(&config.settings);
     let prepared = prepare(rt, alloc, options, origin, listener)?;
     let Logging {

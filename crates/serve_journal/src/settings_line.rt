@@ -61,6 +61,17 @@ impl<'a> SettingsLine<'a> {
         )
     }
 
+    // The super user, with an `x` in place of the hash, as getACL shows digests to others.
+    fn put_super<W: fmt::Write>(&self, f: &mut fmt::Formatter<W>) -> fmt::Result {
+        let Some(digest) = self.options.super_digest else {
+            return Ok(());
+        };
+        match digest.split_once(':') {
+            None => Ok(()),
+            Some((user, _)) => write!(f, " --super-digest {user}:x"),
+        }
+    }
+
     fn put_rest<W: fmt::Write>(&self, f: &mut fmt::Formatter<W>) -> fmt::Result {
         if let Some(seconds) = self.options.give_up {
             write!(f, " --give-up {seconds}")?;
@@ -69,6 +80,7 @@ impl<'a> SettingsLine<'a> {
             let counter = counter.number();
             write!(f, " --counter {counter}")?;
         }
+        self.put_super(f)?;
         if let Some(file) = self.options.secret_file {
             write!(f, " --secret-file {file}")?;
         }

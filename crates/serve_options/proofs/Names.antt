@@ -3,7 +3,7 @@ use Rattle.std.proofs.Common.{◌≡◌, ◌≢◌, ◌<◌, ◌+◌, ℕ, List,
 use Rattle.std.specs.Prelude.{slice_index_or}
 use Rattle.std.proofs.Math.Nat.{eq-or-lt_of_le}
 use Rattle.serve_options.specs.declared.row.Name.{Name}
-use Rattle.serve_options.specs.declared.row.Name.TheVariants.{Config, CheckConfig, Leader, Servers, Client, Id, Dialect, Counter, SecretFile, Workers, Batch, MaxClients, MaxPerAddress, MaxUnderWay, MaxWatches, Unconnected, Words, Tick, InitLimit, SyncLimit, Checkpoint, GiveUp, Record, Log, LogFormat, Help, Version}
+use Rattle.serve_options.specs.declared.row.Name.TheVariants.{Config, CheckConfig, Leader, Servers, Client, Id, Dialect, Counter, SecretFile, SuperDigest, Workers, Batch, MaxClients, MaxPerAddress, MaxUnderWay, MaxWatches, Unconnected, Words, Tick, InitLimit, SyncLimit, Checkpoint, GiveUp, Record, Log, LogFormat, Help, Version}
 use Rattle.serve_options.specs.declared.row.TheConstants.{NAMES}
 use Rattle.serve_options.specs.Given.{name_place}
 use Rattle.serve_options.specs.Rows.{option_word}
@@ -18,6 +18,7 @@ name_at Id = refl
 name_at Dialect = refl
 name_at Counter = refl
 name_at SecretFile = refl
+name_at SuperDigest = refl
 name_at Workers = refl
 name_at Batch = refl
 name_at MaxClients = refl
@@ -37,7 +38,7 @@ name_at LogFormat = refl
 name_at Help = refl
 name_at Version = refl
 
-pub place_below : (name : Name) → name_place name < 27
+pub place_below : (name : Name) → name_place name < 28
 place_below Config = lit< tt
 place_below CheckConfig = lit< tt
 place_below Leader = lit< tt
@@ -47,6 +48,7 @@ place_below Id = lit< tt
 place_below Dialect = lit< tt
 place_below Counter = lit< tt
 place_below SecretFile = lit< tt
+place_below SuperDigest = lit< tt
 place_below Workers = lit< tt
 place_below Batch = lit< tt
 place_below MaxClients = lit< tt

@@ -75,6 +75,7 @@ pub record IsSetBy (given : List Given) (options : Options) : Type 0 where
   pub dialect : dialect_given given ≡ Some options.dialect
   pub counter : options.first_counter ≡ number_given names.Counter given
   pub secret : option_map (λ name. name.now) options.secret_file ≡ value_of names.SecretFile given
+  pub super_digest : option_map (λ digest. digest.now) options.super_digest ≡ value_of names.SuperDigest given
   pub workers : number_given names.Workers given ≡ Some options.limits.workers
   pub batch : number_given names.Batch given ≡ Some options.limits.batch
   pub clients : options.max_clients ≡ number_given names.MaxClients given

@@ -5,7 +5,7 @@ use Rattle.std.specs.List.{find, starts_with}
 use Rattle.std.specs.Option.{option_map}
 use Rattle.values.specs.Maybe.{◌>>=◌}
 use Rattle.serve_options.specs.declared.row.Name.{Name}
-use Rattle.serve_options.specs.declared.row.Name.TheVariants.{Config, CheckConfig, Leader, Servers, Client, Id, Dialect, Counter, SecretFile, Workers, Batch, MaxClients, MaxPerAddress, MaxUnderWay, MaxWatches, Unconnected, Words, Tick, InitLimit, SyncLimit, Checkpoint, GiveUp, Record, Log, LogFormat, Help, Version}
+use Rattle.serve_options.specs.declared.row.Name.TheVariants.{Config, CheckConfig, Leader, Servers, Client, Id, Dialect, Counter, SecretFile, SuperDigest, Workers, Batch, MaxClients, MaxPerAddress, MaxUnderWay, MaxWatches, Unconnected, Words, Tick, InitLimit, SyncLimit, Checkpoint, GiveUp, Record, Log, LogFormat, Help, Version}
 use Rattle.serve_options.specs.declared.row.Kind.{Kind}
 use Rattle.serve_options.specs.declared.row.Kind.TheVariants.{Nothing, Level}
 use Rattle.serve_options.specs.declared.error.OptionError.{OptionError}
@@ -24,24 +24,25 @@ name_place Id = 5
 name_place Dialect = 6
 name_place Counter = 7
 name_place SecretFile = 8
-name_place Workers = 9
-name_place Batch = 10
-name_place MaxClients = 11
-name_place MaxPerAddress = 12
-name_place MaxUnderWay = 13
-name_place MaxWatches = 14
-name_place Unconnected = 15
-name_place Words = 16
-name_place Tick = 17
-name_place InitLimit = 18
-name_place SyncLimit = 19
-name_place Checkpoint = 20
-name_place GiveUp = 21
-name_place Record = 22
-name_place Log = 23
-name_place LogFormat = 24
-name_place Help = 25
-name_place Version = 26
+name_place SuperDigest = 9
+name_place Workers = 10
+name_place Batch = 11
+name_place MaxClients = 12
+name_place MaxPerAddress = 13
+name_place MaxUnderWay = 14
+name_place MaxWatches = 15
+name_place Unconnected = 16
+name_place Words = 17
+name_place Tick = 18
+name_place InitLimit = 19
+name_place SyncLimit = 20
+name_place Checkpoint = 21
+name_place GiveUp = 22
+name_place Record = 23
+name_place Log = 24
+name_place LogFormat = 25
+name_place Help = 26
+name_place Version = 27
 
 abbrev pub is_named : Name → Given → Bool
 is_named name option = nat_eq (name_place option.name) (name_place name)

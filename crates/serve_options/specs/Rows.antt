@@ -1,7 +1,7 @@
 -- The options: the word of each, and what its value may be.
 use Rattle.std.specs.Prelude.{ℕ, ◌-◌, ◌^◌, ◌≤◌, List, codes}
 use Rattle.serve_options.specs.declared.row.Name.{Name}
-use Rattle.serve_options.specs.declared.row.Name.TheVariants.{Config, CheckConfig, Leader, Servers, Client, Id, Dialect, Counter, SecretFile, Workers, Batch, MaxClients, MaxPerAddress, MaxUnderWay, MaxWatches, Unconnected, Words, Tick, InitLimit, SyncLimit, Checkpoint, GiveUp, Record, Log, LogFormat, Help, Version}
+use Rattle.serve_options.specs.declared.row.Name.TheVariants.{Config, CheckConfig, Leader, Servers, Client, Id, Dialect, Counter, SecretFile, SuperDigest, Workers, Batch, MaxClients, MaxPerAddress, MaxUnderWay, MaxWatches, Unconnected, Words, Tick, InitLimit, SyncLimit, Checkpoint, GiveUp, Record, Log, LogFormat, Help, Version}
 use Rattle.serve_options.specs.declared.row.Bounds.{Bounds}
 use Rattle.serve_options.specs.declared.row.Kind.{Kind}
 use Rattle.serve_options.specs.declared.row.Kind.TheVariants as kinds
@@ -16,6 +16,7 @@ option_word Id = codes "--id"
 option_word Dialect = codes "--dialect"
 option_word Counter = codes "--counter"
 option_word SecretFile = codes "--secret-file"
+option_word SuperDigest = codes "--super-digest"
 option_word Workers = codes "--workers"
 option_word Batch = codes "--batch"
 option_word MaxClients = codes "--max-clients"
@@ -49,6 +50,7 @@ option_kind Id = from_to 1 255
 option_kind Dialect = kinds.Release
 option_kind Counter = from_to 0 (2 ^ 56 - 2)
 option_kind SecretFile = kinds.File
+option_kind SuperDigest = kinds.Digest
 option_kind Workers = from_to 1 64
 option_kind Batch = from_to 1 4096
 option_kind MaxClients = from_to 1 (2 ^ 64 - 1)

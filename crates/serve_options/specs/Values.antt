@@ -1,5 +1,6 @@
 -- The values of options.
-use Rattle.std.specs.Prelude.{◌≡◌, ◌≢◌, ℕ, List, [], ◌++◌, ◌⊎◌, Option, Some, None, nat_le, if◌then◌else◌, codes}
+use Rattle.std.specs.Prelude.{◌≡◌, ◌≢◌, ◌==◌, ◌&&◌, not, ℕ, List, [], ◌++◌, length, ◌⊎◌, Bool, Option, Some, None, nat_le, if◌then◌else◌, codes}
+use Rattle.std.specs.List.{list_any, after_first}
 use Rattle.std.specs.Str.{bytes_eq}
 use Rattle.log.specs.declared.level.LevelFilter.{LevelFilter}
 use Rattle.log.specs.declared.level.LevelFilter.TheVariants.{Off, Error, Warn, Info, Debug}
@@ -40,6 +41,11 @@ dialect_of text =
     if bytes_eq text (codes "3.4") then Some Zk34
     else (if bytes_eq text (codes "3.8") then Some Zk38
     else None)
+
+-- A user, a colon and a hash, on one line: SHA-1 has 20 bytes, which are 28 letters in base64.
+abbrev pub is_digest : List ℕ → Bool
+is_digest text =
+    not (list_any (λ letter. letter == 10) text) && length (after_first (λ letter. letter == 58) text) == 28
 
 -- A host before a colon and a port: as it is, or in brackets.
 abbrev pub SpellsHost : List ℕ → List ℕ → Type 0

@@ -1,8 +1,8 @@
 //! The commands of `serve`.
 
-ghost use Rattle.std.specs.Prelude.{◌≡◌, ◌++◌, ℕ, pos, List, map, string_bytes, None, Some, IfSome, IfNone, IfOk, option_map};
+ghost use Rattle.std.specs.Prelude.{◌≡◌, ◌++◌, ℕ, pos, List, map, string_bytes, true, None, Some, IfSome, IfNone, IfOk, option_map};
 ghost use Rattle.serve_options.specs.Rows.{option_bounds, IsWithin};
-ghost use Rattle.serve_options.specs.Values.{number_within, SpellsAddress};
+ghost use Rattle.serve_options.specs.Values.{number_within, SpellsAddress, is_digest};
 ghost use Rattle.serve_options.specs.Given.{value_of, number_given, number_answer};
 ghost use Rattle.serve_options.specs.Commands.{IsWithinBounds, IsSetBy, IsFileOf, AreOptionsOver, AreWordsOf, AreServersOf, id_given, words_given, level_given, format_given, dialect_given};
 
@@ -10,8 +10,8 @@ use crate::error::OptionError;
 use crate::given::{Given, find_given, given_in, spelled};
 use crate::row::{Bounds, Kind, Name};
 use crate::value::{
-    Address, LogFormat, address_of, addresses_of, dialect_of, format_of, has_host, level_of,
-    number_within,
+    Address, LogFormat, address_of, addresses_of, dialect_of, format_of, has_host, is_digest,
+    level_of, number_within,
 };
 use crate::words::{Words, words_of};
 use batcher::Limits;
@@ -43,6 +43,8 @@ pub struct Options<'a> {
     pub first_counter: Option<FirstCounter>,
     /// The file of the secret that the passwords of sessions are made of.
     pub secret_file: Option<&'a str>,
+    /// The digest that makes a super user of a client.
+    pub super_digest: Option<&'a str>,
     pub limits: Limits,
     /// How many clients may be connected at a time, at least 1.
     pub max_clients: Option<u64>,
@@ -117,7 +119,8 @@ fn bounds_of(name: Name) -> Bounds
         | Kind::File
         | Kind::Level
         | Kind::Format
-        | Kind::Release => ANY,
+        | Kind::Release
+        | Kind::Digest => ANY,
     }
 }
 
@@ -276,6 +279,20 @@ fn dialect_in<'a>(given: &[Given<'a>]) -> Result<Dialect, OptionError<'a>>
     }
 }
 
+// The digest of the super user, if there is one.
+fn digest_in<'a>(given: &[Given<'a>]) -> Result<Option<&'a str>, OptionError<'a>>
+    ensures digest { IfOk result (λ digest. option_map (λ text. text.now) digest ≡ value_of Name.SuperDigest given.now) }
+    ensures form { IfOk result (λ digest. IfSome digest (λ text. is_digest text.now ≡ true)) }
+{
+    let Some(value) = spelled(given, Name::SuperDigest) else {
+        return Ok(None);
+    };
+    if !is_digest(value) {
+        return Err(invalid(Name::SuperDigest, value));
+    }
+    Ok(Some(value))
+}
+
 fn options_in<'a>(alloc: Global, given: &[Given<'a>]) -> Result<Options<'a>, OptionError<'a>>
     ensures set { IfOk result (IsSetBy given.now) }
     ensures bounds { IfOk result IsWithinBounds }
@@ -288,6 +305,7 @@ fn options_in<'a>(alloc: Global, given: &[Given<'a>]) -> Result<Options<'a>, Opt
         dialect: dialect_in(given)?,
         first_counter: counter_in(given)?,
         secret_file: spelled(given, Name::SecretFile),
+        super_digest: digest_in(given)?,
         limits: limits_in(given)?,
         max_clients: number_in(given, Name::MaxClients)?,
         max_per_address: number_in(given, Name::MaxPerAddress)?,

@@ -17,12 +17,16 @@ pub struct Filed {
 }
 
 // The options that are set by one key each.
-const KEYS: [(&str, Name); 5] = [
+const KEYS: [(&str, Name); 6] = [
     ("tickTime", Name::Tick),
     ("initLimit", Name::InitLimit),
     ("syncLimit", Name::SyncLimit),
     ("maxClientCnxns", Name::MaxPerAddress),
     ("maxCnxns", Name::MaxClients),
+    (
+        "DigestAuthenticationProvider.superDigest",
+        Name::SuperDigest,
+    ),
 ];
 
 const MOST_ID: u64 = 255;

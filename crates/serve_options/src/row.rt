@@ -18,6 +18,7 @@ pub enum Name {
     Dialect,
     Counter,
     SecretFile,
+    SuperDigest,
     Workers,
     Batch,
     MaxClients,
@@ -39,7 +40,7 @@ pub enum Name {
 }
 
 /// The options, in the order in which help lists them.
-pub const NAMES: [Name; 27] = [
+pub const NAMES: [Name; 28] = [
     Name::Config,
     Name::CheckConfig,
     Name::Leader,
@@ -49,6 +50,7 @@ pub const NAMES: [Name; 27] = [
     Name::Dialect,
     Name::Counter,
     Name::SecretFile,
+    Name::SuperDigest,
     Name::Workers,
     Name::Batch,
     Name::MaxClients,
@@ -97,6 +99,8 @@ pub enum Kind {
     Format,
     /// The release whose dialect is spoken.
     Release,
+    /// A user and the hash of its password.
+    Digest,
 }
 
 impl fmt::Display for Kind {
@@ -116,6 +120,7 @@ impl fmt::Display for Kind {
             Kind::Level => f.write_str("off, error, warn, info or debug"),
             Kind::Format => f.write_str("text or json"),
             Kind::Release => f.write_str("3.4 or 3.8"),
+            Kind::Digest => f.write_str("a user, a colon and SHA-1 of `USER:PASSWORD` in base64"),
         }
     }
 }
@@ -220,6 +225,14 @@ const SECRET_FILE: Row = Row {
     kind: Kind::File,
     without: Without::Meaning("as ZooKeeper's own servers make them; in dialect 3.4 of no secret"),
     help: "makes the passwords of sessions of the 1 to 64 bytes in this file, which others can't read",
+};
+
+const SUPER_DIGEST: Row = Row {
+    word: "--super-digest",
+    value: "USER:HASH",
+    kind: Kind::Digest,
+    without: Without::Meaning("there is no super user"),
+    help: "makes the super user of who knows the password of this digest, whom every access list lets in",
 };
 
 const WORKERS: Row = Row {
@@ -416,6 +429,7 @@ impl Name {
             Name::Dialect => DIALECT,
             Name::Counter => COUNTER,
             Name::SecretFile => SECRET_FILE,
+            Name::SuperDigest => SUPER_DIGEST,
             Name::Workers => WORKERS,
             Name::Batch => BATCH,
             Name::MaxClients => MAX_CLIENTS,

@@ -1,8 +1,9 @@
 //! The values of options.
 
-ghost use Rattle.std.specs.Prelude.{◌≡◌, ◌≤◌, ℕ, Some, IfSome, IfOk, vec_len};
+ghost use Rattle.std.specs.Prelude.{◌≡◌, ◌≤◌, ◌==◌, ℕ, Some, IfSome, IfOk, vec_len};
+ghost use Rattle.std.specs.List.{list_any};
 ghost use Rattle.serve_options.specs.Rows.{IsWithin};
-ghost use Rattle.serve_options.specs.Values.{number_within, port_number_of, SpellsHost, SpellsAddress, level_of, format_of, dialect_of};
+ghost use Rattle.serve_options.specs.Values.{number_within, port_number_of, SpellsHost, SpellsAddress, level_of, format_of, dialect_of, is_digest};
 
 use crate::row::Bounds;
 use log::LevelFilter;
@@ -41,6 +42,9 @@ pub enum LogFormat {
 const LOCAL: &str = "127.0.0.1";
 
 const MOST_PORT: u64 = 65_535;
+
+// The letters of a hash of SHA-1 in base64.
+const HASH_LETTERS: usize = 28;
 
 // The most servers of a list.
 const MOST_SERVERS: usize = 64;
@@ -177,5 +181,24 @@ pub fn release_of(dialect: Dialect) -> &'static str
     match dialect {
         Dialect::Zk34 => "3.4",
         Dialect::Zk38 => "3.8",
+    }
+}
+
+fn has_line_end(text: &[u8]) -> bool
+    ensures { result ≡ list_any (λ letter. letter == 10) text.now }
+{
+    text.iter().any(|letter| *letter == b'\n')
+}
+
+/// Whether a text may be a digest: a user, a colon, and as many letters as a hash of SHA-1 has in base64, on one line.
+pub(crate) fn is_digest(text: &str) -> bool
+    ensures { result ≡ is_digest text.now }
+{
+    if has_line_end(text.as_bytes()) {
+        return false;
+    }
+    match text.split_once(':') {
+        None => return false,
+        Some((_, hash)) => hash.len() == HASH_LETTERS,
     }
 }

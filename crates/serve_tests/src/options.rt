@@ -44,10 +44,26 @@ fn some_lines_are_refused(rt: HostRuntime) -> Result<(), Fail> {
         "--leader 1 --client 2 --record --log",
         "--leader 1 --client 2 --log --log",
         "--leader 1 --client 2 --quiet",
+        "--leader 1 --client 2 --super-digest super:test",
+        "--leader 1 --client 2 --super-digest D/InIHSb7yEEbrWz8b9l71RjZJU=",
         "--leader 1 --client 2 3",
     ] {
         assert!(rt; !is_line(alloc, line)?, "{line}");
     }
+    Ok(())
+}
+
+#[test]
+fn a_digest_is_read(rt: HostRuntime) -> Result<(), Fail> {
+    let alloc = rt.alloc();
+    let words = words(
+        alloc,
+        "--client 21 --leader 2888 --super-digest super:D/InIHSb7yEEbrWz8b9l71RjZJU=",
+    )?;
+    let Ok(Command::Serve(options)) = command_of(alloc, words.as_slice()) else {
+        return Err(Fail::from("refused"));
+    };
+    assert!(rt; options.super_digest == Some("super:D/InIHSb7yEEbrWz8b9l71RjZJU="));
     Ok(())
 }
 

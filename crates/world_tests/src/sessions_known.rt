@@ -88,6 +88,7 @@ fn timeouts(alloc: Global, counts_told: bool) -> Result<[i32; 4], NoMemory> {
         TimeoutBounds::default(),
         Passwords::Java,
         FirstCounter::default(),
+        None,
     );
     admit(alloc, &mut sessions, 1, 5, 24_000)?;
     admit(alloc, &mut sessions, 2, 7, 5000)?;

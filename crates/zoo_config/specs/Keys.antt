@@ -51,6 +51,7 @@ is_taken key =
     || bytes_eq key (codes "tickTime") || bytes_eq key (codes "initLimit") || bytes_eq key (codes "syncLimit")
     || bytes_eq key (codes "maxClientCnxns") || bytes_eq key (codes "maxCnxns")
     || bytes_eq key (codes "4lw.commands.whitelist")
+    || bytes_eq key (codes "DigestAuthenticationProvider.superDigest")
 
 -- It has a meaning for an observer, but none here.
 abbrev pub is_unheeded : List ℕ → Bool

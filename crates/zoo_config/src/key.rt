@@ -120,6 +120,7 @@ fn is_taken(key: &str) -> bool
         || key == "maxClientCnxns"
         || key == "maxCnxns"
         || key == "4lw.commands.whitelist"
+        || key == "DigestAuthenticationProvider.superDigest"
 }
 
 fn is_unheeded(key: &str) -> bool

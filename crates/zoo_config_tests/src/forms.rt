@@ -83,6 +83,11 @@ fn keys_mean_what_they_mean_to_an_observer(rt: HostRuntime) -> Result<(), Fail> 
         ("server.1", "zk1:2888:3888", Meaning::Taken),
         ("maxCnxns", "0", Meaning::Taken),
         ("4lw.commands.whitelist", "*", Meaning::Taken),
+        (
+            "DigestAuthenticationProvider.superDigest",
+            "a:b",
+            Meaning::Taken,
+        ),
         ("sslQuorum", "false", Meaning::Idle),
         ("digest.enabled", "false", Meaning::Idle),
         ("quorum.auth.enableSasl", "false", Meaning::Idle),

@@ -26,6 +26,7 @@ MARSHALLING_ERROR, UNIMPLEMENTED, BAD_ARGUMENTS = -5, -6, -8
 AUTH_FAILED, SESSION_MOVED, NOT_READ_ONLY, NO_WATCHER = -115, -118, -119, -121
 REQUEST, FRAME_LIMIT, PENDING_LIMIT, TOUCHED_LIMIT = 1, 1_048_575, 1024, 87_381
 IDS_LIMIT, BYTES_OF_IDS_LIMIT = 1024, 65_536
+SUPER_ID = (b"super", b"")
 LONGEST_REPLY = 2**31 - 1
 GREATEST_COUNTER = 2**56 - 1
 
@@ -87,8 +88,9 @@ class Connection:
 class Clients:
     """The clients of an observer. `out` takes what goes out, each a line of a replay without its end."""
 
-    def __init__(self, learner, counter, timeouts, secret, out):
+    def __init__(self, learner, counter, timeouts, secret, out, super_digest=None):
         self.learner, self.timeouts, self.secret, self.out = learner, timeouts, secret, out
+        self.super_digest = super_digest
         self.counter, self.open = counter, {}  # the counter of the last session id that was given out
         self.watches = Watches()
         self.syncs, self.touched = [], set()  # for each sync that isn't settled the connection, which may have gone
@@ -317,9 +319,9 @@ class Clients:
             self.reply(number, xid, AUTH_FAILED, zxid=0)
             self.close(number)
 
-    @staticmethod
-    def shows(it, scheme, text):
-        """Adds an id to a connection. Returns whether it is accepted."""
+    def shows(self, it, scheme, text):
+        """Adds the id of a digest to a connection, behind that of the super user if the digest is the super user's.
+        Returns whether it is accepted."""
         if scheme != b"digest" or text is None:
             return False
         try:
@@ -327,10 +329,16 @@ class Clients:
         except UnicodeDecodeError:
             return False
         shown = digest_id(text)
+        if shown[1].decode() == self.super_digest and not self.adds(it, SUPER_ID):
+            return False
+        return self.adds(it, shown)
+
+    @staticmethod
+    def adds(it, shown):
+        """Adds an id to a connection, if it has room and hasn't the id. Returns whether it has the id then."""
         if shown not in it.ids:
             ids = [*it.ids, shown]
-            counted = [one for one in ids if one[0] == b"digest"]
-            if len(counted) > IDS_LIMIT or sum(len(part) for one in counted for part in one) > BYTES_OF_IDS_LIMIT:
+            if len(ids) > IDS_LIMIT or sum(len(part) for one in ids for part in one) > BYTES_OF_IDS_LIMIT:
                 return False
             it.ids = ids
         return True

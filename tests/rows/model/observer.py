@@ -7,10 +7,10 @@ from learner import DOWN, SERVING, Learner
 
 class Observer:
     def __init__(self, server=1, counter=0, epochs=(0, 0), timeouts=(4000, 40000), secret=b"", primed=False,
-                 dialect=Dialect.ZK34):
+                 dialect=Dialect.ZK34, super_digest=None):
         self.out = []
         self.learner = Learner(server, (1, 1) if primed else epochs, dialect)
-        self.clients = Clients(self.learner, counter, timeouts, secret, self.out)
+        self.clients = Clients(self.learner, counter, timeouts, secret, self.out, super_digest)
         if primed:
             self.learner.phase = SERVING
             it = self.clients.open[1] = Connection()
@@ -92,6 +92,8 @@ def prepared(script):
             settings[word] = tuple(int(it) for it in rest.split(" "))
         elif word == "secret":
             settings["secret"] = bytes.fromhex(rest)
+        elif word == "super":
+            settings["super_digest"] = rest
         elif word == "primed":
             settings["primed"] = True
         elif word == "dialect":
