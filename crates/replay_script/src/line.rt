@@ -102,7 +102,7 @@ fn client_up(
     client: u64,
     address: Option<Bytes<'_>>,
 ) -> Result<Option<ScriptEvent>, NoMemory>
-    ensures { IfOk result (λ event. event ≡ client_up client address) }
+    ensures { IfOk result (λ event. event ≡ client_up client address.entry) }
 {
     let Some(address) = address else {
         return Ok(Some(ScriptEvent::ClientUp(client, None)));

@@ -43,8 +43,8 @@ dialect_of text =
     else None)
 
 -- A user, a colon and a hash, on one line: SHA-1 has 20 bytes, which are 28 letters in base64.
-abbrev pub is_digest : List ℕ → Bool
-is_digest text =
+abbrev pub is_digest_text : List ℕ → Bool
+is_digest_text text =
     not (list_any (λ letter. letter == 10) text) && length (after_first (λ letter. letter == 58) text) == 28
 
 -- A host before a colon and a port: as it is, or in brackets.

@@ -2,7 +2,7 @@
 
 ghost use Rattle.std.specs.Prelude.{◌≡◌, ◌++◌, ℕ, pos, List, map, string_bytes, true, None, Some, IfSome, IfNone, IfOk, option_map};
 ghost use Rattle.serve_options.specs.Rows.{option_bounds, IsWithin};
-ghost use Rattle.serve_options.specs.Values.{number_within, SpellsAddress, is_digest};
+ghost use Rattle.serve_options.specs.Values.{number_within, SpellsAddress, is_digest_text};
 ghost use Rattle.serve_options.specs.Given.{value_of, number_given, number_answer};
 ghost use Rattle.serve_options.specs.Commands.{IsWithinBounds, IsSetBy, IsFileOf, AreOptionsOver, AreWordsOf, AreServersOf, id_given, words_given, level_given, format_given, dialect_given};
 
@@ -10,7 +10,7 @@ use crate::error::OptionError;
 use crate::given::{Given, find_given, given_in, spelled};
 use crate::row::{Bounds, Kind, Name};
 use crate::value::{
-    Address, LogFormat, address_of, addresses_of, dialect_of, format_of, has_host, is_digest,
+    Address, LogFormat, address_of, addresses_of, dialect_of, format_of, has_host, is_digest_text,
     level_of, number_within,
 };
 use crate::words::{Words, words_of};
@@ -282,12 +282,12 @@ fn dialect_in<'a>(given: &[Given<'a>]) -> Result<Dialect, OptionError<'a>>
 // The digest of the super user, if there is one.
 fn digest_in<'a>(given: &[Given<'a>]) -> Result<Option<&'a str>, OptionError<'a>>
     ensures digest { IfOk result (λ digest. option_map (λ text. text.now) digest ≡ value_of Name.SuperDigest given.now) }
-    ensures form { IfOk result (λ digest. IfSome digest (λ text. is_digest text.now ≡ true)) }
+    ensures form { IfOk result (λ digest. IfSome digest (λ text. is_digest_text text.now ≡ true)) }
 {
     let Some(value) = spelled(given, Name::SuperDigest) else {
         return Ok(None);
     };
-    if !is_digest(value) {
+    if !is_digest_text(value) {
         return Err(invalid(Name::SuperDigest, value));
     }
     Ok(Some(value))

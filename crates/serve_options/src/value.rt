@@ -3,7 +3,7 @@
 ghost use Rattle.std.specs.Prelude.{◌≡◌, ◌≤◌, ◌==◌, ℕ, Some, IfSome, IfOk, vec_len};
 ghost use Rattle.std.specs.List.{list_any};
 ghost use Rattle.serve_options.specs.Rows.{IsWithin};
-ghost use Rattle.serve_options.specs.Values.{number_within, port_number_of, SpellsHost, SpellsAddress, level_of, format_of, dialect_of, is_digest};
+ghost use Rattle.serve_options.specs.Values.{number_within, port_number_of, SpellsHost, SpellsAddress, level_of, format_of, dialect_of, is_digest_text};
 
 use crate::row::Bounds;
 use log::LevelFilter;
@@ -191,8 +191,8 @@ fn has_line_end(text: &[u8]) -> bool
 }
 
 /// Whether a text may be a digest: a user, a colon, and as many letters as a hash of SHA-1 has in base64, on one line.
-pub(crate) fn is_digest(text: &str) -> bool
-    ensures { result ≡ is_digest text.now }
+pub(crate) fn is_digest_text(text: &str) -> bool
+    ensures { result ≡ is_digest_text text.now }
 {
     if has_line_end(text.as_bytes()) {
         return false;

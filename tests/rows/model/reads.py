@@ -16,7 +16,7 @@ def is_request_path(path):
 
 
 def allows(acl, perms, ids):
-    """Whether an entry of a list grants one of these rights to everybody or to one of the ids. The super user has all."""
+    """Whether an entry of a list grants one of these rights to everybody or to one of the ids; super has each."""
     if any(scheme == b"super" for scheme, _ in ids):
         return True
     return any(granted & perms and (who == (b"world", b"anyone") or is_shown(who, ids)) for granted, who in acl)
