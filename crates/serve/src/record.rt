@@ -35,16 +35,14 @@ fn put_port(out: &mut Vec<u8>, port: usize) -> Result<(), NoMemory>
 fn put_address(out: &mut Vec<u8>, port: usize, address: &Option<Text>) -> Result<(), NoMemory>
     ensures { OnOk result (out.new.items ≡ out.old.items ++ address_words port address.now) }
 {
-    if port == 0 {
+    let Some(address) = address else {
         return Ok(());
+    };
+    if port > 0 {
+        put(out, b" ")?;
+        return put(out, address.as_str().as_bytes());
     }
-    match address {
-        None => Ok(()),
-        Some(address) => {
-            put(out, b" ")?;
-            put(out, address.as_str().as_bytes())
-        }
-    }
+    Ok(())
 }
 
 #[tactic(auto, unfolding(crate::specs::Lines::session_digits))]
