@@ -1,6 +1,5 @@
 //! The main thread: it has the desk, and the threads of the connections.
 
-use crate::address::address_text;
 use crate::bounds::Bounds;
 use crate::connections::{Client, Handed, start_client};
 use crate::leading::Leading;

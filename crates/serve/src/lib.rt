@@ -1,7 +1,6 @@
 //! A server: it follows a leader over a socket, and serves clients over sockets.
 #![tactic(auto)]
 
-mod address;
 mod bounds;
 mod command;
 mod connections;
