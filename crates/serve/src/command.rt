@@ -4,11 +4,10 @@ use crate::logging::tell;
 use crate::serving::{Origin, Start, try_serve_on};
 use following::Finding;
 use mio::net::TcpListener;
-use serve_config::{FileLines, ReadFile, read_file, read_secret, refuse_open_record};
+use serve_config::{FileLines, ReadFile, read_file, read_secret};
 use serve_failures::{Failure, Step};
 use serve_journal::print_check;
 use serve_options::{Address, Command, Options, Servers, VERSION_LINES, command_of, help};
-use settings::Secret;
 use std::alloc::Global;
 use std::net::{Net, SocketAddr, TcpStream, ToSocketAddrs};
 use std::rt::{Env, Files};
@@ -61,15 +60,6 @@ fn listen<R: Net>(rt: &R, alloc: Global, client: &Address<'_>) -> Result<TcpList
     }
 }
 
-// The secret of passwords. A record has it, too, so others mustn't read that either.
-fn secret_of<R: Files>(rt: &R, alloc: Global, options: &Options<'_>) -> Result<Secret, Failure> {
-    let secret = read_secret(rt, alloc, options.secret_file)?;
-    if let (Some(_), Some(name)) = (options.secret_file, options.record) {
-        refuse_open_record(rt, alloc, name)?;
-    }
-    Ok(secret)
-}
-
 // Connects to the leader, or finds whom to search; opens the sockets, prints the port for clients, and serves.
 fn run<
     R: Threads
@@ -85,7 +75,7 @@ fn run<
         + Sync
         + 'static,
 >(rt: &R, alloc: Global, options: &Options<'_>, lines: FileLines<'_>) -> Result<(), Failure> {
-    let secret = secret_of(rt, alloc, options)?;
+    let secret = read_secret(rt, alloc, options)?;
     let origin = match &options.servers {
         Servers::Leader(leader) => Origin::Stream(reach(rt, alloc, leader)?),
         Servers::Any(servers) => match Finding::new(servers.len(), options.server_id) {
@@ -131,7 +121,7 @@ fn run_configured<
     let options = read.options(alloc, words, filed)?;
     let lines = read.lines();
     if is_check {
-        let _secret = secret_of(rt, alloc, &options)?;
+        let _secret = read_secret(rt, alloc, &options)?;
         return print_check(rt, alloc, &options, lines);
     }
     run(rt, alloc, &options, lines)

@@ -16,21 +16,19 @@ use log::Log;
 use mio::net::TcpListener;
 use observer_core::{Config, Settings};
 use serve_bounds::{Accepting, Acceptor, Stopwatch, accept_all, open_door};
-use serve_config::{FileLines, read_secret};
-use serve_failures::{Failure, Step, servers_of};
+use serve_config::{FileLines, create_record, read_secret};
+use serve_failures::{Failure, servers_of};
 use serve_journal::Journal;
 use serve_options::{Address, Options, Servers};
 use settings::{Epochs, FirstCounter, Secret, TimeoutBounds};
 use std::alloc::Global;
-use std::fs::OpenOptions;
 use std::io::Write;
 use std::net::{Net, TcpStream};
-use std::os::unix::fs::OpenOptionsExt;
 use std::rt::{Env, Files};
 use std::sync::{Arc, Wait};
 use std::thread::{JoinHandle, Threads};
 use std::time::{Clock, Duration, SystemTime};
-use std::{fs, io, net, slice, thread};
+use std::{io, net, slice, thread};
 use values::{NoMemory, Text};
 
 // Work that is less than this is done by the hub's thread: starting threads takes as long as storing some megabytes.
@@ -79,32 +77,6 @@ fn config_of(
         super_digest,
     };
     Ok(Config::from_settings(settings, options.limits).with_threshold(WORTH_THREADS))
-}
-
-// Creates or empties a file. A new one can be read by its owner alone.
-fn create_private<R: Files>(rt: &R, name: &str) -> io::Result<R::File> {
-    let mut how = OpenOptions::new();
-    how.write(true).create(true).truncate(true).mode(0o600);
-    how.open(rt, name)
-}
-
-// The file for the record, if there is one. Beside a secret it isn't for others.
-fn record_file<R: Files>(
-    rt: &R,
-    alloc: Global,
-    options: &Options<'_>,
-) -> Result<Option<R::File>, Failure> {
-    let Some(name) = options.record else {
-        return Ok(None);
-    };
-    let created = match options.secret_file {
-        Some(_) => create_private(rt, name),
-        None => fs::create(rt, name),
-    };
-    match created {
-        Ok(file) => Ok(Some(file)),
-        Err(error) => Err(Failure::system(alloc, Step::Open, &name, error)),
-    }
 }
 
 /// Where the first leader comes from.
@@ -322,7 +294,7 @@ pub(crate) fn try_serve_on<
         secret,
     } = start;
     let first_counter = first_counter(rt, options)?;
-    let file = record_file(rt, alloc, options)?;
+    let file = create_record(rt, alloc, options)?;
     let mut record = Record::new(alloc, file);
     let port = listener.local_addr()?.port();
     let config = config_of(alloc, options, secret, first_counter)?;
@@ -358,7 +330,7 @@ pub fn serve_on<
         + 'static,
 >(rt: &R, alloc: Global, options: &Options<'_>, leader: TcpStream, listener: TcpListener) -> u8 {
     let origin = Origin::Stream(leader);
-    let served = match read_secret(rt, alloc, options.secret_file) {
+    let served = match read_secret(rt, alloc, options) {
         Ok(secret) => {
             let lines = FileLines::none();
             let start = Start {

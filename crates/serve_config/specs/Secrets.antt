@@ -8,5 +8,5 @@ abbrev pub without_newline : List ℕ → List ℕ
 without_newline content = if ends_with nat_eq content (10 ∷ []) then take (length content - 1) content else content
 
 -- These bytes are the secret, unless there are none, or too many.
-abbrev pub secret_in : List ℕ → Option (List ℕ)
-secret_in content = if length (without_newline content) == 0 then None else secret_of (without_newline content)
+abbrev pub filed_secret : List ℕ → Option (List ℕ)
+filed_secret content = if length (without_newline content) == 0 then None else secret_of (without_newline content)

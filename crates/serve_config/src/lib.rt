@@ -1,15 +1,18 @@
-//! The files that a server is started by: the configuration file, with those that it names, and the file of the secret.
+//! The files that a server is started with: the configuration file, with those that it names, the secret, and the record.
 //!
 //! ```text
 //! let read = read_file(rt, alloc, words, "zoo.cfg")?;            // and dataDir/myid, and the dynamicConfigFile
 //! let given = read.given(alloc, words)?;
 //! let options = read.options(alloc, words, given.as_slice())?;   // an option among the words wins
-//! let secret = read_secret(rt, alloc, Some("secret"))?;          // the bytes in the file, which others can't read
+//! let secret = read_secret(rt, alloc, &options)?;                // the bytes in the file, which others can't read
+//! let record = create_record(rt, alloc, &options)?;
 //! ```
 #![tactic(auto)]
 
 mod read;
+mod record;
 mod secret;
 
 pub use read::{FileLines, ReadFile, read_file};
-pub use secret::{read_secret, refuse_open_record};
+pub use record::create_record;
+pub use secret::read_secret;

@@ -1,9 +1,10 @@
 //! The secret that the passwords of sessions are made of, in a file that others can't read.
 
 ghost use Rattle.std.specs.Prelude.{◌≡◌, Some, IfOk};
-ghost use Rattle.serve_config.specs.Secrets.{without_newline, secret_in};
+ghost use Rattle.serve_config.specs.Secrets.{without_newline, filed_secret};
 
 use serve_failures::Failure;
+use serve_options::Options;
 use settings::Secret;
 use std::alloc::{AllocError, Global};
 use std::fs::Metadata;
@@ -76,8 +77,8 @@ fn without_newline(content: &[u8]) -> &[u8]
 }
 
 // The secret in a file with these bytes.
-fn secret_in(alloc: Global, content: &[u8]) -> Result<Secret, SecretError>
-    ensures { IfOk result (λ secret. secret_in content.now ≡ Some secret) }
+fn filed_secret(alloc: Global, content: &[u8]) -> Result<Secret, SecretError>
+    ensures { IfOk result (λ secret. filed_secret content.now ≡ Some secret) }
 {
     let bytes = without_newline(content);
     if bytes.is_empty() {
@@ -101,7 +102,7 @@ fn secret_at<R: Files>(rt: &R, alloc: Global, name: &str) -> Result<Secret, Secr
     fs::open(rt, name)?
         .take(MOST_READ)
         .read_to_end(&mut content)?;
-    secret_in(alloc, content.as_slice())
+    filed_secret(alloc, content.as_slice())
 }
 
 // What is wrong with the file that an option names.
@@ -115,20 +116,8 @@ fn wrong(alloc: Global, option: &str, name: &str, error: &SecretError) -> Failur
     }
 }
 
-/// Reads the secret in the file that `--secret-file` names: 1 to 64 bytes, without one newline at the end. Without a
-/// file it is empty.
-pub fn read_secret<R: Files>(rt: &R, alloc: Global, name: Option<&str>) -> Result<Secret, Failure> {
-    let Some(name) = name else {
-        return Ok(Secret::empty(alloc));
-    };
-    match secret_at(rt, alloc, name) {
-        Ok(secret) => Ok(secret),
-        Err(error) => Err(wrong(alloc, "--secret-file", name, &error)),
-    }
-}
-
-/// Refuses a file for a record with the secret in it, if it is there already and others may read or write it.
-pub fn refuse_open_record<R: Files>(rt: &R, alloc: Global, name: &str) -> Result<(), Failure> {
+// Refuses a file for a record with the secret in it, if it is there already and others may read or write it.
+fn refuse_open_record<R: Files>(rt: &R, alloc: Global, name: &str) -> Result<(), Failure> {
     match fs::metadata(rt, name) {
         Ok(metadata) if metadata.is_file() && is_open_to_others(&metadata) => Err(wrong(
             alloc,
@@ -137,5 +126,24 @@ pub fn refuse_open_record<R: Files>(rt: &R, alloc: Global, name: &str) -> Result
             &SecretError::OpenToOthers,
         )),
         _ => Ok(()),
+    }
+}
+
+/// Reads the secret in the file that `--secret-file` names: 1 to 64 bytes, without one newline at the end. Without such a
+/// file it is empty. A record has the secret, too; so a file for it that others may read or write is refused beside one.
+pub fn read_secret<R: Files>(
+    rt: &R,
+    alloc: Global,
+    options: &Options<'_>,
+) -> Result<Secret, Failure> {
+    let Some(name) = options.secret_file else {
+        return Ok(Secret::empty(alloc));
+    };
+    if let Some(record) = options.record {
+        refuse_open_record(rt, alloc, record)?;
+    }
+    match secret_at(rt, alloc, name) {
+        Ok(secret) => Ok(secret),
+        Err(error) => Err(wrong(alloc, "--secret-file", name, &error)),
     }
 }
