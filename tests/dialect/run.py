@@ -5,8 +5,7 @@
     tests/dialect/run.py --only revalidate PROGRAM      rows with that in their name
 
 A row is NAME.script and NAME.expected, which is what `PROGRAM replay NAME.script` writes to standard output, whatever
-the options of a replay are. The rows under NOT_YET ask for what the program doesn't do yet: each of them has to differ,
-so a row that the program prints has to be taken out of the list. rows/recorded/ is compare.py's.
+the options of a replay are. rows/recorded/ is compare.py's.
 
 The last line is `N passed, M failed`; the exit status is 0 where none failed and there was one at least.
 """
@@ -24,12 +23,6 @@ from run import LIMITS, first_difference  # noqa: E402
 
 SECONDS = 60
 
-# What isn't done yet, and the rows that ask for it.
-NOT_YET = {
-    "addresses": "address",
-    "reads of the super user": "super",
-}
-
 
 def printed(program, script, options):
     """Returns what a replay of the script prints."""
@@ -38,12 +31,9 @@ def printed(program, script, options):
     return done.stdout
 
 
-def faults(program, script, waits):
-    """Returns what is wrong with a row, in lines. If it waits for what isn't done yet, it has to differ."""
+def faults(program, script):
+    """Returns what is wrong with a row, in lines."""
     wanted = script.with_suffix(".expected").read_bytes()
-    if waits:
-        same = printed(program, script, ()) == wanted
-        return ["it is printed, so it is to be taken out of NOT_YET"] if same else []
     found = []
     for options in ("", *LIMITS):
         got = printed(program, script, options.split())
@@ -61,21 +51,17 @@ def main():
     if not os.path.isfile(program):
         print(f"no program {args.program}: no row was run\n0 passed, 1 failed")
         return 1
-    waiting = {f"dialect-{it}" for names in NOT_YET.values() for it in names.split()}
     rows = [it for it in sorted((HERE / "rows").glob("*.script")) if args.only in it.stem]
     failed = 0
     with concurrent.futures.ThreadPoolExecutor(os.cpu_count()) as pool:
-        for row, found in zip(rows, pool.map(lambda it: faults(program, it, it.stem in waiting), rows)):
+        for row, found in zip(rows, pool.map(lambda it: faults(program, it), rows)):
             if found:
                 failed += 1
                 print(f"FAIL {row.stem}")
             for line in found:
                 print(f"  {line}")
-    missing = waiting - {it.stem for it in (HERE / "rows").glob("*.script")}
-    for name in sorted(missing):
-        print(f"FAIL {name}: there is no such row")
-    print(f"{len(rows) - failed} passed, {failed + len(missing)} failed")
-    return 1 if failed or missing or not rows else 0
+    print(f"{len(rows) - failed} passed, {failed} failed")
+    return 1 if failed or not rows else 0
 
 
 if __name__ == "__main__":
