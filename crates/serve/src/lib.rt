@@ -8,13 +8,12 @@ mod hub;
 mod leading;
 mod log_keeping;
 mod logging;
-mod record;
 mod serving;
 mod silence;
 
 pub use command::serve;
 pub use connection_loop::{LeaderGone, leader_loop, session_loop};
-pub use record::{Record, put_message};
 pub use serve_failures::Failure;
 pub use serve_options::{Address, Command, Options, Servers, command_of};
+pub use serve_record::{Record, put_message};
 pub use serving::serve_on;

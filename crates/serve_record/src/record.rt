@@ -1,7 +1,7 @@
 //! A record of what comes, as a script for `replay`.
 
 ghost use Rattle.std.specs.Prelude.{◌≡◌, ◌++◌, OnOk};
-ghost use Rattle.serve.specs.Lines.{port_words, address_words, session_digits, message_line};
+ghost use Rattle.serve_record.specs.Lines.{port_words, address_words, session_digits, message_line};
 
 use intake::Message;
 use observer_core::Settings;
