@@ -68,8 +68,7 @@ def test_an_option_wins():
     with file_of(text_of("server.7=zk1:2888:3888", digest)) as name:
         status, out, told = commands.run("--check-config", name, "--tick", "500", "--words", "none")
     assert (status, told) == (0, ""), (status, told)
-    assert " --super-digest super:x" in out, out
-    assert " --tick 500 " in out and out.rstrip().endswith(" --words none"), out
+    assert " --tick 500 " in out and out.rstrip().endswith(" --words none --super-digest super:x"), out
 
 
 def test_what_a_file_would_do():
