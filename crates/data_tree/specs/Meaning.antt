@@ -1,5 +1,5 @@
 -- The effect of a transaction on the state, and its outcome (ZooKeeper Programmer's Guide).
-use Rattle.std.specs.Prelude.{ℤ, pos, List, [], ◌∷◌, ◌++◌, if◌then◌else◌, Option, Some, None, is_some, map, int_lt, codes}
+use Rattle.std.specs.Prelude.{ℤ, pos, List, [], ◌∷◌, ◌++◌, if◌then◌else◌, Option, Some, None, is_some, map, int_lt, false, codes}
 use Rattle.std.specs.Option.{unwrap_or, option_map}
 use Rattle.std.specs.Ordering.{int_eq}
 use Rattle.std.specs.FinMap as finmap
