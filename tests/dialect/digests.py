@@ -36,7 +36,7 @@ import subprocess
 import sys
 import tempfile
 import zlib
-from typing import NamedTuple, Optional
+from typing import NamedTuple
 
 sys.dont_write_bytecode = True
 HERE = pathlib.Path(__file__).resolve().parent
@@ -74,7 +74,7 @@ class Told(NamedTuple):
 
 
 class Shown(NamedTuple):
-    """What is shown of a node. The data is None where nobody may read it."""
+    """What is shown of a node: the fields of its Stat in their order, and its data, which is also b"" where it is null."""
 
     czxid: int
     mzxid: int
@@ -87,7 +87,7 @@ class Shown(NamedTuple):
     length: int
     children: int
     pzxid: int
-    content: Optional[bytes] = None
+    content: bytes = b""
 
 
 # ---- the recording
@@ -243,7 +243,7 @@ class Trees:
                 return node, "exists and getData show other Stats"
         elif node.length and (path, node.mzxid) not in self.known:
             return node, "nobody may read its data, and nobody has"
-        return node._replace(content=self.known.get((path, node.mzxid), b"")), None
+        return node._replace(content=self.known.get((path, node.mzxid), node.content)), None
 
 
 def term(path, node, owner):

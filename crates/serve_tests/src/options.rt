@@ -42,6 +42,7 @@ fn some_lines_are_refused(rt: HostRuntime) -> Result<(), Fail> {
         "--leader 1 --client 2 --words ruok,stat",
         "--leader 1 --client 2 --words none,ruok",
         "--leader 1 --client 2 --record --log",
+        "--leader 1 --client 2 --secret-file --log",
         "--leader 1 --client 2 --log --log",
         "--leader 1 --client 2 --quiet",
         "--leader 1 --client 2 --super-digest super:test",
@@ -72,7 +73,7 @@ fn each_option_is_read(rt: HostRuntime) -> Result<(), Fail> {
     let alloc = rt.alloc();
     let words = words(
         alloc,
-        "--log --client 0021 --leader [::1]:2888 --id 7 --workers 2 --batch 8 --max-clients 9 --record f",
+        "--log --client 0021 --leader [::1]:2888 --id 7 --workers 2 --batch 8 --max-clients 9 --record f --secret-file s",
     )?;
     let Ok(Command::Serve(options)) = command_of(alloc, words.as_slice()) else {
         return Err(Fail::from("refused"));
@@ -84,6 +85,7 @@ fn each_option_is_read(rt: HostRuntime) -> Result<(), Fail> {
     assert!(rt; options.client.host == "127.0.0.1" && options.client.port == 21);
     assert!(rt; options.limits.workers() == 2 && options.limits.batch() == 8);
     assert!(rt; options.server_id.number() == 7 && options.max_clients == Some(9));
+    assert!(rt; options.secret_file == Some("s"));
     assert!(rt;
         options.record == Some("f") && options.tick == 2000 && options.max_watches == 500_000
     );
