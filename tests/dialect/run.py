@@ -26,7 +26,6 @@ SECONDS = 60
 
 # What isn't done yet, and the rows that ask for it.
 NOT_YET = {
-    "addresses": "address",
 }
 
 
