@@ -25,9 +25,7 @@ from run import LIMITS, first_difference  # noqa: E402
 SECONDS = 60
 
 # What isn't done yet, and the rows that ask for it.
-NOT_YET = {
-    "addresses": "address",
-}
+NOT_YET = {}
 
 
 def printed(program, script, options):

@@ -1,3 +1,5 @@
 pub mod Digits
 pub mod Reading
 pub mod Utf8
+-- Addresses are UTF-8.
+pub mod Addresses

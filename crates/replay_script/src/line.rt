@@ -1,6 +1,8 @@
 //! Lines of a script.
 
 ghost use Rattle.std.specs.Prelude.{◌≡◌, true, IfOk};
+ghost use Rattle.std.specs.Char.{is_ascii_graphic};
+ghost use Rattle.std.specs.List.{list_all};
 ghost use Rattle.std.specs.Str.{is_utf8};
 ghost use Rattle.replay_script.specs.Line.{keyword_of, coming_of, leader_event, client_event, is_address_text, client_up, coming_of_client, client_of, expire_of, server_setting, counter_setting, epochs_setting, timeouts_setting, secret_setting, dialect_setting, super_setting, line_of_keyword, line_with_text, line_of_words, line_of};
 
@@ -80,10 +82,16 @@ fn client_event(client: u64, coming: Coming) -> ScriptEvent
     }
 }
 
+fn are_graphic(text: &[u8]) -> bool
+    ensures { result ≡ list_all is_ascii_graphic text.now }
+{
+    text.iter().all(|b| b.is_ascii_graphic())
+}
+
 fn is_address_text(text: &[u8]) -> bool
     ensures { result ≡ is_address_text text.now }
 {
-    !text.is_empty() && text.len() <= ADDRESS_LIMIT && text.iter().all(|b| b.is_ascii_graphic())
+    !text.is_empty() && text.len() <= ADDRESS_LIMIT && are_graphic(text)
 }
 
 // The text of these bytes, which are an address.

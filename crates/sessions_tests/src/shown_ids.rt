@@ -194,3 +194,31 @@ fn ids_go_with_their_connection(rt: HostRuntime) -> Result<(), Fail> {
     assert_eq!(rt; closed(alloc)?, (false, true));
     Ok(())
 }
+
+// The ids of connection 1 after this address was shown, then a digest, and then the address again.
+fn address_and_digest(alloc: Global, address: &str) -> Result<String, Fail> {
+    let mut sessions = opened(alloc)?;
+    sessions.show_address(alloc, 1, address)?;
+    show(alloc, &mut sessions, "alice:pw")?;
+    sessions.show_address(alloc, 1, address)?;
+    ids(alloc, &sessions)
+}
+
+#[test]
+fn an_address_is_an_id(rt: HostRuntime) -> Result<(), Fail> {
+    let alloc = rt.alloc();
+    for (address, wanted) in [
+        (
+            "127.0.0.1",
+            "ip 127.0.0.1;digest alice:V55/p2T0OpjQ+low3NVAH4aLvm0=;",
+        ),
+        (
+            "0:0:0:0:0:0:0:1",
+            "ip 0:0:0:0:0:0:0:1;digest alice:V55/p2T0OpjQ+low3NVAH4aLvm0=;",
+        ),
+    ] {
+        let shown = address_and_digest(alloc, address)?;
+        assert_eq!(rt; shown.as_str(), wanted);
+    }
+    Ok(())
+}
