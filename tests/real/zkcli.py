@@ -83,7 +83,7 @@ class Bench(defaults.Bench):
             found = shell.does(command.replace("{}", path)).replace(path, "{}")
             for pattern, text in DIFFERENT:
                 found = pattern.sub(text, found)
-            printed.append(found)
+            printed.append(found if command != "whoami" else in_order(found))
         time.sleep(LATE)
         return printed + ["\n".join(EVENT.findall(shell.output()[before:].replace(path, "{}")))]
 
@@ -194,6 +194,12 @@ def get_all_children_number(bench):
     commands = ("create {}/a", "create {}/a/b", "create {}/a/b/c", "create {}/d", "getAllChildrenNumber {}")
     printed = bench.both("number", *commands, "getAllChildrenNumber {}/a/b/c", "getAllChildrenNumber {}/x")[4:]
     has(printed, "4", "0", "Node does not exist: {}/x")
+
+
+def in_order(printed):
+    """The ids that whoami prints, in an order: Java's servers keep them in a set, and tell them in any."""
+    head, *ids = printed.splitlines()
+    return "\n".join([head, *sorted(ids)])
 
 
 def whoami(bench):
