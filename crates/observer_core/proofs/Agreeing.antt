@@ -8,6 +8,7 @@ use Rattle.std.specs.Cmp.{nat_cmp_total, int_cmp_total, eq_by_cmp_equiv}
 use Rattle.std.proofs.lemmas.Bool.{cond_both}
 use Rattle.std.specs.FinMap as finmap
 use mathlib.Core.Bool.{true≢false}
+use Rattle.jute.specs.declared.owned.Id.{Id}
 use Rattle.sessions.specs.State.{SessionTable as Sessions, ConnectedClient as SessionConnection}
 use Rattle.sessions.specs.Sessions.{session_in, session_of_connection, greatest_counter, connection_of, close_connection, session_response, refused_connect, give_session, name_session, ConnectResult, add_id}
 use Rattle.sessions.specs.Credentials.{session_id_of}

@@ -9,7 +9,7 @@ use Rattle.std.specs.FinMap as finmap
 use mathlib.Core.Bool.{true≢false}
 use Rattle.settings.specs.Settings.{is_server_id}
 use Rattle.jute.specs.declared.owned.Id.{Id}
-use Rattle.sessions.specs.Credentials.{session_id_of, digest_id}
+use Rattle.sessions.specs.Credentials.{session_id_of}
 use Rattle.sessions.specs.State.{SessionTable as Sessions, ConnectedClient, session_table_of}
 use Rattle.sessions.specs.Sessions.{greatest_counter, close_as, close_connection, close_if_some, connection_of, ConnectResult, refused_connect, session_response, give_session, AuthResult, are_within_limits, is_same_id, with_id, show_in, add_id}
 use Rattle.sessions.specs.Agreement.{IsGivenOut, SessionsAgree, IsNewId, NewIdsAreNew}

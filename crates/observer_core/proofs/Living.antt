@@ -61,7 +61,6 @@ use Rattle.forwarding.specs.declared.request.AnsweredWrite.{AnsweredWrite}
 use Rattle.forwarding.specs.Queue.{waiting_connect, found_write}
 use Rattle.forwarding.specs.declared.request.ConnectKind.TheVariants.{New, Claimed}
 use Rattle.forwarding.specs.Pending.{queue_of, connecting_to, awaiting, pending_close, settle_sync}
-use Rattle.sessions.specs.Credentials.{digest_id}
 use Rattle.sessions.specs.State.{SessionTable as Sessions, ConnectedClient as SessionConnection}
 use Rattle.sessions.specs.Sessions.{session_in, session_of_connection, connection_of, close_connection, close_if_some, session_response, new_connection, give_session, AuthResult, are_within_limits, is_same_id, with_id, show_in, add_id}
 use Rattle.world.specs.declared.world.Settings.{Settings}

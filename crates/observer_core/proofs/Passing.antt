@@ -13,7 +13,6 @@ use Rattle.std.specs.FinMap as finmap
 use Rattle.std.specs.FinSet as set
 use mathlib.Core.Bool.{true≢false}
 use Rattle.jute.specs.declared.owned.Id.{Id}
-use Rattle.sessions.specs.Credentials.{digest_id}
 use Rattle.sessions.specs.State.{ConnectedClient, SessionTable}
 use Rattle.sessions.specs.Sessions.{AuthResult, session_response, new_connection, are_within_limits, is_same_id, with_id, connection_of, close_connection, close_as, close_if_some, give_session, show_in, add_id}
 use Rattle.watch_manager.specs.Pairs.{WatchPairs, watch_cmp, same_connection}

@@ -10,7 +10,6 @@ use mathlib.Core.Bool.{true≢false}
 use Rattle.values.specs.declared.fault.Fault.{Fault}
 use Rattle.jute.specs.Stream.{Unread}
 use Rattle.jute.specs.declared.owned.Id.{Id}
-use Rattle.sessions.specs.Credentials.{digest_id}
 use Rattle.sessions.specs.State.{SessionTable as Sessions, ConnectedClient as Joined}
 use Rattle.sessions.specs.Sessions.{session_in, session_of_connection, close_as, close_if_some, close_connection, are_within_limits, is_same_id, with_id, AuthResult, show_in, add_id}
 use Rattle.sessions.specs.declared.request.SessionResponse.{SessionResponse}

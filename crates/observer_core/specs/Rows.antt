@@ -1,5 +1,5 @@
 -- Rows of bytes that were worked out by hand: events, and the outputs that they cause.
-use Rattle.std.specs.Prelude.{◌≡◌, ℕ, pos, List, [], ◌∷◌, ◌++◌, codes}
+use Rattle.std.specs.Prelude.{◌≡◌, ℕ, pos, List, [], ◌∷◌, ◌++◌, codes, None}
 use Rattle.values.specs.Hex.{hex_bytes}
 use Rattle.values.specs.declared.fault.Fault.TheVariants.{OutOfOrder}
 use Rattle.settings.specs.Settings.{timeout_pair}
