@@ -1,5 +1,4 @@
 pub mod Asking
-pub mod Digests
 pub mod Events
 pub mod Inner
 pub mod Kinds
@@ -7,7 +6,6 @@ pub mod LaterReads
 pub mod Limits
 pub mod Look
 pub mod MultiReads
-pub mod Permissions
 pub mod Renewal
 pub mod Reply
 pub mod Rows
