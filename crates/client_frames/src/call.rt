@@ -22,8 +22,7 @@ use values::{Fault, Listed, NoMemory, ReadError, Str};
 pub enum LocalCall<'a> {
     Read(Request<'a>),
     SetWatches(SetWatches<'a>),
-    // A box, since this is the longest record by far: else each request would be moved in as many bytes.
-    SetWatches2(Box<SetWatches2<'a>>),
+    SetWatches2(SetWatches2<'a>),
     AddWatch(AddWatch<'a>),
     CheckWatches(PathAndKind<'a>),
     RemoveWatches(PathAndKind<'a>),
@@ -103,7 +102,7 @@ fn read_set_watches2<'a>(alloc: Global, reader: &mut Reader<'a>) -> Result<Local
 {
     match read_or_none(alloc, reader)? {
         None => Ok(LocalCall::Unreadable),
-        Some(asked) => Ok(LocalCall::SetWatches2(Box::new(alloc, asked)?)),
+        Some(asked) => Ok(LocalCall::SetWatches2(asked)),
     }
 }
 
