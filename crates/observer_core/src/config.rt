@@ -122,13 +122,9 @@ impl Config {
     pub fn with_super_digest(self, digest: Text) -> Config
         ensures { result ≡ record self { settings = record self.settings { super_digest = Some digest } } }
     {
-        Config {
-            settings: Settings {
-                super_digest: Some(digest),
-                ..self.settings
-            },
-            ..self
-        }
+        let mut config = self;
+        config.settings.super_digest = Some(digest);
+        config
     }
 
     /// The same, but work below the threshold is done on the calling thread.
