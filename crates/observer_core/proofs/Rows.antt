@@ -177,7 +177,7 @@ create_fits =
 set_fits : txn_format.Fits set_txn
 set_fits =
     let path = text_fits (codes "/a") path_is_text (omega arith) in
-    ((refl, search rules), ((refl, search rules), (refl, (refl, ((refl, path), (tt, search rules))))))
+    ((refl, search rules), ((refl, search rules), (refl, (refl, (refl, ((refl, path), (tt, search rules)))))))
 
 -- ---- the states
 

@@ -346,16 +346,16 @@ module _ (n : ℕ) (Strict : Type 0) (A : World → Type 0) (Q : Steps) (ground 
       (λ _. id_makes w super_id here a))
       (λ _. id_makes w digest here a)
 
-  auth_makes : (w : World) (text : Option (List ℕ)) → (Strict → IsOpen n w) → A w
+  text_makes : (w : World) (text : Option (List ℕ)) → (Strict → IsOpen n w) → A w
       → MakesShown w (auth_by w.clients.sessions n text)
-  auth_makes w None here a = stay_makes w a
-  auth_makes w (Some text) here a = digest_makes w (digest_id text) here a
+  text_makes w None here a = stay_makes w a
+  text_makes w (Some text) here a = digest_makes w (digest_id text) here a
 
   shown_makes : (w : World) (xid : ℤ) (packet : AuthPacket) → (Strict → IsOpen n w) → A w
       → Makes A Q w (send_auth_result n w xid (add_auth w.clients.sessions n packet.scheme packet.auth))
   shown_makes w xid packet here a =
       then_makes w (no_output v) (λ u. answered u shows.is_accepted)
-      (auth_makes w (digest_text packet.scheme packet.auth) here a) (by shows.is_accepted)
+      (text_makes w (digest_text packet.scheme packet.auth) here a) (by shows.is_accepted)
     where
       shows : AuthResult
       shows = add_auth w.clients.sessions n packet.scheme packet.auth
