@@ -1,7 +1,7 @@
 //! The command `serve`.
 
 use crate::logging::tell;
-use crate::serving::{Origin, Start, try_serve_on};
+use crate::serving::{Origin, Startup, try_serve_on};
 use following::Finding;
 use mio::net::TcpListener;
 use serve_config::{FileLines, ReadFile, read_file, read_secret};
@@ -86,7 +86,7 @@ fn run<
     let listener = listen(rt, alloc, &options.client)?;
     let port = listener.local_addr()?.port();
     println!(rt; "serving {port}")?;
-    let start = Start {
+    let start = Startup {
         options,
         lines,
         secret,

@@ -260,7 +260,7 @@ fn serve_with<
 
 /// What a server is started with.
 #[derive(Drop)]
-pub(crate) struct Start<'a> {
+pub(crate) struct Startup<'a> {
     pub options: &'a Options<'a>,
     /// The lines of its configuration file.
     pub lines: FileLines<'a>,
@@ -284,11 +284,11 @@ pub(crate) fn try_serve_on<
 >(
     rt: &R,
     alloc: Global,
-    start: Start<'_>,
+    start: Startup<'_>,
     origin: Origin,
     listener: TcpListener,
 ) -> Result<(), Failure> {
-    let Start {
+    let Startup {
         options,
         lines,
         secret,
@@ -314,8 +314,8 @@ pub(crate) fn try_serve_on<
 
 /// Follows the leader and serves clients until the leader's connection ends. Returns the exit status: 0 then, 2 if the
 /// secret can't be taken, 3 if something couldn't be opened or recorded, 4 if an allocation was refused, 7 if what the
-/// leader sent was refused. By then each connection is closed, and each thread that it started has ended, but for the one that writes the log where
-/// standard error hasn't been read for 500 milliseconds.
+/// leader sent was refused. By then each connection is closed, and each thread that it started has ended, but for the
+/// one that writes the log where standard error hasn't been read for 500 milliseconds.
 pub fn serve_on<
     R: Threads
         + Wait
@@ -333,7 +333,7 @@ pub fn serve_on<
     let served = match read_secret(rt, alloc, options) {
         Ok(secret) => {
             let lines = FileLines::none();
-            let start = Start {
+            let start = Startup {
                 options,
                 lines,
                 secret,
