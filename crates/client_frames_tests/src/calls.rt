@@ -75,13 +75,13 @@ fn syncs(rt: HostRuntime) {
     let root = b"\x00\x00\x00\x07\x00\x00\x00\x09\x00\x00\x00\x01/";
     assert_eq!(rt; asked(rt.alloc(), root), "sync of the root");
     let empty = b"\x00\x00\x00\x07\x00\x00\x00\x09\x00\x00\x00\x00";
-    assert_eq!(rt; asked(rt.alloc(), empty), "unreadable");
+    assert_eq!(rt; asked(rt.alloc(), empty), "invalid path");
     let null = b"\x00\x00\x00\x07\x00\x00\x00\x09\xff\xff\xff\xff";
-    assert_eq!(rt; asked(rt.alloc(), null), "unreadable");
+    assert_eq!(rt; asked(rt.alloc(), null), "invalid path");
     let relative = b"\x00\x00\x00\x07\x00\x00\x00\x09\x00\x00\x00\x01a";
-    assert_eq!(rt; asked(rt.alloc(), relative), "unreadable");
+    assert_eq!(rt; asked(rt.alloc(), relative), "invalid path");
     let nul = b"\x00\x00\x00\x07\x00\x00\x00\x09\x00\x00\x00\x02/\x00";
-    assert_eq!(rt; asked(rt.alloc(), nul), "unreadable");
+    assert_eq!(rt; asked(rt.alloc(), nul), "invalid path");
     assert_eq!(rt;
         asked(rt.alloc(), b"\x00\x00\x00\x07\x00\x00\x00\x09"),
         "unreadable"

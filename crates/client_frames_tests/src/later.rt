@@ -66,7 +66,7 @@ fn later_writes_before(rt: HostRuntime) {
     );
 }
 
-/// A check isn't forwarded in any dialect, and a multi neither.
+/// A check isn't forwarded in any dialect, and a multi of ZooKeeper 3.4 neither.
 #[test]
 fn checks_and_multis(rt: HostRuntime) {
     let alloc = rt.alloc();
@@ -75,7 +75,7 @@ fn checks_and_multis(rt: HostRuntime) {
     assert_eq!(rt; later(alloc, 7, check), "refused");
     let multi = asked_in(alloc, Dialect::Zk34, 1, MULTI.as_slice());
     assert_eq!(rt; multi, "refused");
-    assert_eq!(rt; later(alloc, 1, MULTI.as_slice()), "refused");
+    assert_eq!(rt; later(alloc, 1, MULTI.as_slice()), "multi");
     worked_calls();
     forwarded_by_type();
 }
@@ -88,6 +88,40 @@ fn earlier_types(rt: HostRuntime) {
     assert_eq!(rt; later(alloc, 7, create), "create");
     let path = b"\x00\x00\x00\x07\x00\x00\x00\x03\x00\x00\x00\x02/a\x01";
     assert_eq!(rt; later(alloc, 7, path), "exists");
-    let sasl = b"\x00\x00\x00\x07\x00\x00\x00\x66";
-    assert_eq!(rt; later(alloc, 7, sasl), "unknown");
+    assert_eq!(rt;
+        later(alloc, 7, b"\x00\x00\x00\x07\x00\x00\x00\x63"),
+        "unknown"
+    );
+}
+
+/// Those that only later clients send, with xid 7: they are known by their type in the later dialect alone.
+#[test]
+fn later_reads(rt: HostRuntime) {
+    let alloc = rt.alloc();
+    let sasl = b"\x00\x00\x00\x07\x00\x00\x00\x66\xff\xff\xff\xff";
+    assert_eq!(rt; later(alloc, 7, sasl), "sasl");
+    assert_eq!(rt; asked(alloc, sasl), "unknown");
+    let ephemerals = b"\x00\x00\x00\x07\x00\x00\x00\x67\x00\x00\x00\x01/";
+    assert_eq!(rt; later(alloc, 7, ephemerals), "getEphemerals");
+    let below = b"\x00\x00\x00\x07\x00\x00\x00\x68\x00\x00\x00\x01/";
+    assert_eq!(rt; later(alloc, 7, below), "getAllChildrenNumber");
+    let who = b"\x00\x00\x00\x07\x00\x00\x00\x6b";
+    assert_eq!(rt; later(alloc, 7, who), "whoAmI");
+}
+
+/// Watches of later clients, with xid 7; a body that is missing can't be read.
+#[test]
+fn later_watches(rt: HostRuntime) {
+    let alloc = rt.alloc();
+    let checked = b"\x00\x00\x00\x07\x00\x00\x00\x11\x00\x00\x00\x01/\x00\x00\x00\x02";
+    assert_eq!(rt; later(alloc, 7, checked), "checkWatches");
+    let removed = b"\x00\x00\x00\x07\x00\x00\x00\x12\x00\x00\x00\x01/\x00\x00\x00\x02";
+    assert_eq!(rt; later(alloc, 7, removed), "removeWatches");
+    assert_eq!(rt;
+        later(alloc, 7, b"\x00\x00\x00\x07\x00\x00\x00\x12"),
+        "unreadable"
+    );
+    let lists = b"\x00\x00\x00\x07\x00\x00\x00\x69\x00\x00\x00\x00\x00\x00\x00\x01\
+        \x00\x00\x00\x00\x00\x00\x00\x00\x00\x00\x00\x00\x00\x00\x00\x00\x00\x00\x00\x00";
+    assert_eq!(rt; later(alloc, 7, lists), "setWatches2");
 }

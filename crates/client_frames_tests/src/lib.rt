@@ -58,8 +58,17 @@ fn local_word(call: &LocalCall<'_>) -> &'static str {
     match call {
         LocalCall::Read(request) => read_word(request),
         LocalCall::SetWatches(_) => "setWatches",
+        LocalCall::SetWatches2(_) => "setWatches2",
         LocalCall::AddWatch(asked) => watch_word(asked),
+        LocalCall::CheckWatches(_) => "checkWatches",
+        LocalCall::RemoveWatches(_) => "removeWatches",
+        LocalCall::MultiRead(_) => "multiRead",
+        LocalCall::GetEphemerals(_) => "getEphemerals",
+        LocalCall::GetAllChildrenNumber(_) => "getAllChildrenNumber",
+        LocalCall::WhoAmI => "whoAmI",
+        LocalCall::Sasl(_) => "sasl",
         LocalCall::Unreadable => "unreadable",
+        LocalCall::InvalidPath => "invalid path",
         LocalCall::Ping => "ping",
         LocalCall::Refused => "refused",
         LocalCall::Unknown => "unknown",
@@ -79,6 +88,7 @@ fn write_word(kind: WriteKind) -> &'static str {
         WriteKind::CreateContainer => "createContainer",
         WriteKind::DeleteContainer => "deleteContainer",
         WriteKind::CreateTtl => "createTTL",
+        WriteKind::Multi => "multi",
     }
 }
 
