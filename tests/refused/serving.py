@@ -194,7 +194,7 @@ class Observed:
         takes(client, replied(1, self.leader.zxid(), self.node()))
         sends(client, forwarded.create(2, path))
         request = self.asked(client, session)
-        assert (request.xid, request.kind, request.ids) == (2, CREATE, []), request
+        assert (request.xid, request.kind, request.ids) == (2, CREATE, [forwarded.ADDRESS]), request
         try:
             zxid = self.leader.does(request)
         except OSError:
