@@ -7,7 +7,7 @@ ghost use Rattle.client_records.specs.Requests.{path_alone, auth_packet, set_wat
 ghost use Rattle.client_frames.specs.Call.{value_if_read, call_or_unreadable, call_of_read, sync_of, sync_of_path, multi_call, call_body, call_in};
 
 use client_records::{
-    AddWatch, AuthPacket, PathAlone, PathAndKind, PathAndWatch, ReadKind, ReadPart, RequestKind,
+    AddWatch, AuthPacket, Boxed, PathAlone, PathAndKind, PathAndWatch, ReadKind, ReadPart, RequestKind,
     SaslRequest, SetWatches, SetWatches2, read_parts,
 };
 use forwarding::WriteKind;
@@ -21,8 +21,8 @@ use values::{Fault, Listed, NoMemory, ReadError, Str};
 #[derive(Drop)]
 pub enum LocalCall<'a> {
     Read(Request<'a>),
-    SetWatches(SetWatches<'a>),
-    SetWatches2(SetWatches2<'a>),
+    SetWatches(Boxed<SetWatches<'a>>),
+    SetWatches2(Boxed<SetWatches2<'a>>),
     AddWatch(AddWatch<'a>),
     CheckWatches(PathAndKind<'a>),
     RemoveWatches(PathAndKind<'a>),
@@ -82,7 +82,7 @@ fn read_set_watches<'a>(alloc: Global, reader: &mut Reader<'a>) -> Result<LocalC
 {
     match read_or_none(alloc, reader)? {
         None => Ok(LocalCall::Unreadable),
-        Some(asked) => Ok(LocalCall::SetWatches(asked)),
+        Some(asked) => Ok(LocalCall::SetWatches(Boxed::new(alloc, asked)?)),
     }
 }
 
@@ -102,7 +102,7 @@ fn read_set_watches2<'a>(alloc: Global, reader: &mut Reader<'a>) -> Result<Local
 {
     match read_or_none(alloc, reader)? {
         None => Ok(LocalCall::Unreadable),
-        Some(asked) => Ok(LocalCall::SetWatches2(asked)),
+        Some(asked) => Ok(LocalCall::SetWatches2(Boxed::new(alloc, asked)?)),
     }
 }
 

@@ -13,6 +13,7 @@
 //! ```
 #![tactic(auto)]
 
+mod boxed;
 pub mod codes;
 mod connect;
 mod event;
@@ -23,6 +24,7 @@ mod multi;
 mod request;
 mod response;
 
+pub use boxed::Boxed;
 pub use connect::{ConnectRequest, ConnectResponse};
 pub use event::WatcherEvent;
 pub use fields::{Name, put_list, put_names, read_list};
