@@ -3,12 +3,12 @@
 ghost use Rattle.std.specs.Prelude.{◌≡◌, IfOk};
 ghost use Rattle.jute.specs.Reads.{ReadsOwnedWhole};
 ghost use Rattle.client_records.specs.Multi.{multi_read};
-ghost use Rattle.client_records.specs.Requests.{path_alone, auth_packet, set_watches, set_watches2, path_and_kind, add_watch, sasl_request};
+ghost use Rattle.client_records.specs.Requests.{path_alone, auth_packet};
 ghost use Rattle.client_frames.specs.Call.{value_if_read, call_or_unreadable, call_of_read, sync_of, sync_of_path, multi_call, call_body, call_in};
 
 use client_records::{
-    AddWatch, AuthPacket, Boxed, PathAlone, PathAndKind, PathAndWatch, ReadKind, ReadPart, RequestKind,
-    SaslRequest, SetWatches, SetWatches2, read_parts,
+    AddWatch, AuthPacket, Boxed, PathAlone, PathAndKind, PathAndWatch, ReadKind, ReadPart,
+    RequestKind, SaslRequest, SetWatches, SetWatches2, read_parts,
 };
 use forwarding::WriteKind;
 use jute::{ReadRecord, Reader, RequestHeader};
@@ -76,56 +76,16 @@ fn read_or_none<'a, T: ReadRecord<'a>>(
     }
 }
 
-fn read_set_watches<'a>(alloc: Global, reader: &mut Reader<'a>) -> Result<LocalCall<'a>, NoMemory>
-    ensures { IfOk result
-        (λ call. call ≡ call_or_unreadable LocalCall.SetWatches (value_if_read (set_watches.read reader.old))) }
-{
-    match read_or_none(alloc, reader)? {
-        None => Ok(LocalCall::Unreadable),
-        Some(asked) => Ok(LocalCall::SetWatches(Boxed::new(alloc, asked)?)),
-    }
-}
-
-fn read_add_watch<'a>(alloc: Global, reader: &mut Reader<'a>) -> Result<LocalCall<'a>, NoMemory>
-    ensures { IfOk result
-        (λ call. call ≡ call_or_unreadable LocalCall.AddWatch (value_if_read (add_watch.read reader.old))) }
-{
-    match read_or_none(alloc, reader)? {
-        None => Ok(LocalCall::Unreadable),
-        Some(asked) => Ok(LocalCall::AddWatch(asked)),
-    }
-}
-
-fn read_set_watches2<'a>(alloc: Global, reader: &mut Reader<'a>) -> Result<LocalCall<'a>, NoMemory>
-    ensures { IfOk result
-        (λ call. call ≡ call_or_unreadable LocalCall.SetWatches2 (value_if_read (set_watches2.read reader.old))) }
-{
-    match read_or_none(alloc, reader)? {
-        None => Ok(LocalCall::Unreadable),
-        Some(asked) => Ok(LocalCall::SetWatches2(Boxed::new(alloc, asked)?)),
-    }
-}
-
-fn read_check_watches<'a>(alloc: Global, reader: &mut Reader<'a>) -> Result<LocalCall<'a>, NoMemory>
-    ensures { IfOk result
-        (λ call. call ≡ call_or_unreadable LocalCall.CheckWatches (value_if_read (path_and_kind.read reader.old))) }
-{
-    match read_or_none(alloc, reader)? {
-        None => Ok(LocalCall::Unreadable),
-        Some(asked) => Ok(LocalCall::CheckWatches(asked)),
-    }
-}
-
-fn read_remove_watches<'a>(
+// The record at the front in a box, if it can be read.
+fn read_boxed<'a, T: ReadRecord<'a> + Drop>(
     alloc: Global,
     reader: &mut Reader<'a>,
-) -> Result<LocalCall<'a>, NoMemory>
-    ensures { IfOk result
-        (λ call. call ≡ call_or_unreadable LocalCall.RemoveWatches (value_if_read (path_and_kind.read reader.old))) }
+) -> Result<Option<Boxed<T>>, NoMemory>
+    ensures { IfOk result (λ found. found ≡ value_if_read (T.read_of reader.old)) }
 {
     match read_or_none(alloc, reader)? {
-        None => Ok(LocalCall::Unreadable),
-        Some(asked) => Ok(LocalCall::RemoveWatches(asked)),
+        None => Ok(None),
+        Some(record) => Ok(Some(Boxed::new(alloc, record)?)),
     }
 }
 
@@ -140,40 +100,11 @@ fn read_multi_read<'a>(alloc: Global, reader: &mut Reader<'a>) -> Result<LocalCa
     }
 }
 
-fn read_get_ephemerals<'a>(
-    alloc: Global,
-    reader: &mut Reader<'a>,
-) -> Result<LocalCall<'a>, NoMemory>
-    ensures { IfOk result
-        (λ call. call ≡ call_or_unreadable LocalCall.GetEphemerals (value_if_read (path_alone.read reader.old))) }
+// The call that was read, or that its body can't be read.
+fn local<'a>(call: Option<LocalCall<'a>>) -> CallBody<'a>
+    ensures { result ≡ CallBody.Local (call_or_unreadable (λ c. c) call.entry) }
 {
-    match read_or_none(alloc, reader)? {
-        None => Ok(LocalCall::Unreadable),
-        Some(asked) => Ok(LocalCall::GetEphemerals(asked)),
-    }
-}
-
-fn read_get_all_children_number<'a>(
-    alloc: Global,
-    reader: &mut Reader<'a>,
-) -> Result<LocalCall<'a>, NoMemory>
-    ensures { IfOk result
-        (λ call. call ≡ call_or_unreadable LocalCall.GetAllChildrenNumber (value_if_read (path_alone.read reader.old))) }
-{
-    match read_or_none(alloc, reader)? {
-        None => Ok(LocalCall::Unreadable),
-        Some(asked) => Ok(LocalCall::GetAllChildrenNumber(asked)),
-    }
-}
-
-fn read_sasl<'a>(alloc: Global, reader: &mut Reader<'a>) -> Result<LocalCall<'a>, NoMemory>
-    ensures { IfOk result
-        (λ call. call ≡ call_or_unreadable LocalCall.Sasl (value_if_read (sasl_request.read reader.old))) }
-{
-    match read_or_none(alloc, reader)? {
-        None => Ok(LocalCall::Unreadable),
-        Some(asked) => Ok(LocalCall::Sasl(asked)),
-    }
+    CallBody::Local(call.unwrap_or(LocalCall::Unreadable))
 }
 
 // A path and, where a client may ask for a watch, whether it does.
@@ -264,18 +195,26 @@ fn read_body<'a>(
     };
     match kind {
         RequestKind::Read(kind) => Ok(CallBody::Local(read_request(alloc, dialect, kind, reader)?)),
-        RequestKind::SetWatches => Ok(CallBody::Local(read_set_watches(alloc, reader)?)),
-        RequestKind::SetWatches2 => Ok(CallBody::Local(read_set_watches2(alloc, reader)?)),
-        RequestKind::AddWatch => Ok(CallBody::Local(read_add_watch(alloc, reader)?)),
-        RequestKind::CheckWatches => Ok(CallBody::Local(read_check_watches(alloc, reader)?)),
-        RequestKind::RemoveWatches => Ok(CallBody::Local(read_remove_watches(alloc, reader)?)),
+        RequestKind::SetWatches => Ok(local(read_boxed(alloc, reader)?.map(LocalCall::SetWatches))),
+        RequestKind::SetWatches2 => Ok(local(read_boxed(alloc, reader)?.map(
+            LocalCall::SetWatches2,
+        ))),
+        RequestKind::AddWatch => Ok(local(read_or_none(alloc, reader)?.map(LocalCall::AddWatch))),
+        RequestKind::CheckWatches => Ok(local(read_or_none(alloc, reader)?.map(
+            LocalCall::CheckWatches,
+        ))),
+        RequestKind::RemoveWatches => Ok(local(read_or_none(alloc, reader)?.map(
+            LocalCall::RemoveWatches,
+        ))),
         RequestKind::MultiRead => Ok(CallBody::Local(read_multi_read(alloc, reader)?)),
-        RequestKind::GetEphemerals => Ok(CallBody::Local(read_get_ephemerals(alloc, reader)?)),
-        RequestKind::GetAllChildrenNumber => {
-            Ok(CallBody::Local(read_get_all_children_number(alloc, reader)?))
-        }
+        RequestKind::GetEphemerals => Ok(local(read_or_none(alloc, reader)?.map(
+            LocalCall::GetEphemerals,
+        ))),
+        RequestKind::GetAllChildrenNumber => Ok(local(read_or_none(alloc, reader)?.map(
+            LocalCall::GetAllChildrenNumber,
+        ))),
         RequestKind::WhoAmI => return Ok(CallBody::Local(LocalCall::WhoAmI)),
-        RequestKind::Sasl => Ok(CallBody::Local(read_sasl(alloc, reader)?)),
+        RequestKind::Sasl => Ok(local(read_or_none(alloc, reader)?.map(LocalCall::Sasl))),
         RequestKind::Create => return Ok(CallBody::Forward(WriteKind::Create)),
         RequestKind::Delete => return Ok(CallBody::Forward(WriteKind::Delete)),
         RequestKind::SetData => return Ok(CallBody::Forward(WriteKind::SetData)),

@@ -2,7 +2,7 @@
 
 use crate::is_read;
 use client_records::{
-    ClientInfo, ErrorResponse, GetAllChildrenNumberResponse, MultiHeader, Name, PathAndKind,
+    Boxed, ClientInfo, ErrorResponse, GetAllChildrenNumberResponse, MultiHeader, Name, PathAndKind,
     ReadKind, ReadPart, SaslRequest, SaslResponse, SetWatches, SetWatches2, WhoAmIResponse,
     read_parts,
 };
@@ -37,6 +37,14 @@ fn set_watches2(rt: HostRuntime) -> Result<(), Fail> {
     let mut out = Vec::new(alloc);
     expected.write(&mut out)?;
     assert_eq!(rt; out.as_slice(), &bytes[..58]);
+    Ok(())
+}
+
+/// A record in a box is the record.
+#[test]
+fn boxed(rt: HostRuntime) -> Result<(), Fail> {
+    let record = Boxed::new(rt.alloc(), ReadKind::Exists)?;
+    assert!(rt; *record.get() == ReadKind::Exists);
     Ok(())
 }
 
