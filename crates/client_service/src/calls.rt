@@ -40,7 +40,13 @@ pub fn answer_local(
     match call {
         LocalCall::Read(asked) => answer_request(alloc, number, stage, xid, asked),
         LocalCall::SetWatches(asked) => answer_renewal(alloc, number, stage, xid, asked.get()),
-        LocalCall::SetWatches2(asked) => answer_renewal_of_all(alloc, number, stage, xid, asked.get()),
+        LocalCall::SetWatches2(asked) => answer_renewal_of_all(
+            alloc,
+            number,
+            stage,
+            xid,
+            asked.get(),
+        ),
         LocalCall::AddWatch(asked) => answer_add_watch(alloc, number, stage, xid, asked),
         LocalCall::CheckWatches(asked) => answer_check_watches(alloc, number, stage, xid, asked),
         LocalCall::RemoveWatches(asked) => answer_remove_watches(alloc, number, stage, xid, asked),
