@@ -1,6 +1,6 @@
 //! The secret that the passwords of sessions are made of, in a file that others can't read.
 
-ghost use Rattle.std.specs.Prelude.{◌≡◌, Some, IfOk};
+ghost use Rattle.std.specs.Prelude.{◌≡◌, IfOk};
 ghost use Rattle.serve_config.specs.Secrets.{without_newline, filed_secret};
 
 use serve_failures::Failure;
@@ -76,18 +76,23 @@ fn without_newline(content: &[u8]) -> &[u8]
     content
 }
 
-// The secret in a file with these bytes.
-fn filed_secret(alloc: Global, content: &[u8]) -> Result<Secret, SecretError>
-    ensures { IfOk result (λ secret. filed_secret content.now ≡ Some secret) }
+// The secret in a file with these bytes; `None` if there are none, or too many.
+fn filed_secret(alloc: Global, content: &[u8]) -> Result<Option<Secret>, NoMemory>
+    ensures { IfOk result (λ secret. secret ≡ filed_secret content.now) }
 {
     let bytes = without_newline(content);
     if bytes.is_empty() {
-        return Err(SecretError::Empty);
+        return Ok(None);
     }
-    match Secret::new(Blob::new(alloc, bytes)?) {
-        Some(secret) => Ok(secret),
-        None => Err(SecretError::Long),
+    Ok(Secret::new(Blob::new(alloc, bytes)?))
+}
+
+// Why these bytes are no secret.
+fn unfit(content: &[u8]) -> SecretError {
+    if without_newline(content).is_empty() {
+        return SecretError::Empty;
     }
+    SecretError::Long
 }
 
 fn secret_at<R: Files>(rt: &R, alloc: Global, name: &str) -> Result<Secret, SecretError> {
@@ -102,7 +107,7 @@ fn secret_at<R: Files>(rt: &R, alloc: Global, name: &str) -> Result<Secret, Secr
     fs::open(rt, name)?
         .take(MOST_READ)
         .read_to_end(&mut content)?;
-    filed_secret(alloc, content.as_slice())
+    filed_secret(alloc, content.as_slice())?.ok_or_else(|| unfit(content.as_slice()))
 }
 
 // What is wrong with the file that an option names.
