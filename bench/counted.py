@@ -1,0 +1,89 @@
+#!/usr/bin/env python3
+"""Counts the instructions that `serve` takes for a getData and for an INFORM of a setData, over sockets on 127.0.0.1.
+
+    bench/counted.py PROGRAM                  as bench/counted.py crates/replay_runner/out/replay_runner
+    bench/counted.py PROGRAM --before OTHER   beside another program too, as one of an earlier version
+
+`valgrind --tool=callgrind` counts, so what else the machine does is of no account. Each figure is the difference between
+two runs, which differ only in how many there are. Each reply is looked at. There is no bound: what is promised is a rate,
+which bench/writes.py measures.
+"""
+import argparse
+import os
+import re
+import socket
+import struct
+import sys
+import tempfile
+
+sys.dont_write_bytecode = True
+from serve import ANSWER, LONG_CONTENT, PARENTS, Server, transactions  # noqa: E402
+
+CHILDREN, TOGETHER, FEW, MANY = 10, 100, 20, 60
+FEW_SETS, MANY_SETS = 2_000, 6_000
+GET_DATA = 4
+COUNTED = re.compile(r"Collected : (\d+)")
+
+
+def framed(body):
+    return struct.pack(">i", len(body)) + body
+
+
+def get_data(xid, path):
+    return framed(struct.pack(">iii", xid, GET_DATA, len(path)) + path + b"\0")
+
+
+def read_all(port, pieces):
+    """Reads nodes with 100 requests under way, so many times."""
+    with socket.create_connection(("127.0.0.1", port)) as client, client.makefile("rb") as answers:
+        client.setsockopt(socket.IPPROTO_TCP, socket.TCP_NODELAY, 1)
+        client.sendall(framed(struct.pack(">iqiqi", 0, 0, 30_000, 0, 16) + bytes(16)))
+        answers.read(struct.unpack(">i", answers.read(4))[0])
+        for piece in range(pieces):
+            child = piece % CHILDREN
+            paths = [b"/p%02d/n%03d" % (parent % PARENTS, child) for parent in range(TOGETHER)]
+            client.sendall(b"".join(get_data(xid, path) for xid, path in enumerate(paths)))
+            for xid in range(TOGETHER):
+                answer = answers.read(4 + ANSWER)
+                length, answered, _, error = struct.unpack(">iiqi", answer[:20])
+                if (length, answered, error) != (ANSWER, xid, 0):
+                    sys.exit(f"a getData is answered by {answer[:20].hex()}")
+
+
+def instructions(program, pieces, sets):
+    """Returns how many instructions the program takes for the tree, so many setDatas and pieces of getDatas."""
+    with tempfile.TemporaryDirectory() as room:
+        counted, told = os.path.join(room, "counted"), os.path.join(room, "told")
+        words = "valgrind --tool=callgrind --callgrind-out-file=/dev/null"
+        with open(counted, "w", encoding="utf-8") as it:
+            it.write(f"#!/bin/sh\nexec {words} '{os.path.realpath(program)}' \"$@\" 2>'{told}'\n")
+        os.chmod(counted, 0o755)
+        with Server(counted) as server:
+            server.take(*transactions(CHILDREN, LONG_CONTENT, sets))
+            read_all(server.port, pieces)
+        with open(told, encoding="utf-8") as it:
+            return int(COUNTED.search(it.read()).group(1))
+
+
+def figures(program):
+    """Returns what a getData and an INFORM take."""
+    least = instructions(program, FEW, FEW_SETS)
+    read = (instructions(program, MANY, FEW_SETS) - least) / ((MANY - FEW) * TOGETHER)
+    written = (instructions(program, FEW, MANY_SETS) - least) / (MANY_SETS - FEW_SETS)
+    return {"a getData": read, "an INFORM": written}
+
+
+def main():
+    parser = argparse.ArgumentParser(description=__doc__, formatter_class=argparse.RawDescriptionHelpFormatter)
+    parser.add_argument("--before", metavar="OTHER")
+    parser.add_argument("program")
+    asked = parser.parse_args()
+    taken = figures(asked.program)
+    other = figures(asked.before) if asked.before else taken
+    for what, count in taken.items():
+        beside = f", {count / other[what]:.3f} times the other's {other[what]:.0f}" if asked.before else ""
+        print(f"{what}: {count:.0f} instructions{beside}")
+
+
+if __name__ == "__main__":
+    main()
