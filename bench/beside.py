@@ -119,7 +119,7 @@ class Server:
 
     def read(self, path):
         """Waits until a getData of a node is answered. Returns the seconds from the start of the process to that."""
-        until = self.began + STARTING
+        until = time.perf_counter() + STARTING
         while time.perf_counter() < until:
             if not self.process.lives():
                 break
