@@ -34,16 +34,13 @@ pub adds_nothing : (came : List PortMessage) → AddsOfPorts [] came came
 adds_nothing came = ([], sym (append-nil came), refl)
 
 pub adds_none : (k : ℕ) (came : List PortMessage) → AddsOfPorts (k ∷ []) came came
-adds_none k came = ([], sym (append-nil came), [], [], refl, refl)
+adds_none k came = ([], sym (append-nil came), ([], [], refl, refl))
 
 pub adds_fed : (k : ℕ) (old new : Desk) → FeedsPort k old new → AddsOfPorts (k ∷ []) old.fresh new.fresh
 adds_fed k old new f = (
   seen_at old.links k,
   f.fresh,
-  waiting_at old.links k,
-  [],
-  sym (append-nil (seen_at old.links k)),
-  refl,
+  (waiting_at old.links k, [], sym (append-nil (seen_at old.links k)), refl),
 )
 
 -- Where none came before, all are of these ports.

@@ -340,6 +340,10 @@ reordered m old begun new is same turn machine fresh =
     turn_of_list m old begun new is t
     (λ n apart there. t.forgets_none n apart (inr (Contains-permutation old.later begun.later n same there)))
 
+some_of : (o : Option Machine) → IsSome o → (m : Machine) × (o ≡ Some m)
+some_of None is = cc
+some_of (Some m) is = (m, refl)
+
 turn_from : (m : Machine) (a b c : Desk) → BeginsTurn a b → TakesTurn m b c → TakesTurn m a c
 turn_from m a b c begins t = record {
   machine = t.machine;

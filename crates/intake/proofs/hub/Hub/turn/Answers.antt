@@ -1,5 +1,6 @@
-use Rattle.std.proofs.Common.{ℕ, Result, ◌++◌, refl, ap, sym, ◌∙◌, subst}
+use Rattle.std.proofs.Common.{ℕ, List, Result, ◌++◌, refl, ap, sym, ◌∙◌, subst}
 use Rattle.observer_core.specs.declared.engine.Stop.{Stop}
+use Rattle.intake.specs.Messages.{PortMessage}
 use Rattle.intake.specs.Hub.{Hub, TurnsHub}
 use Rattle.intake.proofs.Turning.{answers_ok}
 use Rattle.intake.proofs.Hubs.{closed_turn}
@@ -27,7 +28,7 @@ returns-after-hand_over g c =
       | in-Err-hand_over w ↦ subst Q (sym w.result-is) (record {
         desk = closed_turn old.desk.machine old.desk c.serve.new.self new.desk c.in-Ok.count turn
             w.in-Err-hand_over.ensures.keeps w.in-Err-hand_over.ensures.closed;
-        taken = w.in-Err-hand_over.ensures.kept ∙ c.reserve.ensures;
+        taken = ◌∙◌ {A = List PortMessage} w.in-Err-hand_over.ensures.kept c.reserve.ensures.items;
         since = refl;
       })
       | in-Ok-hand_over w ↦ subst Q (sym w.result-is) (
@@ -36,7 +37,8 @@ returns-after-hand_over g c =
           turn = turn;
           order = c.in-Ok.ensures.order begins.fresh begins.sorted;
           desk = w.in-Ok-hand_over.ensures.desk;
-          taken = w.in-Ok-hand_over.ensures.taken ∙ ap (λ l. l ++ c.serve.new.self.fresh) c.reserve.ensures;
+          taken = ◌∙◌ {A = List PortMessage} w.in-Ok-hand_over.ensures.taken
+              (ap (λ l. l ++ c.serve.new.self.fresh) c.reserve.ensures.items);
           since = refl;
         },
       )
