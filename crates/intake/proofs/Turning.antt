@@ -1,6 +1,6 @@
 -- The steps of a turn, one after the other.
 use Rattle.std.proofs.Common.{◌≡◌, ◌≢◌, ◌≤◌, ◌<◌, ◌+◌, ℕ, zero, suc, true, false, Bool, List, [], ◌∷◌, ◌++◌, length, take, get_or, Option, Some, None, Result, Ok, Err, refl, ap, sym, ◌∙◌, subst, inl, inr, append_assoc, arith}
-use Rattle.std.specs.Prelude.{Contains, IsSome, OnOk, OnErr, ◌⊎◌, if◌then◌else◌}
+use Rattle.std.specs.Prelude.{Contains, IsSome, OnOk, if◌then◌else◌}
 use Rattle.std.specs.List.Sorted.{IsPermutation, IsStrictlyIncreasing}
 use Rattle.std.specs.FinMap as finmap
 use Rattle.std.proofs.lemmas.List.{append-nil, length-append, take_all, take_more}
@@ -14,7 +14,7 @@ use Rattle.observer_core.specs.Play.{play}
 use Rattle.observer_core.specs.declared.engine.Stop.TheVariants as stops
 use Rattle.intake.specs.Messages.{PortMessage, events_of, part_of_port, share_of_port, LeaderComesFirst, ComeByNumber}
 use Rattle.port_hints.specs.Lists.{KeepsEach}
-use Rattle.intake.specs.Links.{Links, LooksAt, taken_at, waiting_at, room_at, seen_at, owed_at, AllStay, TakesSeen, PutsShares}
+use Rattle.intake.specs.Links.{Links, LooksAt, taken_at, waiting_at, room_at, seen_at, owed_at, TakesSeen, PutsShares}
 use Rattle.intake.specs.Desk.{Desk, IsRemembered, ForgetsNone, KeepsPorts, TakesTurn, AnswersTurn}
 use Rattle.intake.specs.Steps.{BeginsTurn, AreOfPorts, FeedsPort, ServesPorts}
 use Rattle.intake.specs.Agreement.{outputs_of}
