@@ -2,13 +2,13 @@
 use Rattle.std.proofs.Common.{◌≡◌, ◌+◌, ℕ, Bool, List, [], ◌++◌, Option, Some, None, refl, ap, sym, ◌∙◌, subst}
 use Rattle.std.specs.Prelude.{if◌then◌else◌}
 use Rattle.std.specs.FinMap as finmap
-use Rattle.rtrb.specs.Ring.{sent, received, known_items, IsPair}
+use Rattle.rtrb.specs.Ring.{sent, received, known_items, producer_capacity, consumer_capacity, IsPair}
 use Rattle.observer_core.specs.Machine.{Machine}
 use Rattle.world.proofs.NatMaps.{get-inserted, get-beside}
 use Rattle.intake.specs.declared.port.PortEnd.{PortEnd}
 use Rattle.intake.specs.declared.link.Link.{Link}
 use Rattle.intake.specs.Messages.{PortMessage}
-use Rattle.intake.specs.Links.{Links, taken_from, waiting_from, owed_to, IsEndBy}
+use Rattle.intake.specs.Links.{Links, taken_from, waiting_from, room_from, owed_to, IsEndBy}
 use Rattle.intake.specs.Desk.{Desk, AddsPort}
 
 -- The model of a desk.
@@ -20,6 +20,7 @@ seen_desk closed engine links next fresh later =
 pub record AreNew (end : PortEnd) (link : Link) : Type 0 where
   pub inbox : IsPair end.inbox link.inbox
   pub outbox : IsPair link.outbox end.outbox
+  pub room : consumer_capacity link.inbox ≡ producer_capacity end.inbox
   pub no_sent : sent end.inbox ≡ []
   pub no_taken : received link.inbox ≡ []
   pub no_seen : known_items link.inbox ≡ []
@@ -44,6 +45,7 @@ adding closed engine links after next count fresh later end link new number is c
       end = (let P : Option Link → Type 0 = λ o. IsEndBy end o in subst P (sym there) (new.inbox, new.outbox));
       sent = new.no_sent;
       received = new.no_received;
+      room = ap room_from there ∙ new.room;
       taken = ap taken_from there ∙ new.no_taken;
       waits = ap waiting_from there ∙ new.no_seen;
       owed = ap owed_to there ∙ ap (λ s. s ++ link.kept.items) new.no_put ∙ new.no_kept;

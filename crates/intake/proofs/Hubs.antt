@@ -7,10 +7,11 @@ use Rattle.observer_core.specs.declared.engine.Stop.TheVariants as stops
 use Rattle.intake.specs.declared.port.PortEnd.{PortEnd}
 use Rattle.intake.specs.Messages.{PortMessage, share_of_port}
 use Rattle.intake.specs.Links.{owed_at}
-use Rattle.intake.specs.Desk.{Desk, AddsPort, TakesTurn, TakesNothing, AnswersTurn}
+use Rattle.intake.specs.Desk.{Desk, AddsPort, KeepsPorts, TakesTurn, TakesNothing, AnswersTurn}
 use Rattle.intake.specs.Agreement.{DeskAgrees, outputs_of, with_port}
 use Rattle.intake.specs.Hub.{Hub, new_hub, without_port, number_at, taken_before, IsHubSince, HubsRun}
 use Rattle.intake.proofs.Agreeing.{desks_agree}
+use Rattle.intake.proofs.Turning.{ports_on}
 
 -- The lists before the ports, given in another way.
 told_so : (began : Machine) (d : Desk) (taken : List PortMessage) (before others : ℕ → List PortMessage)
@@ -38,9 +39,10 @@ turned_machine (Some m) old new count t = (m, (refl, (t.0, t.1)))
 
 -- The desk was open, and is closed after the turn.
 pub closed_turn : (o : Option Machine) (old turned new : Desk) (count : ℕ) → AnswersTurn (Ok count) o old turned
-    → new.machine ≡ None → AnswersTurn (Err stops.NoMemory) o old new
-closed_turn None old turned new count t none = absurd t
-closed_turn (Some m) old turned new count t none = inl none
+    → KeepsPorts turned new → new.machine ≡ None → AnswersTurn (Err stops.NoMemory) o old new
+closed_turn None old turned new count t keeps none = absurd t
+closed_turn (Some m) old turned new count t keeps none =
+    inl (none, ports_on old turned new (record { stay = t.1.stay; next = t.1.next }) keeps)
 
 runs_on : (began : Machine) (old : Hub) (new left : Desk) (taken : List PortMessage) (count : ℕ)
     → AnswersTurn (Ok count) old.desk.machine old.desk new → left ≡ record new { fresh = [] }

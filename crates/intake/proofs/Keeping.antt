@@ -1,5 +1,5 @@
 -- Overwriting one port's ends, and a list of such writes.
-use Rattle.std.proofs.Common.{◌≡◌, ◌≢◌, ℕ, true, List, [], ◌∷◌, ◌++◌, Option, Some, None, Result, Ok, Err, refl, ap, sym, ◌∙◌, subst, inl, inr, append_assoc, arith}
+use Rattle.std.proofs.Common.{◌≡◌, ◌≢◌, ◌≤◌, ℕ, true, List, [], ◌∷◌, ◌++◌, length, Option, Some, None, Result, Ok, Err, refl, ap, sym, ◌∙◌, subst, inl, inr, append_assoc, arith}
 use Rattle.std.specs.Prelude.{OnOk, is_some}
 use Rattle.std.specs.Ordering.{nat_cmp}
 use Rattle.std.specs.BTreeMap as tree
@@ -11,6 +11,8 @@ use Rattle.std.specs.declared.alloc.Global.{Global}
 use Rattle.rtrb.specs.declared.producer.Producer.{Producer}
 use Rattle.rtrb.specs.declared.consumer.Consumer.{Consumer}
 use Rattle.rtrb.specs.declared.AnyItems.{AnyItems}
+use Rattle.rtrb.specs.declared.end.End.{End}
+use Rattle.rtrb.specs.Ends.{SameRing}
 use Rattle.values.specs.declared.fault.NoMemory.{NoMemory}
 use Rattle.rtrb.specs.Ring.{sent, received, known_items, SameProducer, SameConsumer}
 use Rattle.world.specs.declared.output.Output.{Output}
@@ -19,7 +21,7 @@ use Rattle.intake.specs.declared.message.Message.{Message}
 use Rattle.intake.specs.declared.link.Link.{Link}
 use Rattle.intake.specs.declared.port.PortEnd.{PortEnd}
 use Rattle.intake.specs.Messages.{PortMessage, messages_of_port, part_of_port, port_of, share_of_port}
-use Rattle.intake.specs.Links.{Links, outputs_owed, taken_from, waiting_from, owed_to, taken_at, waiting_at, seen_at, owed_at, IsEndBy, IsSameLink, StaysOpen, AllStay, SameWait, TakesNoMessage, LooksAt, TakesSeen, PutsShares}
+use Rattle.intake.specs.Links.{Links, outputs_owed, taken_from, waiting_from, room_from, owed_to, taken_at, waiting_at, room_at, seen_at, owed_at, IsEndBy, IsSameLink, StaysOpen, AllStay, SameWait, TakesNoMessage, LooksAt, TakesSeen, PutsShares}
 use Rattle.intake.proofs.Parts.{part_own, part_others, share_joined, share_own, share_other}
 
 -- ---- one port's ends are overwritten
@@ -193,6 +195,14 @@ puts_none links = record {
 
 -- ---- one write and then others
 
+-- Two ends are of one ring if a third is of the ring of each.
+module _ {T A P : Type 0} where
+  pub ring_on : (a b c : End T A P) → SameRing a b → SameRing b c → SameRing a c
+  ring_on a b c x y = (y.0 ∙ x.0, y.1 ∙ x.1, y.2 ∙ x.2, y.3 ∙ x.3)
+
+  pub ring_over : (a b c : End T A P) → SameRing a b → SameRing a c → SameRing b c
+  ring_over a b c x y = (y.0 ∙ sym x.0, y.1 ∙ sym x.1, y.2 ∙ sym x.2, y.3 ∙ sym x.3)
+
 stays_on : (x y z : Option Link) → StaysOpen x y → StaysOpen y z → StaysOpen x z
 stays_on None None None a b = tt
 stays_on None None (Some l) a b = b
@@ -200,26 +210,8 @@ stays_on None (Some l) z a b = absurd a
 stays_on (Some l) None z a b = absurd a
 stays_on (Some x) (Some y) None a b = b
 stays_on (Some x) (Some y) (Some z) a b = record {
-  inbox = (
-    (
-      b.inbox.0.0 ∙ a.inbox.0.0,
-      b.inbox.0.1 ∙ a.inbox.0.1,
-      b.inbox.0.2 ∙ a.inbox.0.2,
-      b.inbox.0.3
-          ∙ a.inbox.0.3,
-    ),
-    b.inbox.1 ∙ a.inbox.1,
-  );
-  outbox = (
-    (
-      b.outbox.0.0 ∙ a.outbox.0.0,
-      b.outbox.0.1 ∙ a.outbox.0.1,
-      b.outbox.0.2 ∙ a.outbox.0.2,
-      b.outbox.0.3
-          ∙ a.outbox.0.3,
-    ),
-    b.outbox.1 ∙ a.outbox.1,
-  );
+  inbox = (ring_on x.inbox.end y.inbox.end z.inbox.end a.inbox.0 b.inbox.0, b.inbox.1 ∙ a.inbox.1);
+  outbox = (ring_on x.outbox.end y.outbox.end z.outbox.end a.outbox.0 b.outbox.0, b.outbox.1 ∙ a.outbox.1);
 }
 
 pub all_stay_on : (a b c : Links) → AllStay a b → AllStay b c → AllStay a c
@@ -233,6 +225,20 @@ still_open None None s live = live
 still_open None (Some l) s live = absurd s
 still_open (Some l) None s live = absurd s
 still_open (Some x) (Some y) s live = refl
+
+pub same_room : (x y : Option Link) → StaysOpen x y → room_from y ≡ room_from x
+same_room None None s = refl
+same_room None (Some l) s = absurd s
+same_room (Some l) None s = absurd s
+same_room (Some x) (Some y) s = s.inbox.1
+
+-- An inbox has room for the messages that were seen there.
+room_for : (o : Option Link) → length (waiting_from o) ≤ room_from o
+room_for None = omega arith
+room_for (Some l) = l.inbox.counts
+
+pub room_for_seen : (links : Links) (n : ℕ) → length (waiting_at links n) ≤ room_at links n
+room_for_seen links n = room_for (finmap.get links n)
 
 pub rests_on : (a b c : Links) → TakesNoMessage a b → TakesNoMessage b c → TakesNoMessage a c
 rests_on a b c x y = record {

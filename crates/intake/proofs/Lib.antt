@@ -2,6 +2,8 @@ pub mod Parts
 pub mod Keeping
 pub mod Looking
 pub mod Agreeing
+pub mod Numbering
 pub mod Turning
 pub mod Adding
 pub mod Hubs
+pub mod Ending

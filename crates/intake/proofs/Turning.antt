@@ -1,25 +1,28 @@
 -- The steps of a turn, one after the other.
 use Rattle.std.proofs.Common.{◌≡◌, ◌≢◌, ◌≤◌, ◌<◌, ◌+◌, ℕ, zero, suc, true, false, Bool, List, [], ◌∷◌, ◌++◌, length, take, get_or, Option, Some, None, Result, Ok, Err, refl, ap, sym, ◌∙◌, subst, inl, inr, append_assoc, arith}
-use Rattle.std.specs.Prelude.{Contains, IsSome, OnOk, OnErr, ◌⊎◌, if◌then◌else◌}
+use Rattle.std.specs.Prelude.{Contains, IsSome, OnOk, if◌then◌else◌}
+use Rattle.std.specs.List.Sorted.{IsPermutation, IsStrictlyIncreasing}
 use Rattle.std.specs.FinMap as finmap
-use Rattle.std.proofs.lemmas.List.{append-nil, take_all, take_more}
+use Rattle.std.proofs.lemmas.List.{append-nil, length-append, take_all, take_more}
 use Rattle.std.proofs.lemmas.List.Elements.{Contains-append_left, Contains-append_right, Contains-append_cases}
+use Rattle.std.proofs.lemmas.List.Sorted.{Contains-permutation}
 use Rattle.std.proofs.lemmas.Bool.Decides.{eqb_tells}
 use Rattle.world.specs.declared.output.Output.{Output}
 use Rattle.world.specs.Steps.{StepResult}
 use Rattle.observer_core.specs.Machine.{Machine}
 use Rattle.observer_core.specs.Play.{play}
 use Rattle.observer_core.specs.declared.engine.Stop.TheVariants as stops
-use Rattle.intake.specs.Messages.{PortMessage, events_of, part_of_port, share_of_port, LeaderComesFirst}
+use Rattle.intake.specs.Messages.{PortMessage, events_of, part_of_port, share_of_port, LeaderComesFirst, ComeByNumber}
 use Rattle.port_hints.specs.Lists.{KeepsEach}
-use Rattle.intake.specs.Links.{Links, LooksAt, taken_at, waiting_at, seen_at, owed_at, TakesSeen, PutsShares}
-use Rattle.intake.specs.Desk.{Desk, IsRemembered, ForgetsNone, TakesTurn, AnswersTurn}
-use Rattle.intake.specs.Steps.{BeginsTurn, FeedsPort, ServesPorts}
+use Rattle.intake.specs.Links.{Links, LooksAt, taken_at, waiting_at, room_at, seen_at, owed_at, TakesSeen, PutsShares}
+use Rattle.intake.specs.Desk.{Desk, IsRemembered, ForgetsNone, KeepsPorts, TakesTurn, AnswersTurn}
+use Rattle.intake.specs.Steps.{BeginsTurn, AreOfPorts, FeedsPort, ServesPorts}
 use Rattle.intake.specs.Agreement.{outputs_of}
-use Rattle.intake.proofs.Parts.{part_joined, share_joined, leader_alone, leader_before}
-use Rattle.intake.proofs.Keeping.{rests_same, all_stay_on, still_open}
+use Rattle.intake.proofs.Parts.{part_joined, part_own, part_others, share_joined, leader_alone, leader_before}
+use Rattle.intake.proofs.Keeping.{rests_same, all_stay_on, still_open, same_room, room_for_seen}
 use Rattle.intake.proofs.Adding.{seen_desk}
 use Rattle.intake.proofs.Agreeing.{joined}
+use Rattle.intake.proofs.Numbering.{adds_on, adds_nothing, adds_none, adds_fed, adds_first, come_by_number}
 
 contains_one : (k n : ℕ) → Contains (k ∷ []) n → n ≡ k
 contains_one k n (zero, within, is) = sym is
@@ -30,8 +33,7 @@ contains_one k n (suc i, within, is) = absurd (let e : suc i < 1 = within in ome
 pub looked : (closed : Bool) (engine : Option Machine) (links : Links) (next : ℕ) (fresh : List PortMessage)
     (before : List ℕ) (old : Desk) (one two : Links) (later : List ℕ)
     → seen_desk closed engine links next fresh before ≡ old → KeepsEach before later → LooksAt (0 ∷ []) links one
-    → LooksAt later one two → (n : ℕ) → n ≢ 0 → IsRemembered n old
-    → (waiting_at two n ≡ []) ⊎ Contains later n
+    → LooksAt later one two → ForgetsNone old (seen_desk closed engine two next fresh later)
 looked closed engine links next fresh before old one two later view keeps leader others n apart remembered =
     let P : Desk → Type 0 = λ d. IsRemembered n d in
     elim (subst P (sym view) remembered) [
@@ -44,10 +46,6 @@ looked closed engine links next fresh before old one two later view keeps leader
         ]
       ]
     ]
-
-pub on_err : {A E : Type 0} (P : Type 0) (r : Result A E) → P → OnErr r P
-on_err P (Ok a) p = tt
-on_err P (Err e) p = p
 
 -- ---- a port is fed
 
@@ -85,6 +83,39 @@ forgets_none_fed n old new f k _ r = elim (eqb_tells k n) [
   ]
 ]
 
+-- The messages taken in a turn, and those that wait, are no more than a port has room for.
+abbrev HasRoomFor : ℕ → Desk → Type 0
+HasRoomFor n d = length (part_of_port n d.fresh) + length (waiting_at d.links n) ≤ room_at d.links n
+
+room_fed : (k : ℕ) (old new : Desk) → FeedsPort k old new → (n : ℕ) → HasRoomFor n old → HasRoomFor n new
+room_fed k old new f n fits =
+    let seen = seen_at old.links k in
+    let room : room_at new.links n ≡ room_at old.links n =
+    same_room (finmap.get old.links n) (finmap.get new.links n) (f.stay.at n) in
+    let part : part_of_port n new.fresh ≡ part_of_port n old.fresh ++ part_of_port n seen =
+    ap (part_of_port n) f.fresh ∙ part_joined n old.fresh seen in
+    let both : length (part_of_port n new.fresh) ≡ length (part_of_port n old.fresh) + length (part_of_port n seen) =
+    ap length part ∙ length-append (part_of_port n old.fresh) (part_of_port n seen) in
+    elim (eqb_tells n k) [
+      | inl h ↦
+          let own : length (part_of_port n seen) ≡ length (waiting_at old.links n) =
+          ap length (ap (λ j. part_of_port n (seen_at old.links j)) (sym h.1) ∙ part_own n (waiting_at old.links n)) in
+          let none : length (waiting_at new.links n) ≡ 0 =
+          ap length (ap (waiting_at new.links) h.1 ∙ f.none_waits) in
+          omega arith
+      | inr h ↦
+          let none : length (part_of_port n seen) ≡ 0 = ap length (part_others n k (waiting_at old.links k) h.1) in
+          let same : length (waiting_at new.links n) ≡ length (waiting_at old.links n) =
+          ap length (f.others_wait n h.1) in
+          omega arith
+    ]
+
+room_at_first : (d : Desk) → d.fresh ≡ [] → (n : ℕ) → HasRoomFor n d
+room_at_first d none n =
+    let fits = room_for_seen d.links n in
+    let part : length (part_of_port n d.fresh) ≡ 0 = ap (λ (l : List PortMessage). length (part_of_port n l)) none in
+    omega arith
+
 -- ---- the leader's port
 
 pub turn_of_none : (m : Machine) (d : Desk) → d.machine ≡ Some m → d.fresh ≡ [] → waiting_at d.links 0 ≡ []
@@ -96,6 +127,7 @@ turn_of_none m d machine fresh whole = record {
       ∙ ap (λ (l : List PortMessage). owed_at d.links n ++ share_of_port n (play m (events_of l)).outputs) (sym fresh);
   stay = (rests_same d.links).stay;
   next = refl;
+  in_room = room_at_first d fresh;
   leader_first = (let P : List PortMessage → Type 0 = λ l. LeaderComesFirst l in subst P (sym fresh) refl);
   leader_whole = whole;
   forgets_none = λ n apart r. r;
@@ -114,16 +146,24 @@ turn_of_leader m old new machine fresh f =
           (sym is);
       stay = f.stay;
       next = f.next;
+      in_room = λ n. room_fed 0 old new f n (room_at_first old fresh n);
       leader_first = (let P : List PortMessage → Type 0 = λ l. LeaderComesFirst l in
           subst P (sym is) (leader_alone (waiting_at old.links 0)));
       leader_whole = f.none_waits;
       forgets_none = forgets_none_fed 0 old new f;
     }
 
+pub own_of_none : (d : Desk) → d.fresh ≡ [] → AreOfPorts (0 ∷ []) d.fresh
+own_of_none d none = adds_first (0 ∷ []) d.fresh d.fresh none (adds_none 0 d.fresh)
+
+pub own_of_leader : (old new : Desk) → old.fresh ≡ [] → FeedsPort 0 old new → AreOfPorts (0 ∷ []) new.fresh
+own_of_leader old new none f = adds_first (0 ∷ []) old.fresh new.fresh none (adds_fed 0 old new f)
+
 -- ---- a client's port
 
 pub serves_none : (d : Desk) → ServesPorts [] d d
 serves_none d = record {
+  adds = adds_nothing d.fresh;
   goes_on = λ m first t. t;
   served = λ n apart h. absurd (let e : h.0 < 0 = h.1 in omega (arith, e));
   forgets_none = λ n apart r. r;
@@ -131,6 +171,7 @@ serves_none d = record {
 
 pub serves_idle : (k : ℕ) (d : Desk) → (k ≢ 0 → waiting_at d.links k ≡ []) → ServesPorts (k ∷ []) d d
 serves_idle k d none = record {
+  adds = adds_none k d.fresh;
   goes_on = λ m first t. t;
   served = λ n apart h.
       let is = contains_one k n h in
@@ -148,12 +189,14 @@ pub serves_left : (k : ℕ) (d new : Desk) → new ≡ record d { later = d.late
 serves_left k d new is =
     let P : Desk → Type 0 = λ x. ServesPorts (k ∷ []) d x in
     subst P (sym is) (record {
+      adds = adds_none k d.fresh;
       goes_on = λ m first t. record {
         machine = t.machine;
         took = t.took;
         owes = t.owes;
         stay = t.stay;
         next = t.next;
+        in_room = t.in_room;
         leader_first = t.leader_first;
         leader_whole = t.leader_whole;
         forgets_none = λ n apart r. left_too k d n apart (t.forgets_none n apart r);
@@ -194,6 +237,7 @@ turn_goes_on k m first old new apart f t =
           ∙ ap (λ (l : List PortMessage). owed_at first.links n ++ share_of_port n (outs l)) (sym f.fresh);
       stay = all_stay_on first.links old.links new.links t.stay f.stay;
       next = f.next ∙ t.next;
+      in_room = λ n. room_fed k old new f n (t.in_room n);
       leader_first = (let P : List PortMessage → Type 0 = λ l. LeaderComesFirst l in
           subst P (sym f.fresh) (leader_before old.fresh k (waiting_at old.links k) apart t.leader_first));
       leader_whole = f.others_wait 0 (λ e. apart (sym e)) ∙ t.leader_whole;
@@ -202,6 +246,7 @@ turn_goes_on k m first old new apart f t =
 
 pub serves_fed : (k : ℕ) (old new : Desk) → k ≢ 0 → FeedsPort k old new → ServesPorts (k ∷ []) old new
 serves_fed k old new apart f = record {
+  adds = adds_fed k old new f;
   goes_on = λ m first t. turn_goes_on k m first old new apart f t;
   served = λ n _ h. inl (ap (λ j. waiting_at new.links j) (contains_one k n h) ∙ f.none_waits);
   forgets_none = forgets_none_fed k old new f;
@@ -211,6 +256,7 @@ serves_fed k old new apart f = record {
 
 serves_on : (xs ys : List ℕ) (a b c : Desk) → ServesPorts xs a b → ServesPorts ys b c → ServesPorts (xs ++ ys) a c
 serves_on xs ys a b c x y = record {
+  adds = adds_on xs ys a.fresh b.fresh c.fresh x.adds y.adds;
   goes_on = λ m first t. y.goes_on m first (x.goes_on m first t);
   served = λ n apart h. elim (Contains-append_cases xs ys n h) [
     | inl p ↦ y.forgets_none n apart (x.served n apart p)
@@ -232,13 +278,74 @@ serves_all numbers k a b all x =
 
 -- ---- the whole turn
 
+pub ports_same : (d : Desk) → KeepsPorts d d
+ports_same d = record { stay = (rests_same d.links).stay; next = refl }
+
+pub ports_on : (a b c : Desk) → KeepsPorts a b → KeepsPorts b c → KeepsPorts a c
+ports_on a b c x y = record {
+  stay = all_stay_on a.links b.links c.links x.stay y.stay;
+  next = y.next ∙ x.next;
+}
+
+-- The ports of the last turn's `later` are served, or left for the next turn, if they are in the list that the turn
+-- has in its place.
+turn_of_list : (m : Machine) (old begun new : Desk) → begun ≡ record old { later = begun.later } → TakesTurn m begun new
+    → ((n : ℕ) → n ≢ 0 → Contains old.later n → IsRemembered n new) → TakesTurn m old new
+turn_of_list m old begun new is turn there =
+    let P : Desk → Type 0 = λ d. TakesTurn m d new in
+    let t = subst P is turn in
+    record {
+      machine = t.machine;
+      took = t.took;
+      owes = t.owes;
+      stay = t.stay;
+      next = t.next;
+      in_room = t.in_room;
+      leader_first = t.leader_first;
+      leader_whole = t.leader_whole;
+      forgets_none = λ n apart r. elim r [
+        | inl none ↦ t.forgets_none n apart (inl none)
+        | inr h ↦ there n apart h
+      ];
+    }
+
+pub ports_of_list : (old begun : Desk) → begun ≡ record old { later = begun.later } → KeepsPorts old begun
+ports_of_list old begun is =
+    let P : Desk → Type 0 = λ d. KeepsPorts old d in
+    subst P (sym is) (record { stay = (rests_same old.links).stay; next = refl })
+
+-- The leader's port is served, and then the clients' ports that were in `later`.
+pub served : (m : Machine) (numbers : List ℕ) (old begun one two : Desk) → begun ≡ record old { later = begun.later }
+    → numbers ≡ old.later → (begun.machine ≡ Some m → begun.fresh ≡ [] → TakesTurn m begun one)
+    → ServesPorts numbers one two → old.machine ≡ Some m → old.fresh ≡ [] → TakesTurn m old two
+served m numbers old begun one two is same leader clients machine fresh =
+    let first = leader (ap (λ (d : Desk). d.machine) is ∙ machine) (ap (λ (d : Desk). d.fresh) is ∙ fresh) in
+    turn_of_list m old begun two is (clients.goes_on m begun first) (λ n apart there.
+    let P : List ℕ → Type 0 = λ l. Contains l n in clients.served n apart (subst P (sym same) there))
+
+pub served_in_order : (numbers : List ℕ) (old begun one two : Desk) → begun ≡ record old { later = begun.later }
+    → numbers ≡ old.later → (begun.fresh ≡ [] → AreOfPorts (0 ∷ []) one.fresh) → ServesPorts numbers one two
+    → old.fresh ≡ [] → IsStrictlyIncreasing old.later → ComeByNumber two.fresh
+served_in_order numbers old begun one two is same leader clients fresh up =
+    let P : List ℕ → Type 0 = λ l. IsStrictlyIncreasing l in
+    come_by_number numbers one.fresh two.fresh (subst P (sym same) up)
+    (leader (ap (λ (d : Desk). d.fresh) is ∙ fresh)) clients.adds
+
+-- The ports that the turn is to come to are put in another order.
+pub reordered : (m : Machine) (old begun new : Desk) → begun ≡ record old { later = begun.later }
+    → IsPermutation old.later begun.later → (begun.machine ≡ Some m → begun.fresh ≡ [] → TakesTurn m begun new)
+    → old.machine ≡ Some m → old.fresh ≡ [] → TakesTurn m old new
+reordered m old begun new is same turn machine fresh =
+    let t = turn (ap (λ (d : Desk). d.machine) is ∙ machine) (ap (λ (d : Desk). d.fresh) is ∙ fresh) in
+    turn_of_list m old begun new is t
+    (λ n apart there. t.forgets_none n apart (inr (Contains-permutation old.later begun.later n same there)))
+
 some_of : (o : Option Machine) → IsSome o → (m : Machine) × (o ≡ Some m)
 some_of None is = cc
 some_of (Some m) is = (m, refl)
 
-turn_from : (queue : List ℕ) (m : Machine) (a b c : Desk) → BeginsTurn queue a b → TakesTurn m b c
-    → ((n : ℕ) → n ≢ 0 → Contains queue n → IsRemembered n c) → TakesTurn m a c
-turn_from queue m a b c begins t served = record {
+turn_from : (m : Machine) (a b c : Desk) → BeginsTurn a b → TakesTurn m b c → TakesTurn m a c
+turn_from m a b c begins t = record {
   machine = t.machine;
   took = λ n. t.took n ∙ ap (λ l. l ++ part_of_port n c.fresh) (begins.rests.links.took n);
   owes = λ n live.
@@ -246,28 +353,33 @@ turn_from queue m a b c begins t served = record {
       ∙ ap (λ l. l ++ share_of_port n (outputs_of m c.fresh)) (begins.rests.links.owes n);
   stay = all_stay_on a.links b.links c.links begins.rests.links.stay t.stay;
   next = t.next ∙ begins.rests.next;
+  in_room = t.in_room;
   leader_first = t.leader_first;
   leader_whole = t.leader_whole;
-  forgets_none = λ n apart r. elim (begins.queued n apart r) [
-    | inl none ↦ t.forgets_none n apart (inl none)
-    | inr there ↦ served n apart there
-  ];
+  forgets_none = λ n apart r. t.forgets_none n apart (begins.forgets_none n apart r);
 }
 
-pub answers_ok : (queue : List ℕ) (count : ℕ) (a b c : Desk) → BeginsTurn queue a b
-    → ((m : Machine) → b.machine ≡ Some m → b.fresh ≡ [] → TakesTurn m b c)
-    → ((n : ℕ) → n ≢ 0 → Contains queue n → IsRemembered n c) → count ≡ length c.fresh
+pub answers_ok : (count : ℕ) (a b c : Desk) → BeginsTurn a b
+    → ((m : Machine) → b.machine ≡ Some m → b.fresh ≡ [] → TakesTurn m b c) → count ≡ length c.fresh
     → AnswersTurn (Ok count) a.machine a c
-answers_ok queue count a b c begins turn served counts =
+answers_ok count a b c begins turn counts =
     let s = some_of a.machine begins.is_open in
     let P : Option Machine → Type 0 = λ o. AnswersTurn (Ok count) o a c in
-    subst P (sym s.1) (
-      counts,
-      turn_from queue s.0 a b c begins (turn s.0 (begins.rests.machine ∙ s.1) begins.fresh) served,
-    )
+    subst P (sym s.1) (counts, turn_from s.0 a b c begins (turn s.0 (begins.rests.machine ∙ s.1) begins.fresh))
 
-pub answers_refused : (queue : List ℕ) (a b c : Desk) → BeginsTurn queue a b → c.machine ≡ None
-    → AnswersTurn (Err stops.NoMemory) a.machine a c
-answers_refused queue a b c begins closed =
+-- Nothing was taken yet, and nothing is.
+pub answers_refused : (a b : Desk) → BeginsTurn a b → AnswersTurn (Err stops.NoMemory) a.machine a b
+answers_refused a b begins =
     let s = some_of a.machine begins.is_open in
-    let P : Option Machine → Type 0 = λ o. AnswersTurn (Err stops.NoMemory) o a c in subst P (sym s.1) (inl closed)
+    let P : Option Machine → Type 0 = λ o. AnswersTurn (Err stops.NoMemory) o a b in
+    subst P (sym s.1) (inr (begins.fresh, begins.rests, begins.forgets_none))
+
+pub answers_closed : (a b c : Desk) → BeginsTurn a b → KeepsPorts b c → c.machine ≡ None
+    → AnswersTurn (Err stops.NoMemory) a.machine a c
+answers_closed a b c begins keeps closed =
+    let s = some_of a.machine begins.is_open in
+    let P : Option Machine → Type 0 = λ o. AnswersTurn (Err stops.NoMemory) o a c in
+    subst P (sym s.1) (inl (closed, ports_on a b c (record {
+      stay = begins.rests.links.stay;
+      next = begins.rests.next;
+    }) keeps))

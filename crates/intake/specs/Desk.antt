@@ -1,7 +1,8 @@
 -- A desk, and the contract of a turn.
-use Rattle.std.specs.Prelude.{◌≡◌, ◌≢◌, ◌⊎◌, ◌+◌, ℕ, List, [], ◌++◌, length, Contains, Bool, true, false, Option, Some, None, IsSome, Result, Ok, Err, refl}
+use Rattle.std.specs.Prelude.{◌≡◌, ◌≢◌, ◌≤◌, ◌⊎◌, ◌+◌, ℕ, List, [], ◌++◌, length, Contains, Bool, true, false, Option, Some, None, IsSome, Result, Ok, Err, refl}
 use Rattle.std.specs.FinMap as finmap
 use Rattle.std.specs.Coded.{Coded, code_by, coded×, coded_ℕ, coded_list}
+use Rattle.rtrb.specs.Ring.{producer_capacity}
 use Rattle.observer_core.specs.Machine.{Machine}
 use Rattle.observer_core.specs.Play.{play}
 use Rattle.observer_core.specs.declared.engine.Stop.{Stop}
@@ -9,7 +10,7 @@ use Rattle.observer_core.specs.declared.engine.Stop.TheVariants as stops
 use Rattle.intake.specs.Messages.{PortMessage, events_of, part_of_port, share_of_port, LeaderComesFirst}
 use Rattle.intake.specs.declared.port.PortEnd.{PortEnd}
 use Rattle.intake.specs.Ports.{sent_through, received_through}
-use Rattle.intake.specs.Links.{Links, is_open_port, taken_at, waiting_at, owed_at, IsEnd, AllStay, TakesNoMessage}
+use Rattle.intake.specs.Links.{Links, is_open_port, taken_at, waiting_at, room_at, owed_at, IsEnd, AllStay, TakesNoMessage}
 
 -- An observer with its open ports; a closed one has no machine.
 pub record Desk : Type 0 where
@@ -38,6 +39,7 @@ pub record AddsPort (old : Desk) (port : PortEnd) (new : Desk) : Type 0 where
   pub end : IsEnd port new.links
   pub sent : sent_through port ≡ []
   pub received : received_through port ≡ []
+  pub room : room_at new.links port.number ≡ producer_capacity port.inbox
   pub taken : taken_at new.links port.number ≡ []
   pub owed : owed_at new.links port.number ≡ []
   pub waits : waiting_at new.links port.number ≡ []
@@ -54,6 +56,11 @@ IsRemembered n d = (waiting_at d.links n ≡ []) ⊎ Contains d.later n
 abbrev pub ForgetsNone : Desk → Desk → Type 0
 ForgetsNone old new = (n : ℕ) → n ≢ 0 → IsRemembered n old → IsRemembered n new
 
+-- The same ports are open, and have the same rings.
+pub record KeepsPorts (old new : Desk) : Type 0 where
+  pub stay : AllStay old.links new.links
+  pub next : new.next ≡ old.next
+
 -- A turn plays the messages that it takes, and puts the outputs.
 pub record TakesTurn (m : Machine) (old new : Desk) : Type 0 where
   pub machine : new.machine ≡ Some (play m (events_of new.fresh)).after
@@ -62,6 +69,8 @@ pub record TakesTurn (m : Machine) (old new : Desk) : Type 0 where
       → owed_at new.links n ≡ owed_at old.links n ++ share_of_port n (play m (events_of new.fresh)).outputs
   pub stay : AllStay old.links new.links
   pub next : new.next ≡ old.next
+  -- The messages taken of a port, and those that were seen and still wait, are no more than it has room for.
+  pub in_room : (n : ℕ) → length (part_of_port n new.fresh) + length (waiting_at new.links n) ≤ room_at new.links n
   -- The leader's messages come first, and all of them that were seen are taken.
   pub leader_first : LeaderComesFirst new.fresh
   pub leader_whole : waiting_at new.links 0 ≡ []
@@ -74,11 +83,11 @@ pub record TakesNothing (old new : Desk) : Type 0 where
   pub next : new.next ≡ old.next
 
 -- A turn is made; or the list of messages couldn't grow, and the messages stay where they are; or another refused
--- allocation closed the desk. A desk that was closed before returns `Closed`, and takes nothing.
+-- allocation closed the desk, whose ports stay. A desk that was closed before returns `Closed`, and takes nothing.
 abbrev pub AnswersTurn : Result ℕ Stop → Option Machine → Desk → Desk → Type 0
 AnswersTurn (Ok count) (Some m) old new = (count ≡ length new.fresh) × TakesTurn m old new
 AnswersTurn (Err stops.NoMemory) (Some m) old new =
-    (new.machine ≡ None) ⊎ ((new.fresh ≡ []) × TakesNothing old new × ForgetsNone old new)
+    ((new.machine ≡ None) × KeepsPorts old new) ⊎ ((new.fresh ≡ []) × TakesNothing old new × ForgetsNone old new)
 AnswersTurn (Err stops.Closed) None old new = (new.fresh ≡ []) × TakesNothing old new × ForgetsNone old new
 AnswersTurn (Ok count) None old new = ⊥
 AnswersTurn (Err stops.NoMemory) None old new = ⊥

@@ -5,7 +5,7 @@ use Rattle.std.specs.Coded.{Coded, code_by, coded×, coded_ℕ, coded_list}
 use Rattle.observer_core.specs.Machine.{Machine}
 use Rattle.observer_core.specs.declared.engine.Stop.{Stop}
 use Rattle.intake.specs.declared.port.PortEnd.{PortEnd}
-use Rattle.intake.specs.Messages.{PortMessage}
+use Rattle.intake.specs.Messages.{PortMessage, ComeByNumber}
 use Rattle.intake.specs.Desk.{Desk, new_desk, AddsPort, TakesNothing, AnswersTurn}
 use Rattle.intake.specs.Agreement.{DeskAgrees}
 
@@ -26,9 +26,11 @@ pub record GainsPort (old : Hub) (port : PortEnd) (new : Hub) : Type 0 where
   pub taken : new.taken ≡ old.taken
   pub since : new.since ≡ old.since ++ length old.taken ∷ []
 
--- The desk made a turn, after which it was `turned`. Its messages are appended to the list.
+-- The desk made a turn, after which it was `turned`. Its messages are appended to the list, by the numbers of their
+-- ports.
 pub record GainsTurn (count : ℕ) (turned : Desk) (old new : Hub) : Type 0 where
   pub turn : AnswersTurn (Ok count) old.desk.machine old.desk turned
+  pub order : ComeByNumber turned.fresh
   pub desk : new.desk ≡ record turned { fresh = [] }
   pub taken : new.taken ≡ old.taken ++ turned.fresh
   pub since : new.since ≡ old.since

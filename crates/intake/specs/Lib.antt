@@ -5,3 +5,4 @@ pub mod Desk
 pub mod Steps
 pub mod Agreement
 pub mod Hub
+pub mod Ends

@@ -2,7 +2,7 @@
 use Rattle.std.specs.Prelude.{◌≡◌, ◌≢◌, ◌⊎◌, ℕ, List, [], ◌++◌, Contains, Option, Some, None, Bool, true}
 use Rattle.std.specs.Ordering.{nat_cmp}
 use Rattle.std.specs.FinMap as finmap
-use Rattle.rtrb.specs.Ring.{sent, received, known_items, IsPair, SameProducer, SameConsumer}
+use Rattle.rtrb.specs.Ring.{sent, received, known_items, consumer_capacity, IsPair, SameProducer, SameConsumer}
 use Rattle.world.specs.declared.output.Output.{Output}
 use Rattle.intake.specs.declared.message.Message.{Message}
 use Rattle.intake.specs.declared.port.PortEnd.{PortEnd}
@@ -29,6 +29,11 @@ taken_from (Some link) = received link.inbox
 abbrev pub waiting_from : Option Link → List Message
 waiting_from None = []
 waiting_from (Some link) = known_items link.inbox
+
+-- For how many messages an inbox has room.
+abbrev pub room_from : Option Link → ℕ
+room_from None = 0
+room_from (Some link) = consumer_capacity link.inbox
 
 abbrev pub put_to : Option Link → List Output
 put_to None = []
@@ -64,7 +69,10 @@ taken_at links n = taken_from (finmap.get links n)
 abbrev pub waiting_at : Links → ℕ → List Message
 waiting_at links n = waiting_from (finmap.get links n)
 
--- The same, as messages of the port.
+abbrev pub room_at : Links → ℕ → ℕ
+room_at links n = room_from (finmap.get links n)
+
+-- The messages that wait, as messages of the port.
 abbrev pub seen_at : Links → ℕ → List PortMessage
 seen_at links n = messages_of_port n (waiting_at links n)
 

@@ -1,5 +1,6 @@
 -- The events of messages, and one port's part of a list.
 use Rattle.std.specs.Prelude.{◌≡◌, ◌==◌, ◌++◌, ℕ, List, map, filter, not, if◌then◌else◌}
+use Rattle.std.specs.List.Sorted.{IsNonDecreasingBy}
 use Rattle.observer_core.specs.declared.event.Event.{Event}
 use Rattle.observer_core.specs.declared.event.Event.TheVariants as events
 use Rattle.world.specs.declared.output.Output.{Output}
@@ -34,6 +35,10 @@ messages_of_port n messages = map (λ m. (n, m)) messages
 -- The leader's messages come before those of clients.
 abbrev pub LeaderComesFirst : List PortMessage → Type 0
 LeaderComesFirst came = filter (λ c. c.0 == 0) came ++ filter (λ c. not (c.0 == 0)) came ≡ came
+
+-- The messages come port by port, and the ports by number.
+abbrev pub ComeByNumber : List PortMessage → Type 0
+ComeByNumber came = IsNonDecreasingBy (λ c. c.0) came
 
 abbrev pub port_of : Output → ℕ
 port_of (ToLeader bytes) = 0

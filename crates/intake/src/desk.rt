@@ -1,17 +1,17 @@
 //! The desk: an engine, and the ports whose messages it takes.
 
-ghost use Rattle.std.specs.Prelude.{◌≡◌, ◌≢◌, ◌⊎◌, ◌++◌, ◌<◌, ◌≤◌, ℕ, ◌∷◌, length, Contains, IfOk, IfErr, OnErr, OnOk, IsSome, Some, None, Ok, Err, []};
-ghost use Rattle.std.specs.List.Sorted.{IsPermutation};
+ghost use Rattle.std.specs.Prelude.{◌≡◌, ◌⊎◌, ◌++◌, ◌<◌, ◌≤◌, ◌∷◌, length, IfOk, IfErr, OnErr, OnOk, IsSome, Some, None, Ok, Err, []};
+ghost use Rattle.std.specs.List.Sorted.{IsPermutation, IsStrictlyIncreasing};
 ghost use Rattle.std.specs.FinMap as finmap;
 ghost use Rattle.observer_core.specs.Machine.{Machine as TheMachine};
 ghost use Rattle.observer_core.specs.Play.{new_machine, primed_machine};
 ghost use Rattle.observer_core.specs.Plays.{PlaysEvents};
 ghost use Rattle.intake.specs.declared.message.AddPortError.TheVariants as errors;
-ghost use Rattle.intake.specs.Messages.{events_of};
+ghost use Rattle.intake.specs.Messages.{events_of, ComeByNumber};
 ghost use Rattle.intake.specs.Ports.{sent_through, received_through, unread_through, HasRoom, SamePort};
-ghost use Rattle.intake.specs.Links.{taken_at, waiting_at, outbox_at, IsEnd, TakesNoMessage};
-ghost use Rattle.intake.specs.Desk.{new_desk, AddsPort, IsRemembered, ForgetsNone, TakesTurn, TakesNothing, AnswersTurn};
-ghost use Rattle.intake.specs.Steps.{BeginsTurn, FeedsPort, ServesPorts};
+ghost use Rattle.intake.specs.Links.{taken_at, waiting_at, outbox_at, IsEnd};
+ghost use Rattle.intake.specs.Desk.{new_desk, AddsPort, ForgetsNone, KeepsPorts, TakesTurn, TakesNothing, AnswersTurn};
+ghost use Rattle.intake.specs.Steps.{BeginsTurn, AreOfPorts, FeedsPort, ServesPorts};
 
 use crate::budget::{Budget, Unlimited};
 use crate::events::{bytes_of, events_of};
@@ -253,11 +253,13 @@ impl Desk {
         count
     }
 
-    // Moves the messages of the last turn to the end of a list. A refused allocation closes the desk.
+    // Moves the messages of the last turn to the end of a list, which was given room for them. A refused allocation
+    // closes the desk.
     pub(crate) fn hand_over(&mut self, taken: &mut Vec<(usize, Message)>) -> Result<(), NoMemory>
         ensures taken { OnOk result (taken.new.items ≡ taken.old.items ++ self.old.fresh) }
         ensures desk { OnOk result (self.new ≡ record self.old { fresh = [] }) }
         ensures closed { OnErr result (self.new.machine ≡ None) }
+        ensures keeps { KeepsPorts self.old self.new }
         ensures kept { OnErr result (taken.new.items ≡ taken.old.items) }
     {
         if taken.append(&mut self.fresh).is_err() {
@@ -317,10 +319,11 @@ impl Desk {
         rt: &R,
         gate: &G,
     ) -> Result<usize, Stop>
-        ensures { AnswersTurn result self.old.machine self.old self.new }
+        ensures turn { AnswersTurn result self.old.machine self.old self.new }
+        ensures order { OnOk result (ComeByNumber self.new.fresh) }
     {
-        let queue = self.prepare()?;
-        match self.serve(rt, gate, queue, &mut Unlimited) {
+        self.prepare()?;
+        match self.serve(rt, gate, &mut Unlimited) {
             Ok(count) => Ok(count),
             Err(NoMemory) => Err(Stop::NoMemory),
         }
@@ -341,17 +344,17 @@ impl Desk {
     ) -> Result<usize, Stop>
         ensures { AnswersTurn result self.old.machine self.old self.new }
     {
-        let mut queue = self.prepare()?;
-        self.order(&mut queue);
-        match self.serve(rt, gate, queue, budget) {
+        self.prepare()?;
+        self.order();
+        match self.serve(rt, gate, budget) {
             Ok(count) => Ok(count),
             Err(NoMemory) => Err(Stop::NoMemory),
         }
     }
 
-    // Begins a turn, and puts the outputs that were kept. Returns the ports of clients that may have sent something.
-    fn prepare(&mut self) -> Result<Vec<usize>, Stop>
-        ensures ok { IfOk result (λ queue. BeginsTurn queue.items self.old self.new) }
+    // Begins a turn, and puts the outputs that were kept. Returns the number of messages that there are to take.
+    pub(crate) fn prepare(&mut self) -> Result<usize, Stop>
+        ensures ok { OnOk result (BeginsTurn self.old self.new) }
         ensures err { IfErr result (λ stop. AnswersTurn (Err stop) self.old.machine self.old self.new) }
     {
         self.fresh.clear();
@@ -369,34 +372,45 @@ impl Desk {
             return Err(Stop::NoMemory);
         }
         match self.look() {
-            Ok(queue) => Ok(queue),
+            Ok(seen) => Ok(seen),
             Err(NoMemory) => Err(Stop::NoMemory),
         }
     }
 
     // Looks at the leader's port, at those that the last turn left and at those that are marked, and makes room for
-    // their messages. After a refused allocation the next turn looks at them.
-    fn look(&mut self) -> Result<Vec<usize>, NoMemory>
-        ensures ok { IfOk result (λ queue. (n : ℕ) → n ≢ 0 → IsRemembered n self.old
-            → (waiting_at self.new.links n ≡ []) ⊎ Contains queue.items n) }
-        ensures err { OnErr result (ForgetsNone self.old self.new) }
+    // their messages. Returns the number of these.
+    fn look(&mut self) -> Result<usize, NoMemory>
         ensures desk { TakesNothing self.old self.new }
         ensures fresh { self.new.fresh ≡ self.old.fresh }
+        ensures forgets_none { ForgetsNone self.old self.new }
+        ensures sorted { IsStrictlyIncreasing self.new.later }
     {
         let found = self.marks.add_to(&mut self.later);
         let leaders = self.links.look(0);
         let others = self.links.look_all(self.later.as_slice());
         found?;
-        self.fresh.reserve(leaders.saturating_add(others))?;
-        let next = mem::replace(&mut self.spare, Vec::new(self.alloc));
-        Ok(mem::replace(&mut self.later, next))
+        let seen = leaders.saturating_add(others);
+        self.fresh.reserve(seen)?;
+        Ok(seen)
     }
 
-    // Puts the ports in the order in which a turn within a budget comes to them.
-    fn order(&self, queue: &mut Vec<usize>)
-        ensures { IsPermutation queue.old.items queue.new.items }
+    // Takes the ports that this turn comes to out of `later`, which is then the list for the next turn.
+    fn queue(&mut self) -> Vec<usize>
+        ensures queue { result.items ≡ self.old.later }
+        ensures desk { self.new ≡ record self.old { later = self.new.later } }
     {
+        let next = mem::replace(&mut self.spare, Vec::new(self.alloc));
+        mem::replace(&mut self.later, next)
+    }
+
+    // Puts the ports that this turn comes to in the order in which a turn within a budget comes to them.
+    fn order(&mut self)
+        ensures permutation { IsPermutation self.old.later self.new.later }
+        ensures desk { self.new ≡ record self.old { later = self.new.later } }
+    {
+        let mut queue = mem::replace(&mut self.later, Vec::new(self.alloc));
         queue.sort_unstable_by_key(|number| self.round.place(*number, self.is_costly(*number)));
+        self.later = queue;
     }
 
     // Whether the port's last messages were costly.
@@ -427,20 +441,22 @@ impl Desk {
         self.is_blocked(number)
     }
 
-    // Serves the leader's port, and then those in the queue. A refused allocation closes the desk.
-    fn serve<R: Threads + Sync, G: Gate + Sync, B: Budget>(
+    // Serves the leader's port, and then those in `later`. A refused allocation closes the desk.
+    pub(crate) fn serve<R: Threads + Sync, G: Gate + Sync, B: Budget>(
         &mut self,
         rt: &R,
         gate: &G,
-        mut queue: Vec<usize>,
         budget: &mut B,
     ) -> Result<usize, NoMemory>
         ensures turn { (m : TheMachine) → self.old.machine ≡ Some m → self.old.fresh ≡ []
             → OnOk result (TakesTurn m self.old self.new) }
-        ensures served { OnOk result ((n : ℕ) → n ≢ 0 → Contains queue.items n → IsRemembered n self.new) }
+        ensures order { self.old.fresh ≡ [] → IsStrictlyIncreasing self.old.later
+            → OnOk result (ComeByNumber self.new.fresh) }
         ensures count { IfOk result (λ count. count ≡ length self.new.fresh) }
         ensures err { OnErr result (self.new.machine ≡ None) }
+        ensures keeps { KeepsPorts self.old self.new }
     {
+        let mut queue = self.queue();
         self.serve_leader(rt, gate)?;
         budget.begin();
         self.serve_clients(rt, gate, queue.as_slice(), budget)?;
@@ -456,7 +472,9 @@ impl Desk {
     ) -> Result<(), NoMemory>
         ensures ok { (m : TheMachine) → self.old.machine ≡ Some m → self.old.fresh ≡ []
             → OnOk result (TakesTurn m self.old self.new) }
+        ensures own { self.old.fresh ≡ [] → OnOk result (AreOfPorts (0 ∷ []) self.new.fresh) }
         ensures err { OnErr result (self.new.machine ≡ None) }
+        ensures keeps { KeepsPorts self.old self.new }
     {
         if self.links.seen(0) == 0 {
             return Ok(());
@@ -474,6 +492,7 @@ impl Desk {
     ) -> Result<(), NoMemory>
         ensures ok { OnOk result (ServesPorts numbers.now self.old self.new) }
         ensures err { OnErr result (self.new.machine ≡ None) }
+        ensures keeps { KeepsPorts self.old self.new }
     {
         for number in numbers {
             self.serve_client(rt, gate, *number, budget)?;
@@ -491,6 +510,7 @@ impl Desk {
     ) -> Result<(), NoMemory>
         ensures ok { OnOk result (ServesPorts (number ∷ []) self.old self.new) }
         ensures err { OnErr result (self.new.machine ≡ None) }
+        ensures keeps { KeepsPorts self.old self.new }
     {
         if number == 0 {
             return Ok(());
@@ -519,6 +539,7 @@ impl Desk {
     fn leave(&mut self, number: usize) -> Result<(), NoMemory>
         ensures ok { OnOk result (self.new ≡ record self.old { later = self.old.later ++ number ∷ [] }) }
         ensures err { OnErr result (self.new.machine ≡ None) }
+        ensures keeps { KeepsPorts self.old self.new }
     {
         if self.later.push(number).is_err() {
             self.closed = true;
@@ -537,6 +558,7 @@ impl Desk {
     ) -> Result<usize, NoMemory>
         ensures ok { OnOk result (FeedsPort number self.old self.new) }
         ensures err { OnErr result (self.new.machine ≡ None) }
+        ensures keeps { KeepsPorts self.old self.new }
     {
         self.closed = true;
         self.notes.answered = 0;

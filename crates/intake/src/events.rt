@@ -65,11 +65,6 @@ pub fn content_len(output: &Output) -> usize {
     }
 }
 
-/// Whether an output closes its port's connection.
-pub fn is_close(output: &Output) -> bool {
-    matches!(output, Output::CloseLeader(_) | Output::CloseClient(_))
-}
-
 /// The number of bytes of the messages.
 pub fn bytes_of(messages: &[(usize, Message)]) -> usize {
     let mut count = 0usize;

@@ -8,6 +8,7 @@ ghost use Rattle.intake.specs.Links.{taken_at, waiting_at, outbox_at, IsEnd};
 ghost use Rattle.intake.specs.Desk.{TakesNothing};
 ghost use Rattle.intake.specs.Hub.{new_hub, GainsPort, TurnsHub, without_port};
 
+use crate::budget::Unlimited;
 use crate::desk::Desk;
 use crate::message::{AddPortError, Message};
 use crate::port::{Port, PortEnd};
@@ -45,8 +46,11 @@ impl Hub {
     pub fn new(alloc: Global, config: Config) -> Result<Hub, NoMemory>
         ensures { IfOk result (λ h. h ≡ new_hub (new_machine config.settings)) }
     {
-        let desk = Desk::new(alloc, config)?;
-        Ok(Hub::with_desk(alloc, desk))
+        Ok(Hub {
+            desk: Desk::new(alloc, config)?,
+            taken: Vec::new(alloc),
+            since: Vec::new(alloc),
+        })
     }
 
     /// A hub whose observer follows a leader in epoch 1, with connection 1 open. Fails only if an allocation is
@@ -54,18 +58,11 @@ impl Hub {
     pub fn primed(alloc: Global, config: Config) -> Result<Hub, NoMemory>
         ensures { IfOk result (λ h. h ≡ new_hub (primed_machine config.settings)) }
     {
-        let desk = Desk::primed(alloc, config)?;
-        Ok(Hub::with_desk(alloc, desk))
-    }
-
-    fn with_desk(alloc: Global, desk: Desk) -> Hub
-        ensures { result ≡ record { desk = desk; taken = []; since = [] } }
-    {
-        Hub {
-            desk,
+        Ok(Hub {
+            desk: Desk::primed(alloc, config)?,
             taken: Vec::new(alloc),
             since: Vec::new(alloc),
-        }
+        })
     }
 
     /// Adds the next port, as a desk does. A port that is refused changes nothing.
@@ -102,7 +99,9 @@ impl Hub {
     }
 
     /// Makes a turn of the desk, and appends its messages to the list. Returns the number of messages taken. Fails as
-    /// [`Desk::turn`] does; if the list can't grow, the desk is closed.
+    /// [`Desk::turn`] does. The list grows before anything is taken: if it can't, the messages stay where they are, and
+    /// the desk isn't closed.
+    #[tactic(auto, using(crate::proofs::Turning::answers_refused, crate::proofs::Turning::answers_closed))]
     pub fn turn<R: Threads + Sync, G: Gate + Sync>(
         &mut self,
         rt: &R,
@@ -110,8 +109,12 @@ impl Hub {
     ) -> Result<usize, Stop>
         ensures { TurnsHub result self.old self.new }
     {
-        match self.desk.turn(rt, gate) {
-            Err(stop) => Err(stop),
+        let seen = self.desk.prepare()?;
+        if self.taken.reserve(seen).is_err() {
+            return Err(Stop::NoMemory);
+        }
+        match self.desk.serve(rt, gate, &mut Unlimited) {
+            Err(NoMemory) => Err(Stop::NoMemory),
             Ok(count) => match self.desk.hand_over(&mut self.taken) {
                 Err(NoMemory) => Err(Stop::NoMemory),
                 Ok(()) => Ok(count),

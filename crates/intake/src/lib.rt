@@ -10,7 +10,8 @@
 //! desk keeps no list of these messages, so its memory doesn't grow with them; a closed port leaves only its number,
 //! which is never used again. The law [`desks_agree`] states the result of all turns: if a desk agrees with a list of
 //! messages, then after a turn it agrees with that list and the turn's messages (specs/Agreement). A [`Hub`] is a desk
-//! with that list; [`hubs_run`] says that the two agree whatever it did.
+//! with that list; [`hubs_run`] says that the two agree whatever it did. [`ends_stay`] says that a port's end stays good
+//! for [`Desk::left`] until the port is closed.
 //!
 //! A turn within a [`Budget`] takes all of the leader's messages, and those of clients until the budget is spent. The
 //! ports that it doesn't come to are left for the next turn (`later`), and `ForgetsNone` says that none is lost on the
@@ -48,7 +49,7 @@ mod port;
 pub use budget::{Budget, Unlimited};
 pub use desk::{Desk, Limits};
 pub use hub::Hub;
-pub use law::{desks_agree, hubs_run};
+pub use law::{desks_agree, ends_stay, hubs_run};
 pub use message::{AddPortError, Full, Message};
 pub use port::{Port, PortEnd};
 pub use port_hints::Waker;

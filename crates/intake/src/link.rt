@@ -6,7 +6,7 @@ ghost use Rattle.intake.specs.Messages.{messages_of_port};
 ghost use Rattle.intake.specs.Links.{outputs_owed, IsEndBy, IsSameLink};
 ghost use Rattle.intake.specs.Ports.{sent_through, received_through, unread_through, SamePort};
 
-use crate::events::{content_len, is_close};
+use crate::events::content_len;
 use crate::message::Message;
 use crate::port::PortEnd;
 use observer_core::Output;
@@ -129,7 +129,7 @@ impl Link {
         if number != 0 {
             notes.answered = notes.answered.saturating_add(bytes);
         }
-        if is_close(output) {
+        if matches!(output, Output::CloseLeader(_) | Output::CloseClient(_)) {
             notes.closing.push(number)?;
         }
         Ok(())

@@ -3,7 +3,7 @@
 ghost use Rattle.std.specs.Prelude.{◌≡◌, ◌++◌, [], ◌∷◌, length, OnOk, OnErr};
 ghost use Rattle.std.specs.FinMap as finmap;
 ghost use Rattle.intake.specs.Ports.{sent_through, received_through, unread_through, SamePort};
-ghost use Rattle.intake.specs.Links.{taken_at, waiting_at, outbox_at, IsEnd, SameWait, TakesNoMessage, LooksAt, TakesSeen, PutsShares};
+ghost use Rattle.intake.specs.Links.{taken_at, waiting_at, outbox_at, IsEnd, AllStay, SameWait, TakesNoMessage, LooksAt, TakesSeen, PutsShares};
 
 use crate::events::port_of;
 use crate::link::Link;
@@ -75,7 +75,8 @@ impl Links {
 
     /// Puts an output to its port.
     pub fn put(&mut self, output: Output, notes: &mut Notes) -> Result<(), NoMemory>
-        ensures { OnOk result (PutsShares self.old (output ∷ []) self.new) }
+        ensures ok { OnOk result (PutsShares self.old (output ∷ []) self.new) }
+        ensures stay { AllStay self.old self.new }
     {
         let number = port_of(&output);
         match self.map.get_mut(&number) {
@@ -101,7 +102,8 @@ impl Links {
         fresh: &mut Vec<(usize, Message)>,
         notes: &mut Notes,
     ) -> Result<(), NoMemory>
-        ensures { OnOk result (TakesSeen number self.old fresh.old.items self.new fresh.new.items) }
+        ensures ok { OnOk result (TakesSeen number self.old fresh.old.items self.new fresh.new.items) }
+        ensures stay { AllStay self.old self.new }
     {
         match self.map.get_mut(&number) {
             None => return Ok(()),
@@ -205,9 +207,10 @@ impl Links {
     }
 
     /// Puts each output to its port.
-    #[tactic(auto, using(crate::proofs::Keeping::puts_none, crate::proofs::Keeping::puts_on))]
+    #[tactic(auto, using(crate::proofs::Keeping::puts_none, crate::proofs::Keeping::puts_on, crate::proofs::Keeping::all_stay_on))]
     pub fn put_all(&mut self, outputs: Vec<Output>, notes: &mut Notes) -> Result<(), NoMemory>
-        ensures { OnOk result (PutsShares self.old outputs.items self.new) }
+        ensures ok { OnOk result (PutsShares self.old outputs.items self.new) }
+        ensures stay { AllStay self.old self.new }
     {
         for output in outputs {
             self.put(output, notes)?;

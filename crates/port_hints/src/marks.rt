@@ -9,6 +9,7 @@
 //! Each slot counts the bytes that its thread has written, too. The hub counts those that it puts, and so it knows what
 //! is under way.
 
+ghost use Rattle.std.specs.List.Sorted.{IsStrictlyIncreasing};
 ghost use Rattle.port_hints.specs.Lists.{KeepsEach};
 
 use crate::waker::Waker;
@@ -273,10 +274,11 @@ impl Marks {
         Ok(())
     }
 
-    /// Adds the marked ports to a list of ports, sorts it, and clears their marks. After a refused allocation the ports
-    /// that weren't added stay marked.
+    /// Adds the marked ports to a list of ports, sorts it, each number once, and clears their marks. After a refused
+    /// allocation the ports that weren't added stay marked.
     pub fn add_to(&self, numbers: &mut Vec<usize>) -> Result<(), NoMemory>
-        ensures { KeepsEach numbers.old.items numbers.new.items }
+        ensures kept { KeepsEach numbers.old.items numbers.new.items }
+        ensures sorted { IsStrictlyIncreasing numbers.new.items }
     {
         let taken = self.take(numbers);
         numbers.sort_unstable();

@@ -1,5 +1,5 @@
 use Rattle.std.proofs.Common.{ℕ, List, ap, sym, ◌∙◌, subst, refl, rules}
-use Rattle.rtrb.specs.Ring.{sent, received, known_items}
+use Rattle.rtrb.specs.Ring.{sent, received, known_items, consumer_capacity}
 use Rattle.intake.specs.declared.port.PortEnd.{PortEnd}
 use Rattle.intake.specs.Ports.{HasRoom}
 use Rattle.intake.specs.Desk.{AddsPort}
@@ -19,6 +19,8 @@ returns-clause-ok c =
     let new : AreNew end link = record {
       inbox = rw inbox c.in_ok-to_hub.ensures.pair;
       outbox = rw outbox c.in_ok-outbox.ensures.pair;
+      room = ap (λ i. consumer_capacity i) inbox ∙ c.in_ok-to_hub.ensures.consumer.2
+          ∙ sym c.in_ok-to_hub.ensures.producer.2;
       no_sent = c.in_ok-to_hub.ensures.producer.0;
       no_taken = ap (λ i. received i) inbox ∙ c.in_ok-to_hub.ensures.consumer.0;
       no_seen = ap (λ i. known_items i) inbox ∙ c.in_ok-to_hub.ensures.consumer.1;

@@ -1,6 +1,8 @@
-use Rattle.std.proofs.Common.{ℕ, Result, refl, sym, subst}
+use Rattle.std.proofs.Common.{ℕ, List, Result, ◌++◌, refl, ap, sym, ◌∙◌, subst}
 use Rattle.observer_core.specs.declared.engine.Stop.{Stop}
+use Rattle.intake.specs.Messages.{PortMessage}
 use Rattle.intake.specs.Hub.{Hub, TurnsHub}
+use Rattle.intake.proofs.Turning.{answers_ok}
 use Rattle.intake.proofs.Hubs.{closed_turn}
 use Rattle.intake.proofs.hub.Hub.turn.Goals as goal
 use Rattle.intake.proofs.hub.Hub.turn.Goals.{in-Err-hand_over, in-Ok-hand_over}
@@ -17,21 +19,26 @@ returns-after-hand_over g c =
       taken = c.hand_over.new.taken.items;
       since = c.self.inside.since.items;
     } in
+    let begins = c.in_ok-seen.ensures.ok in
+    let turn = answers_ok c.in-Ok.count old.desk c.prepare.new.self c.serve.new.self begins c.in-Ok.ensures.turn
+    c.in-Ok.ensures.count in
     let P : Hub → Type 0 = λ h. TurnsHub c.match-hand_over.result h new in
     let Q : Result ℕ Stop → Type 0 = λ r. TurnsHub r old new in
     subst P c.self.view_is (elim c.match-hand_over.branch [
       | in-Err-hand_over w ↦ subst Q (sym w.result-is) (record {
-        desk = closed_turn old.desk.machine old.desk c.turn.new.self new.desk c.in-Ok.count c.in-Ok.ensures
-            w.in-Err-hand_over.ensures.closed;
-        taken = w.in-Err-hand_over.ensures.kept;
+        desk = closed_turn old.desk.machine old.desk c.serve.new.self new.desk c.in-Ok.count turn
+            w.in-Err-hand_over.ensures.keeps w.in-Err-hand_over.ensures.closed;
+        taken = ◌∙◌ {A = List PortMessage} w.in-Err-hand_over.ensures.kept c.reserve.ensures.items;
         since = refl;
       })
       | in-Ok-hand_over w ↦ subst Q (sym w.result-is) (
-        c.turn.new.self,
+        c.serve.new.self,
         record {
-          turn = c.in-Ok.ensures;
+          turn = turn;
+          order = c.in-Ok.ensures.order begins.fresh begins.sorted;
           desk = w.in-Ok-hand_over.ensures.desk;
-          taken = w.in-Ok-hand_over.ensures.taken;
+          taken = ◌∙◌ {A = List PortMessage} w.in-Ok-hand_over.ensures.taken
+              (ap (λ l. l ++ c.serve.new.self.fresh) c.reserve.ensures.items);
           since = refl;
         },
       )
