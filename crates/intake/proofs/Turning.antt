@@ -379,7 +379,10 @@ pub answers_closed : (a b c : Desk) → BeginsTurn a b → KeepsPorts b c → c.
 answers_closed a b c begins keeps closed =
     let s = some_of a.machine begins.is_open in
     let P : Option Machine → Type 0 = λ o. AnswersTurn (Err stops.NoMemory) o a c in
-    subst P (sym s.1) (inl (closed, ports_on a b c (record {
-      stay = begins.rests.links.stay;
-      next = begins.rests.next;
-    }) keeps))
+    subst P (sym s.1) (inl (
+      closed,
+      ports_on a b c (record {
+        stay = begins.rests.links.stay;
+        next = begins.rests.next;
+      }) keeps,
+    ))
