@@ -50,7 +50,8 @@ pub fn parts_are_whole_images()
 }
 
 /// A packet or part that is refused changes nothing. Where bytes of the leader contain one, the outputs and the state
-/// left are those of the items before it, followed by the loss of the leader for that fault. The loss leaves the tree,
+/// left are those of the items before it, followed by the loss of the leader for that fault. The same holds of bytes
+/// that are unreadable; and a stream that ends inside a packet or an image loses the leader. The loss leaves the tree,
 /// the base, the log and the epochs.
 pub fn refusals_change_nothing()
     ensures { RefusalsChangeNothing }
