@@ -84,7 +84,7 @@ module _ (laws : LowerLaws) where
 
   any_calls : (n : ℕ) → HoldsOfCalls n Agreeing (λ session. Unit {0}) Any
   any_calls n = record {
-    touches = λ w session a. tt;
+    touches = λ w session own a. tt;
     leaves = λ w k there a. tt;
     writes = λ w session frame xid kind own a. tt;
     syncs = λ w session frame xid path own a. tt;

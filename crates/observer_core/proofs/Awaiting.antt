@@ -225,7 +225,7 @@ replies_await n = record {
 
 calls_await : (n : ℕ) → HoldsOfCalls n Agreeing (λ session. Unit {0}) KeepsAwaiting
 calls_await n = record {
-  touches = λ w session agrees a. a;
+  touches = λ w session own agrees a. a;
   leaves = λ w k there agrees a. a;
   writes = λ w session frame xid kind own agrees a.
       pushed_awaits w.clients.pending n (Write (record { xid = xid; kind = kind })) a (λ _. tt);

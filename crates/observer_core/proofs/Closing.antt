@@ -76,7 +76,7 @@ replies_stay n = record {
 
 calls_stay : (n : ℕ) → HoldsOfCalls n Always (λ session. Unit {0}) KeepsRests
 calls_stay n = record {
-  touches = λ w session a. as_it_was w;
+  touches = λ w session own a. as_it_was w;
   leaves = λ w k there a. leave_stay n w k there;
   writes = λ w session frame xid kind own a. as_it_was w;
   syncs = λ w session frame xid path own a. as_it_was w;

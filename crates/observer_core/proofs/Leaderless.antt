@@ -323,7 +323,7 @@ replies_leave n = record {
 
 calls_leave : (n : ℕ) → HoldsOfCalls n Always (λ session. Unit {0}) LeavesLeader
 calls_leave n = record {
-  touches = λ w session a. tt;
+  touches = λ w session own a. tt;
   leaves = λ w k there a. tt;
   writes = λ w session frame xid kind own a. (refl, tt);
   syncs = λ w session frame xid path own a. (refl, tt);

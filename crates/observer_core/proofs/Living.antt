@@ -381,7 +381,7 @@ replies_live n = record {
 
 calls_live : (n : ℕ) → HoldsOfCalls n Agreeing (λ session. Unit {0}) KeepsLive
 calls_live n = record {
-  touches = λ w session a live. live;
+  touches = λ w session own a live. live;
   leaves = λ w k there a live. live;
   writes = λ w session frame xid kind own a live. live;
   syncs = λ w session frame xid path own a live. live;

@@ -1,5 +1,5 @@
 -- What the leader's stream answers reaches one client alone.
-use Rattle.std.proofs.Common.{◌≡◌, inl, inr, ℕ, ℤ, Bool, Option, Some, None, refl, sym, ap, subst, ◌∙◌, arith}
+use Rattle.std.proofs.Common.{◌≡◌, inl, inr, ℕ, ℤ, Bool, List, [], ◌∷◌, Option, Some, None, refl, sym, ap, subst, ◌∙◌, arith}
 use Rattle.std.specs.Option.{unwrap_or, option_or}
 use Rattle.std.proofs.lemmas.Bool.{cond_both}
 use Rattle.data_tree.specs.declared.outcome.TxnResults.{TxnResults}
@@ -13,7 +13,8 @@ use Rattle.forwarding.specs.declared.request.Settled.{Settled}
 use Rattle.forwarding.specs.declared.request.Settled.TheVariants.{NoSync, Gone, Of}
 use Rattle.forwarding.specs.declared.request.AnsweredWrite.{AnsweredWrite}
 use Rattle.forwarding.specs.Queue.{waiting_connect, found_write}
-use Rattle.forwarding.specs.Pending.{queue_of, connecting_to, awaiting, pending_close, settle_sync}
+use Rattle.forwarding.specs.Pending.{queue_of, connecting_to, awaiting, pending_close, settle_first, settle_sync}
+use Rattle.forwarding.specs.State.{PendingTable}
 use Rattle.forwarding.specs.Laws.{OtherQueuesStay}
 use Rattle.sessions.specs.Sessions.{session_of_connection, connection_of, close_connection}
 use Rattle.sessions.specs.Agreement.{AgreementIsKept, OtherConnectionsStay}
@@ -109,6 +110,12 @@ abbrev number_in : ℕ → Settled → ℕ
 number_in k NoSync = k
 number_in k Gone = k
 number_in k (Of n) = n
+
+-- Settling a sync touches no session.
+settled_touches : (p : PendingTable) (syncs : List (Option ℕ)) → (settle_first p syncs).after.touched ≡ p.touched
+settled_touches p [] = refl
+settled_touches p (None ∷ rest) = refl
+settled_touches p (Some n ∷ rest) = refl
 
 module _ (kept : AgreementIsKept) (stay : OtherConnectionsStay) (keep_watches : OthersKeepWatches)
     (queues : OtherQueuesStay) where
@@ -234,7 +241,7 @@ module _ (kept : AgreementIsKept) (stay : OtherConnectionsStay) (keep_watches : 
       let v = with_pending w (settle_sync p).after in
       subst (λ (o : Settled). AnswersOnly n w (answer_settled v o)) (sym is)
       (then_apart NoSession Nobody n w (no_output v) (answer_front n)
-      (pending_apart NoSession Nobody stay keep_watches queues n w (settle_sync p).after
+      (pending_apart NoSession Nobody stay keep_watches queues n w (settle_sync p).after (settled_touches p p.syncs)
       (λ k other. queues.settles p k (λ e. other (ap (number_in k) (sym e ∙ is)))))
       (front_makes n ⊥ Always (IsApart n NoSession Nobody) (plain_ground n)
       (replies_apart NoSession Nobody stay keep_watches queues n) (plain_answer_ground n)

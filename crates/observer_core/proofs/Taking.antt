@@ -122,7 +122,7 @@ replies_keep n session = record {
 
 calls_keep : (n : ℕ) (session : ℤ) → HoldsOfCalls n Always (λ own. Unit {0}) (KeepsSession n session)
 calls_keep n session = record {
-  touches = λ w touched a has. has;
+  touches = λ w touched own a has. has;
   leaves = λ w k there a has here. has (ap is_some there);
   writes = λ w own frame xid kind mine a has. has;
   syncs = λ w own frame xid path mine a has. has;

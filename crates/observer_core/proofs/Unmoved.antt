@@ -34,7 +34,7 @@ replies_same n = record {
 
 calls_same : (n : ℕ) → HoldsOfCalls n Always (λ session. Unit {0}) LeavesReplica
 calls_same n = record {
-  touches = λ w session a. refl;
+  touches = λ w session own a. refl;
   leaves = λ w k there a. refl;
   writes = λ w session frame xid kind own a. refl;
   syncs = λ w session frame xid path own a. refl;

@@ -160,7 +160,7 @@ pub record HoldsOfReplies (n : ℕ) (A : World → Type 0) (Q : Steps) : Type 0 
 
 -- The same for the steps that forward a request of a session of its own, or hold one.
 pub record HoldsOfCalls (n : ℕ) (A : World → Type 0) (Own : ℤ → Type 0) (Q : Steps) : Type 0 where
-  pub touches : (w : World) (session : ℤ) → A w
+  pub touches : (w : World) (session : ℤ) → Own session → A w
       → Q w (no_output (with_pending w (touch_session w.clients.pending session)))
   pub leaves : (w : World) (k : OpenConnection) → finmap.get w.clients.connections n ≡ Some k → A w
       → Q w (no_output (record w { clients = with_connection n (record k { is_leaving = true }) w.clients }))
@@ -480,30 +480,27 @@ module _ (n : ℕ) (Strict : Type 0) (A : World → Type 0) (Q : Steps) (ground 
     serve_as_makes w session frame (Ok c) own room here a = call_makes w session frame c.xid c.body own room here a
     serve_as_makes w session frame (Err e) own room here a = close_makes w a
 
-    touch_makes : (w : World) (session : ℤ) → A w
-        → Makes A Q w (no_output (with_pending w (touch_session w.clients.pending session)))
-    touch_makes w session a = record { keeps = ground.touches w session a; is = q.touches w session a }
-
-    touched_makes : (w : World) (o : Option ℤ) → A w → Makes A Q w (no_output (touched_as w o))
-    touched_makes w None a = stay_makes w a
-    touched_makes w (Some session) a = touch_makes w session a
-
-    -- A connection is served after its session was touched.
-    pub touched_first : (w : World) (next : World → StepResult World)
-        → ((p : PendingTable) → p.queues ≡ w.clients.pending.queues → A (with_pending w p)
-        → Makes A Q (with_pending w p) (next (with_pending w p)))
-        → A w → Makes A Q w (next (touch_client n w))
-    touched_first w next then a = by (session_of_connection w.clients.sessions n)
-      where
-        by : (o : Option ℤ) → Makes A Q w (next (touched_as w o))
-        by None = then w.clients.pending refl a
-        by (Some session) =
-            let p = touch_session w.clients.pending session in
-            then_makes w (no_output (with_pending w p)) next (touch_makes w session a) (then p refl)
-
     -- ---- connects
 
     module _ (May : World → ℤ → Type 0) (c : HoldsOfConnects n A Own May Q) where
+      touch_makes : (w : World) (session : ℤ) → A w
+          → Makes A Q w (no_output (with_pending w (touch_session w.clients.pending session)))
+      touch_makes w session a =
+          record { keeps = ground.touches w session a; is = q.touches w session (c.own session) a }
+
+      -- A connection is served after its session was touched.
+      touched_first : (w : World) (next : World → StepResult World)
+          → ((p : PendingTable) → p.queues ≡ w.clients.pending.queues → A (with_pending w p)
+          → Makes A Q (with_pending w p) (next (with_pending w p)))
+          → A w → Makes A Q w (next (touch_client n w))
+      touched_first w next then a = by (session_of_connection w.clients.sessions n)
+        where
+          by : (o : Option ℤ) → Makes A Q w (next (touched_as w o))
+          by None = then w.clients.pending refl a
+          by (Some session) =
+              let p = touch_session w.clients.pending session in
+              then_makes w (no_output (with_pending w p)) next (touch_makes w session a) (then p refl)
+
       pub give_makes : (w : World) (session time_out : ℤ) → (Strict → HasNone n w) → NoConnect n w
           → (Strict → IsOpen n w) → May w session → A w → Makes A Q w (given n w session time_out)
       give_makes w session time_out none free here may a = record {

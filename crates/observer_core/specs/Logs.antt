@@ -34,8 +34,8 @@ abbrev pub items_of_bytes : Leader → List ℕ → Items Phase Item
 items_of_bytes l bytes = items_shown_at (with_more_bytes l.place bytes)
 
 -- The leader is followed on from this place.
-abbrev pub waiting_at : Place Phase → WorldAndLoading → Machine
-waiting_at place d =
+abbrev pub following_at : Place Phase → WorldAndLoading → Machine
+following_at place d =
     record { leader = Some (record { place = place; loading = d.loading }); world = d.world }
 
 -- The tree, the base, the log and the epochs are as before.
@@ -72,7 +72,7 @@ pub record RefusalsChangeNothing : Type 0 where
       → (delivery_of_items l w (items_of_bytes l bytes).found).after.fault ≡ None
       → play_event (record { leader = Some l; world = w }) (LeaderBytes bytes)
       ≡ and_then (delivery_of_items l w (items_of_bytes l bytes).found)
-      (λ d. no_output (waiting_at (items_of_bytes l bytes).left d.left))
+      (λ d. no_output (following_at (items_of_bytes l bytes).left d.left))
   -- If the stream ends where it may not, inside a packet or an image, the leader is lost for that fault.
   pub ends : (l : Leader) (w : World) (e : Fault) → end_of l.place ≡ Err e
       → play_event (record { leader = Some l; world = w }) LeaderEnd ≡ on_leader_fault e w

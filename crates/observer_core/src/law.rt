@@ -147,14 +147,16 @@ pub fn ids_are_given_once()
 }
 
 /// An event of a client (it connects, sends or leaves) leaves the tree and the log. It sends no frame to another
-/// client, and to the leader only requests of its own session, or for a session that it asks for. Every other
-/// connection that it doesn't close keeps its waiting bytes, its session, its ids, its watches and its waiting
-/// requests. It closes another connection only if its client takes over that connection's session, or the one that it
-/// waits for: the client had no session before, and has this one from then on, or waits for it, while it is open.
+/// client, and to the leader only requests of its own session: the one that the client had before; or, if it had none, a
+/// new one, whose id was given out for it, or one that the first frame of these bytes claims, with the session's
+/// password. No other session is touched. Every other connection that it doesn't close keeps its waiting bytes, its
+/// session, its ids, its watches and its waiting requests. It closes another connection only if that had, or waited for,
+/// the session that the client claims. What a client that connects or leaves does concerns no session.
 pub fn clients_are_apart()
     ensures { ClientsAreApart }
 {
     sessions::others_stay();
+    sessions::ended_sessions_are_refused();
     watch_manager::law::firing();
     forwarding::other_connections_stay();
 }
