@@ -35,7 +35,7 @@ use Rattle.world.specs.Sending.{close_client, with_watches, with_sessions, close
 use Rattle.client_service.specs.Serve.{with_watch, send_connect_response, ask_about_session, forward_frame, serve_as, with_waiting_bytes, wait_if_heard, address_for, open_client, end_client}
 use Rattle.observer_core.specs.Apart.{HasOrAsks, ConcernsOnly, HasSameWatches, IsUntouched, IsApart}
 use Rattle.world.proofs.NatMaps.{eq_is, get-kept, get-beside}
-use Rattle.observer_core.proofs.Walking.{HoldsOfReplies, HoldsOfCalls, given, with_connect, new_connect, claiming, asked_for, serve_as_makes, greet_makes}
+use Rattle.observer_core.proofs.Walking.{sent_bytes, HoldsOfReplies, HoldsOfCalls, given, with_connect, new_connect, claiming, asked_for, serve_as_makes, greet_makes}
 use Rattle.observer_core.proofs.Answered.{unqueued, HoldsOfAnswers}
 use Rattle.observer_core.proofs.Plain.{Always, plain_ground}
 use Rattle.observer_core.proofs.Taking.{none_or_some}
@@ -291,17 +291,20 @@ module _ (own : ℤ → Type 0) (left : ℕ → Type 0) where
     some_is : (j k : ℕ) → Some j ≡ Some k → j ≡ k
     some_is j k e = ap (λ (o : Option ℕ). unwrap_or o j) e
 
+    pub sent_apart : (n : ℕ) (w : World) (bytes : List ℕ) → IsApart n own left w (sent_bytes n bytes w)
+    sent_apart n w bytes = record {
+      outputs = (refl, tt);
+      replica = refl;
+      touched = λ session other. refl;
+      others = λ k other stays. untouched k w.clients;
+    }
+
     pub replies_apart : (n : ℕ) → HoldsOfReplies n Always (IsApart n own left)
     replies_apart n = record {
       thens = then_apart n;
       stays = stays_so n;
       closes = λ w a. close_own n w;
-      sends = λ w bytes. record {
-        outputs = (refl, tt);
-        replica = refl;
-        touched = λ session other. refl;
-        others = λ k other stays. untouched k w.clients;
-      };
+      sends = λ w bytes shows. sent_apart n w bytes;
       watches = λ w watch a.
           watching_apart n w (with_watch n w.clients.watches watch)
           (λ k other. watched_same n k other w.clients.watches watch);

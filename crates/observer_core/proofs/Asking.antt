@@ -38,6 +38,7 @@ use Rattle.observer_core.specs.Play.{is_serving_clients}
 use Rattle.world.proofs.NatMaps.{get-inserted}
 use Rattle.observer_core.proofs.Passing.{fewer_without}
 use Rattle.observer_core.proofs.Walking.{HasNone, given, with_connect, new_connect, claiming, asked_for, first_false, first_true, no_session, none_if_closed, heard_open, send_last_makes}
+use Rattle.observer_core.proofs.Sent.{word_shows}
 use Rattle.observer_core.proofs.Answered.{closed_has_none}
 use Rattle.observer_core.proofs.Plain.{Always, plain_ground}
 use Rattle.observer_core.proofs.Agreeing.{owner_has}
@@ -727,11 +728,12 @@ module _ (stay : OtherConnectionsStay) (keep_watches : OthersKeepWatches) (queue
           (frames_apart v found.found agree))
           (wait_apart own left stay keep_watches queues n h.after there found.left.unread))
       by (Some word) =
-          let frame = Some (reply_text word (figures_of serving v)) in
+          let figures = figures_of serving v in
+          let frame = Some (reply_text word figures) in
           let own = IsOfFrames serving n w found.found (without_client n v.clients) in
           then_apart own left n w (no_output v) (λ u. send_last n u frame) (at_hand own)
           (send_last_makes n ⊥ Always (IsApart n own left) (plain_ground n)
-          (replies_apart own left stay keep_watches queues n) v frame tt).is
+          (replies_apart own left stay keep_watches queues n) v frame (word_shows v word figures) tt).is
 
 module _ (stay : OtherConnectionsStay) (keep_watches : OthersKeepWatches) (queues : OtherQueuesStay)
     (new : NewIdsAreNew) (n : ℕ) (w : World) (bytes : List ℕ) where

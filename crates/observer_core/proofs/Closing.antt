@@ -1,5 +1,5 @@
 -- The open connections after a client's step: each was open before, with the same waiting bytes.
-use Rattle.std.proofs.Common.{◌≡◌, ℕ, ℤ, Bool, true, false, cond, List, Option, Some, None, refl, sym, ap, subst, ◌∙◌}
+use Rattle.std.proofs.Common.{◌≡◌, ℕ, Bool, true, List, Option, Some, None, refl, sym, ap, ◌∙◌}
 use Rattle.std.specs.Option.{unwrap_or}
 use Rattle.std.specs.Ordering.{eq_by_cmp, nat_cmp}
 use Rattle.std.specs.Cmp.{nat_cmp_total}
@@ -68,7 +68,7 @@ replies_stay n = record {
   thens = λ w h next first second. then_stay w h.after (next h.after).after first second;
   stays = as_it_was;
   closes = λ w a. close_stay n w;
-  sends = λ w bytes. as_it_was w;
+  sends = λ w bytes shows. as_it_was w;
   watches = λ w watch a. as_it_was w;
   unwatches = λ w kind path a. as_it_was w;
   shows = λ w id a. as_it_was w;

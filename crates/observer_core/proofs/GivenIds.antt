@@ -214,7 +214,7 @@ replies_later n = record {
   thens = λ w h next first second. later_again w h.after (next h.after).after first second;
   stays = λ w. unchanged w w refl refl refl;
   closes = λ w a. closed_later n w;
-  sends = λ w bytes. unchanged w w refl refl refl;
+  sends = λ w bytes shows. unchanged w w refl refl refl;
   watches = λ w watch a. unchanged w _ refl refl refl;
   unwatches = λ w kind path a. unchanged w _ refl refl refl;
   shows = λ w id a.
@@ -279,7 +279,7 @@ all_grow = record {
     thens = λ w h next first second. grow_again w h.after (next h.after).after first second;
     stays = λ w. nothing_grows w w refl refl;
     closes = λ w a. closed_grow n w;
-    sends = λ w bytes. nothing_grows w w refl refl;
+    sends = λ w bytes shows. nothing_grows w w refl refl;
     watches = λ w watch a. nothing_grows w _ refl refl;
     unwatches = λ w kind path a. nothing_grows w _ refl refl;
     shows = λ w id a. same_grow w _ refl (shown_ids w.clients.sessions n id);
@@ -352,7 +352,7 @@ grow_kept u = record {
       let v = (tell_effect w t).after in
       grow_again u w (send_effect w t).after g
       (grow_again w v (send_effect w t).after (nothing_grows w v refl refl)
-      (news_make ⊥ Always Grows all_grow t.news v tt).is);
+      (news_make ⊥ Always Grows all_grow (λ n w bytes. nothing_grows w w refl refl) t.news v tt).is);
   gone = λ w g. grow_again u w _ g (gone_grow w);
   opens = λ n address w g. grow_again u w _ g (nothing_grows w _ refl refl);
   bytes = λ n w bytes g. grow_again u w _ g (bytes_grow n w bytes);
@@ -530,7 +530,8 @@ module _ (new : NewIdsAreNew) where
                 kept.effects loading w i t e l.0,
                 later_again u w (send_effect w t).after l.1
                     (later_again w v (send_effect w t).after (unchanged w v refl refl refl)
-                    (news_make (Unit {0}) Agreeing GivesIds (holds_of_all laws GivesIds then_later) t.news v
+                    (news_make (Unit {0}) Agreeing GivesIds (holds_of_all laws GivesIds then_later)
+                    (λ n w bytes. unchanged w w refl refl refl) t.news v
                     (tell_agrees laws w t l.0)).is),
               );
           gone = λ w l. (kept.gone w l.0, later_again u w _ l.1 (gone_later w));

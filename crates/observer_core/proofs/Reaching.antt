@@ -31,7 +31,7 @@ use Rattle.observer_core.proofs.Answered.{awaits_it, front_makes, write_makes, r
 use Rattle.observer_core.proofs.Plain.{Always, plain_ground, plain_answer_ground}
 use Rattle.observer_core.proofs.Agreeing.{owner_has}
 use Rattle.observer_core.proofs.Taking.{closed_fewer}
-use Rattle.observer_core.proofs.Apart.{then_apart, pending_apart, replies_apart, calls_apart, answers_apart, given_apart, NoSession, Nobody}
+use Rattle.observer_core.proofs.Apart.{then_apart, pending_apart, sent_apart, replies_apart, calls_apart, answers_apart, given_apart, NoSession, Nobody}
 
 -- ---- whom a transaction answers
 
@@ -142,7 +142,11 @@ module _ (kept : AgreementIsKept) (stay : OtherConnectionsStay) (keep_watches : 
     subst (λ (due : Due). AnswersOnly n w (give_answer w t results due)) (sym is)
         (write_makes n ⊥ Always (IsApart n NoSession Nobody) (plain_ground n)
         (replies_apart NoSession Nobody stay keep_watches queues n) (plain_answer_ground n)
-        (answers_apart NoSession Nobody stay keep_watches queues n) w t results write.kind tt).is,
+        (answers_apart NoSession Nobody stay keep_watches queues n) w t results write.kind
+        (record {
+          replies = λ kind v bytes same is. sent_apart NoSession Nobody stay keep_watches queues n v bytes;
+          ends = λ xid bytes is. sent_apart NoSession Nobody stay keep_watches queues n w bytes;
+        }) tt).is,
   )
 
   endings_reach : (w : World) (t : Txn) (results : TxnResults) (n : ℕ) → ClientsAgree w.clients
@@ -153,7 +157,7 @@ module _ (kept : AgreementIsKept) (stay : OtherConnectionsStay) (keep_watches : 
     subst (λ (due : Due). AnswersOnly n w (give_answer w t results due)) (sym is)
         (ended_makes n ⊥ Always (IsApart n NoSession Nobody) (plain_ground n)
         (replies_apart NoSession Nobody stay keep_watches queues n) w t.header.zxid (pending_close w.clients.pending n)
-        tt).is,
+        (λ xid bytes is. sent_apart NoSession Nobody stay keep_watches queues n w bytes) tt).is,
   )
 
   -- The client that waits for a session is admitted. A connection that had the session before is closed.

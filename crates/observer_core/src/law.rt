@@ -12,6 +12,7 @@ ghost use Rattle.observer_core.specs.Leaderless.{SilentWithoutLeader};
 ghost use Rattle.observer_core.specs.Soundness.{MachinesAreSound};
 ghost use Rattle.observer_core.specs.GivenIds.{IdsAreGivenOnce};
 ghost use Rattle.observer_core.specs.Apart.{ClientsAreApart, AnswersReachOneClient};
+ghost use Rattle.observer_core.specs.Shown.{RepliesShowTrees};
 ghost use Rattle.observer_core.specs.WholeImages.{PartsAreWholeImages};
 ghost use Rattle.observer_core.specs.Rows.{WorkedRows};
 
@@ -144,6 +145,16 @@ pub fn ids_are_given_once()
     sessions::ended_sessions_are_refused();
     watch_manager::law::firing();
     forwarding::requests_and_syncs_agree();
+}
+
+/// Each reply to a read shows the tree of the replica at that moment, and names its last zxid. Each reply to a write, or
+/// to a closeSession, is for the last transaction of the log, which it names, and shows the tree with it. Any other frame
+/// shows no tree and, if it is a reply, names the last zxid, 0 or -1. What is sent while bytes of the leader are taken is
+/// made after the last item so far, and then too the tree is the base with the log applied, if it was before.
+pub fn replies_show_trees()
+    ensures { RepliesShowTrees }
+{
+    replica::law::logs();
 }
 
 /// An event of a client (it connects, sends or leaves) leaves the tree and the log. It sends no frame to another
