@@ -37,4 +37,5 @@ pub mod GivenIds
 pub mod Living
 pub mod Awaiting
 pub mod Reaching
+pub mod Growing
 pub mod Showing

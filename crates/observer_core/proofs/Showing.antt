@@ -15,7 +15,8 @@ use Rattle.learner_sync.specs.declared.act.Act.{Act}
 use Rattle.learner_sync.specs.declared.act.Act.TheVariants as act
 use Rattle.replica.specs.Replica.{Replica}
 use Rattle.replica.specs.Taking.{ItemEffect, no_effect, last_txn, apply_to_tree, carry_out, carry_out_all, with_learner, take_item, follow_leader}
-use Rattle.replica.specs.Laws.{LogsAreFollowed as ReplicasFollow}
+use Rattle.replica.specs.Laws.{LogsAreFollowed as ReplicasFollow, ServingStays}
+use Rattle.learner_sync.specs.Laws.{ServingRises}
 use Rattle.replica.specs.declared.item_outcome.LeaderNews.{LeaderNews}
 use Rattle.replica.specs.declared.item_outcome.LeaderNews.TheVariants as news
 use Rattle.sessions.specs.Sessions.{connection_of, give_session, expire_owner}
@@ -47,6 +48,7 @@ use Rattle.observer_core.proofs.Answered.{HoldsOfAll, HoldsOfReply, answers_make
 use Rattle.observer_core.proofs.Plain.{Always, plain_ground, plain_answer_ground}
 use Rattle.observer_core.proofs.Apart.{all_joined}
 use Rattle.observer_core.proofs.Logs.{Follows, deliver_follows}
+use Rattle.observer_core.proofs.Growing.{event_grows, grows_on}
 
 -- ---- what a connection's small steps show
 
@@ -362,9 +364,11 @@ event_shown m (event.Expire session) =
     (connection_of m.world.clients.sessions session)).1
 event_shown m event.Checkpoint = tt
 
-pub replies_show_trees : ReplicasFollow → RepliesShowTrees
-replies_show_trees law = record {
+pub replies_show_trees : ReplicasFollow → ServingRises → ServingStays → RepliesShowTrees
+replies_show_trees law rises stays = record {
   shown = event_shown;
+  grows = event_grows rises stays;
+  grows_on = grows_on rises stays;
   follows = λ l w taken.
       happening_keeps (λ (d : Delivery WorldAndLoading). Follows d.left.world) is_refused (deliver_item item_step)
       (λ d i _. deliver_follows law d i)

@@ -10,6 +10,9 @@ use Rattle.client_records.specs.declared.codes.TheConstants.{OK, MARSHALLING_ERR
 use Rattle.client_records.specs.declared.multi.ReadPart.{ReadPart}
 use Rattle.txn_codec.specs.declared.txn.Txn.{Txn}
 use Rattle.data_tree.specs.State.{State}
+use Rattle.data_tree.specs.Meaning.{state_after}
+use Rattle.learner_sync.specs.Learn.{zxid_after}
+use Rattle.learner_sync.specs.Laws.{ZxidsRise}
 use Rattle.data_tree.specs.declared.outcome.TxnResults.{TxnResults}
 use Rattle.quorum_packet.specs.declared.item.Item.{Item}
 use Rattle.replica.specs.Replica.{Replica}
@@ -38,7 +41,7 @@ use Rattle.observer_core.specs.declared.event.Event.{Event}
 use Rattle.observer_core.specs.declared.event.Event.TheVariants.{LeaderBytes}
 use Rattle.observer_core.specs.Machine.{Leader, Machine}
 use Rattle.observer_core.specs.Logs.{delivery_of_items, items_of_bytes}
-use Rattle.observer_core.specs.Play.{play_event}
+use Rattle.observer_core.specs.Play.{is_serving_clients, play_event}
 
 -- ---- reads
 
@@ -146,12 +149,16 @@ IsShownBy r (ToClient n frame) =
     IsReadReply r frame ⊎ (IsWriteReply r frame ⊎ (IsEndingReply r frame ⊎ ShowsNoTree r frame))
 IsShownBy r output = Unit {0}
 
+-- The replica once these items of the leader were taken.
+abbrev pub replica_after : Leader → World → List Item → Replica
+replica_after l w taken = (delivery_of_items l w taken).after.left.world.replica
+
 -- A front of these items of the leader leaves a replica by which the frame is shown.
 pub record IsShownOnTheWay (l : Leader) (w : World) (items : List Item) (output : Output) : Type 0 where
   pub taken : List Item
   pub others : List Item
   pub is : items ≡ taken ++ others
-  pub shown : IsShownBy (delivery_of_items l w taken).after.left.world.replica output
+  pub shown : IsShownBy (replica_after l w taken) output
 
 abbrev pub IsShownWhile : Option Leader → World → List ℕ → Output → Type 0
 IsShownWhile None w bytes output = ⊥
@@ -163,8 +170,21 @@ abbrev pub IsShownIn : Machine → Event → Output → Type 0
 IsShownIn m (LeaderBytes bytes) output = IsShownWhile m.leader m.world bytes output
 IsShownIn m event output = IsShownBy m.world.replica output
 
+-- Between the two replicas these transactions were applied, with rising zxids. So no zxid names two of their trees.
+pub record GrowsTo (r s : Replica) : Type 0 where
+  pub txns : List Txn
+  pub tree : s.tree ≡ state_after r.tree txns
+  pub rise : ZxidsRise r.learner.last_zxid txns
+  pub last : s.learner.last_zxid ≡ zxid_after r.learner.last_zxid txns
+
 pub record RepliesShowTrees : Type 0 where
   pub shown : (m : Machine) (event : Event) → AllByRecursion (IsShownIn m event) (play_event m event).outputs
+  -- While clients are served, only transactions change the tree, one after the other.
+  pub grows : (m : Machine) (event : Event) → is_serving_clients m.world ≡ true
+      → is_serving_clients (play_event m event).after.world ≡ true
+      → GrowsTo m.world.replica (play_event m event).after.world.replica
+  pub grows_on : (l : Leader) (w : World) (taken others : List Item) → is_serving_clients w ≡ true
+      → GrowsTo (replica_after l w taken) (replica_after l w (taken ++ others))
   -- On the way too the tree is the base with the log applied, if it was before.
   pub follows : (l : Leader) (w : World) (taken : List Item) → FollowsItsLog w.replica
-      → FollowsItsLog (delivery_of_items l w taken).after.left.world.replica
+      → FollowsItsLog (replica_after l w taken)

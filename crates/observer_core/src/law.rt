@@ -151,10 +151,15 @@ pub fn ids_are_given_once()
 /// to a closeSession, is for the last transaction of the log, which it names, and shows the tree with it. Any other frame
 /// shows no tree and, if it is a reply, names the last zxid, 0 or -1. What is sent while bytes of the leader are taken is
 /// made after the last item so far, and then too the tree is the base with the log applied, if it was before.
+///
+/// While clients are served, the tree is changed only by transactions, one after the other, with rising zxids. So no
+/// zxid names two trees.
 pub fn replies_show_trees()
     ensures { RepliesShowTrees }
 {
     replica::law::logs();
+    replica::law::serving();
+    learner_sync::law::serving();
 }
 
 /// An event of a client (it connects, sends or leaves) leaves the tree and the log. It sends no frame to another
