@@ -1,9 +1,9 @@
 -- The steps of a turn, one after the other.
-use Rattle.std.proofs.Common.{◌≡◌, ◌≢◌, ◌≤◌, ◌<◌, ◌+◌, ℕ, zero, suc, true, false, Bool, List, [], ◌∷◌, ◌++◌, length, take, get_or, Option, Some, None, Result, Ok, Err, refl, ap, sym, ◌∙◌, subst, inl, inr, append_assoc, arith}
+use Rattle.std.proofs.Common.{◌≡◌, ◌≢◌, ◌≤◌, ◌<◌, ◌+◌, ◌-◌, ℕ, zero, suc, true, false, Bool, List, [], ◌∷◌, ◌++◌, length, take, drop, get_or, Option, Some, None, Result, Ok, Err, refl, ap, sym, ◌∙◌, subst, inl, inr, append_assoc, arith}
 use Rattle.std.specs.Prelude.{Contains, IsSome, OnOk, if◌then◌else◌}
 use Rattle.std.specs.List.Sorted.{IsPermutation, IsStrictlyIncreasing}
 use Rattle.std.specs.FinMap as finmap
-use Rattle.std.proofs.lemmas.List.{append-nil, length-append, take_all, take_more}
+use Rattle.std.proofs.lemmas.List.{append-nil, length-append, drop_at, take_all, take_more}
 use Rattle.std.proofs.lemmas.List.Elements.{Contains-append_left, Contains-append_right, Contains-append_cases}
 use Rattle.std.proofs.lemmas.List.Sorted.{Contains-permutation}
 use Rattle.std.proofs.lemmas.Bool.Decides.{eqb_tells}
@@ -11,16 +11,15 @@ use Rattle.world.specs.declared.output.Output.{Output}
 use Rattle.world.specs.Steps.{StepResult}
 use Rattle.observer_core.specs.Machine.{Machine}
 use Rattle.observer_core.specs.Play.{play}
+use Rattle.observer_core.specs.Plays.{PlaysEvents}
 use Rattle.observer_core.specs.declared.engine.Stop.TheVariants as stops
 use Rattle.intake.specs.Messages.{PortMessage, events_of, part_of_port, share_of_port, LeaderComesFirst, ComeByNumber}
-use Rattle.port_hints.specs.Lists.{KeepsEach}
-use Rattle.intake.specs.Links.{Links, LooksAt, taken_at, waiting_at, room_at, seen_at, owed_at, TakesSeen, PutsShares}
+use Rattle.intake.specs.Links.{Links, taken_at, waiting_at, room_at, seen_at, owed_at, TakesSeen, PutsShares}
 use Rattle.intake.specs.Desk.{Desk, IsRemembered, ForgetsNone, KeepsPorts, TakesTurn, AnswersTurn}
 use Rattle.intake.specs.Steps.{BeginsTurn, AreOfPorts, FeedsPort, ServesPorts}
 use Rattle.intake.specs.Agreement.{outputs_of}
 use Rattle.intake.proofs.Parts.{part_joined, part_own, part_others, share_joined, leader_alone, leader_before}
 use Rattle.intake.proofs.Keeping.{rests_same, all_stay_on, still_open, same_room, room_for_seen}
-use Rattle.intake.proofs.Adding.{seen_desk}
 use Rattle.intake.proofs.Agreeing.{joined}
 use Rattle.intake.proofs.Numbering.{adds_on, adds_nothing, adds_none, adds_fed, adds_first, come_by_number}
 
@@ -28,31 +27,32 @@ contains_one : (k n : ℕ) → Contains (k ∷ []) n → n ≡ k
 contains_one k n (zero, within, is) = sym is
 contains_one k n (suc i, within, is) = absurd (let e : suc i < 1 = within in omega (arith, e))
 
--- ---- ports are looked at
-
-pub looked : (closed : Bool) (engine : Option Machine) (links : Links) (next : ℕ) (fresh : List PortMessage)
-    (before : List ℕ) (old : Desk) (one two : Links) (later : List ℕ)
-    → seen_desk closed engine links next fresh before ≡ old → KeepsEach before later → LooksAt (0 ∷ []) links one
-    → LooksAt later one two → ForgetsNone old (seen_desk closed engine two next fresh later)
-looked closed engine links next fresh before old one two later view keeps leader others n apart remembered =
-    let P : Desk → Type 0 = λ d. IsRemembered n d in
-    elim (subst P (sym view) remembered) [
-      | inr there ↦ inr (keeps n there)
-      | inl none ↦ elim (others.others n) [
-        | inr there ↦ inr there
-        | inl same ↦ elim (leader.others n) [
-          | inr leaders ↦ absurd (apart (contains_one 0 n leaders))
-          | inl first ↦ inl (same ∙ first ∙ none)
-        ]
-      ]
-    ]
-
 -- ---- a port is fed
 
 pub engine_is : (closed : Bool) (engine : Option Machine) (m : Machine) → (if closed then None else engine) ≡ Some m
     → engine ≡ Some m
 engine_is true engine m is = cc
 engine_is false engine m is = is
+
+-- The messages after those that came before.
+pub rest_after : (all before rest : List PortMessage) (n : ℕ) → all ≡ before ++ rest → n ≡ length before
+    → take (length all - n) (drop n all) ≡ rest
+rest_after all before rest n is at =
+    let dropped : drop n all ≡ rest = ap (drop n) is ∙ drop_at before rest n (sym at) in
+    let long : length all ≡ length before + length rest = ap length is ∙ length-append before rest in
+    ap (take (length all - n)) dropped ∙ take_all (length all - n) rest (omega arith)
+
+pub plays_seen : (closed : Bool) (engine after : Option Machine) (messages seen : List PortMessage)
+    (before outputs : List Output) (m : Machine) → PlaysEvents (Ok tt) engine (events_of messages) before outputs after
+    → messages ≡ seen → before ≡ [] → (if closed then None else engine) ≡ Some m
+    → (outputs ≡ (play m (events_of seen)).outputs) × (after ≡ Some (play m (events_of seen)).after)
+plays_seen closed engine after messages seen before outputs m plays same none is =
+    let P : Option Machine → Type 0 = λ e. PlaysEvents (Ok tt) e (events_of messages) before outputs after in
+    let p = subst P (engine_is closed engine m is) plays in (
+      p.0 ∙ ap (λ l. l ++ (play m (events_of messages)).outputs) none
+          ∙ ap (λ (l : List PortMessage). (play m (events_of l)).outputs) same,
+      p.1 ∙ ap (λ (l : List PortMessage). Some (play m (events_of l)).after) same,
+    )
 
 pub fed : (n : ℕ) (old new : Desk) (links : Links) (outputs : List Output)
     → TakesSeen n old.links old.fresh links new.fresh → PutsShares links outputs new.links
@@ -152,9 +152,6 @@ turn_of_leader m old new machine fresh f =
       leader_whole = f.none_waits;
       forgets_none = forgets_none_fed 0 old new f;
     }
-
-pub own_of_none : (d : Desk) → d.fresh ≡ [] → AreOfPorts (0 ∷ []) d.fresh
-own_of_none d none = adds_first (0 ∷ []) d.fresh d.fresh none (adds_none 0 d.fresh)
 
 pub own_of_leader : (old new : Desk) → old.fresh ≡ [] → FeedsPort 0 old new → AreOfPorts (0 ∷ []) new.fresh
 own_of_leader old new none f = adds_first (0 ∷ []) old.fresh new.fresh none (adds_fed 0 old new f)
@@ -287,8 +284,8 @@ ports_on a b c x y = record {
   next = y.next ∙ x.next;
 }
 
--- The ports of the last turn's `later` are served, or left for the next turn, if they are in the list that the turn
--- has in its place.
+-- A turn that begins with another list in the place of `later` is one that begins with `later`, if each port of `later`
+-- is served, or left for the next turn.
 turn_of_list : (m : Machine) (old begun new : Desk) → begun ≡ record old { later = begun.later } → TakesTurn m begun new
     → ((n : ℕ) → n ≢ 0 → Contains old.later n → IsRemembered n new) → TakesTurn m old new
 turn_of_list m old begun new is turn there =
