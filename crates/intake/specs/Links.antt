@@ -2,7 +2,7 @@
 use Rattle.std.specs.Prelude.{◌≡◌, ◌≢◌, ◌⊎◌, ℕ, List, [], ◌++◌, Contains, Option, Some, None, Bool, true}
 use Rattle.std.specs.Ordering.{nat_cmp}
 use Rattle.std.specs.FinMap as finmap
-use Rattle.rtrb.specs.Ring.{sent, received, known_items, consumer_capacity, IsPair, SameProducer, SameConsumer}
+use Rattle.rtrb.specs.Ring.{sent, received, known_free, known_items, consumer_capacity, IsPair, SameProducer, SameConsumer}
 use Rattle.world.specs.declared.output.Output.{Output}
 use Rattle.intake.specs.declared.message.Message.{Message}
 use Rattle.intake.specs.declared.port.PortEnd.{PortEnd}
@@ -43,6 +43,16 @@ abbrev pub owed_to : Option Link → List Output
 owed_to None = []
 owed_to (Some link) = outputs_owed link
 
+-- The outputs kept for a port.
+abbrev pub kept_for : Option Link → List Output
+kept_for None = []
+kept_for (Some link) = link.kept.items
+
+-- Outputs are kept for a port only if its outbox was full when it was last looked at.
+abbrev pub KeepsIfFull : Option Link → Type 0
+KeepsIfFull None = Unit {0}
+KeepsIfFull (Some link) = (link.kept.items ≡ []) ⊎ (known_free link.outbox ≡ 0)
+
 -- The end belongs to the rings of which the hub has these ends.
 abbrev pub IsEndBy : PortEnd → Option Link → Type 0
 IsEndBy end None = ⊥
@@ -82,6 +92,13 @@ outbox_at links n = put_to (finmap.get links n)
 -- The outputs put into a port's outbox, followed by those kept for it.
 abbrev pub owed_at : Links → ℕ → List Output
 owed_at links n = owed_to (finmap.get links n)
+
+abbrev pub kept_at : Links → ℕ → List Output
+kept_at links n = kept_for (finmap.get links n)
+
+-- Each port for which outputs are kept is among these.
+abbrev pub KeepersAreAmong : List ℕ → Links → Type 0
+KeepersAreAmong numbers links = (n : ℕ) → (kept_at links n ≡ []) ⊎ Contains numbers n
 
 -- The end is that of an open port.
 abbrev pub IsEnd : PortEnd → Links → Type 0

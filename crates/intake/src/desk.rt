@@ -80,9 +80,7 @@ pub struct Desk {
     round: Round,
     // A port in `later` isn't blocked.
     is_behind: bool,
-    // The ports for which outputs were kept when the turn began, and a list for the next `later`. Each list has
-    // capacity for all open ports.
-    kept: Vec<usize>,
+    // A list for the next `later`. Both have capacity for all open ports.
     spare: Vec<usize>,
 }
 
@@ -147,7 +145,6 @@ impl Desk {
             notes: Notes::new(alloc),
             round: Round::new(),
             is_behind: false,
-            kept: Vec::new(alloc),
             spare: Vec::new(alloc),
         }
     }
@@ -182,7 +179,6 @@ impl Desk {
         };
         let ports = self.links.len().saturating_add(1);
         self.notes.reserve(ports)?;
-        reserve(&mut self.kept, ports)?;
         reserve(&mut self.later, ports)?;
         reserve(&mut self.spare, ports)?;
         let (to_hub, inbox) = RingBuffer::new(self.alloc, capacity)?;
@@ -356,19 +352,16 @@ impl Desk {
     pub(crate) fn prepare(&mut self) -> Result<usize, Stop>
         ensures ok { OnOk result (BeginsTurn self.old self.new) }
         ensures err { IfErr result (λ stop. AnswersTurn (Err stop) self.old.machine self.old self.new) }
+        ensures machine { self.new.machine ≡ self.old.machine }
     {
         self.fresh.clear();
-        self.notes.begin(&mut self.kept);
+        self.notes.begin();
         self.round.begin();
         self.is_behind = false;
         if self.closed {
             return Err(Stop::Closed);
         }
-        let put = self
-            .links
-            .put_all_kept(self.kept.as_slice(), &mut self.notes);
-        if put.is_err() {
-            mem::swap(&mut self.notes.keeping, &mut self.kept);
+        if self.links.put_all_kept(&mut self.notes).is_err() {
             return Err(Stop::NoMemory);
         }
         match self.look() {

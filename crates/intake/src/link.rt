@@ -1,9 +1,9 @@
 //! The hub's ends of a port.
 
-ghost use Rattle.std.specs.Prelude.{◌≡◌, ◌++◌, [], ◌∷◌, length, OnOk, Some};
+ghost use Rattle.std.specs.Prelude.{◌≡◌, ◌≢◌, ◌↔◌, ◌++◌, [], ◌∷◌, length, IsTrue, OnOk, Some};
 ghost use Rattle.rtrb.specs.Ring.{sent, received, known_items, IsPair, SameProducer, SameConsumer, ConsumerLooked};
 ghost use Rattle.intake.specs.Messages.{messages_of_port};
-ghost use Rattle.intake.specs.Links.{outputs_owed, IsEndBy, IsSameLink};
+ghost use Rattle.intake.specs.Links.{outputs_owed, KeepsIfFull, IsEndBy, IsSameLink};
 ghost use Rattle.intake.specs.Ports.{sent_through, received_through, unread_through, SamePort};
 
 use crate::events::content_len;
@@ -66,13 +66,22 @@ impl Link {
         Ok(())
     }
 
+    /// Whether outputs are kept.
+    pub(crate) fn keeps(&self) -> bool
+        ensures { IsTrue result ↔ (self.now.kept.items ≢ []) }
+    {
+        !self.kept.is_empty()
+    }
+
     // Puts kept outputs until the outbox is full or none is kept.
     fn move_kept(&mut self)
         ensures owes { outputs_owed self.new ≡ outputs_owed self.old }
+        ensures full { KeepsIfFull (Some self.new) }
+        ensures none { self.old.kept.items ≡ [] → self.new.kept.items ≡ [] }
         ensures outbox { SameProducer self.old.outbox self.new.outbox }
         ensures inbox { self.new.inbox ≡ self.old.inbox }
     {
-        for _ in 0..u64::MAX {
+        for _ in 0..self.kept.len() {
             if self.outbox.is_full() {
                 break;
             }
@@ -86,6 +95,8 @@ impl Link {
     /// Puts kept outputs until the outbox is full or none is kept, and notes that the thread is to be told.
     pub(crate) fn put_kept(&mut self, number: usize, notes: &mut Notes) -> Result<(), NoMemory>
         ensures owes { outputs_owed self.new ≡ outputs_owed self.old }
+        ensures full { KeepsIfFull (Some self.new) }
+        ensures none { self.old.kept.items ≡ [] → self.new.kept.items ≡ [] }
         ensures outbox { SameProducer self.old.outbox self.new.outbox }
         ensures inbox { self.new.inbox ≡ self.old.inbox }
     {
@@ -93,9 +104,6 @@ impl Link {
         self.move_kept();
         if self.kept.len() < before {
             self.tell(number, notes)?;
-        }
-        if !self.kept.is_empty() {
-            notes.keeping.push(number)?;
         }
         Ok(())
     }
@@ -142,11 +150,7 @@ impl Link {
         ensures inbox { self.new.inbox ≡ self.old.inbox }
     {
         self.note_output(number, &output, notes)?;
-        let kept_before = !self.kept.is_empty();
         self.add_output(output)?;
-        if !kept_before && !self.kept.is_empty() {
-            notes.keeping.push(number)?;
-        }
         self.tell(number, notes)
     }
 
@@ -214,6 +218,7 @@ impl Link {
         ensures received { received_through end.new ++ unread_through end.new ≡ sent self.new.outbox }
         ensures took { received self.new.inbox ≡ received self.old.inbox }
         ensures owes { outputs_owed self.new ≡ outputs_owed self.old }
+        ensures kept { self.new.kept ≡ self.old.kept }
         ensures link { IsSameLink self.old self.new }
         ensures end { SamePort end.old end.new }
     {
