@@ -14,7 +14,7 @@ use Rattle.observer_core.specs.Play.{play}
 use Rattle.observer_core.specs.Plays.{PlaysEvents}
 use Rattle.observer_core.specs.declared.engine.Stop.TheVariants as stops
 use Rattle.intake.specs.Messages.{PortMessage, events_of, part_of_port, share_of_port, LeaderComesFirst, ComeByNumber}
-use Rattle.intake.specs.Links.{Links, taken_at, waiting_at, room_at, seen_at, owed_at, TakesSeen, PutsShares}
+use Rattle.intake.specs.Links.{Links, taken_at, waiting_at, room_at, seen_at, owed_at, TakesSeen, PutsShares, KeepOnlyIfFull}
 use Rattle.intake.specs.Desk.{Desk, IsRemembered, ForgetsNone, KeepsPorts, TakesTurn, AnswersTurn}
 use Rattle.intake.specs.Steps.{BeginsTurn, AreOfPorts, FeedsPort, ServesPorts}
 use Rattle.intake.specs.Agreement.{outputs_of}
@@ -70,6 +70,7 @@ fed n old new links outputs takes puts plays next later = record {
   none_waits = puts.waits n ∙ takes.none_waits;
   others_wait = λ k apart. puts.waits k ∙ takes.others_wait k apart;
   stay = all_stay_on old.links links new.links takes.stay puts.stay;
+  full = λ full. puts.full (takes.full full);
   next = next;
   later = later;
 }
@@ -118,9 +119,10 @@ room_at_first d none n =
 
 -- ---- the leader's port
 
-pub turn_of_none : (m : Machine) (d : Desk) → d.machine ≡ Some m → d.fresh ≡ [] → waiting_at d.links 0 ≡ []
-    → TakesTurn m d d
-turn_of_none m d machine fresh whole = record {
+pub turn_of_none : (m : Machine) (d : Desk) → d.machine ≡ Some m → d.fresh ≡ [] → KeepOnlyIfFull d.links
+    → waiting_at d.links 0 ≡ [] → TakesTurn m d d
+turn_of_none m d machine fresh full whole = record {
+  full = full;
   machine = machine ∙ ap (λ (l : List PortMessage). Some (play m (events_of l)).after) (sym fresh);
   took = λ n. sym (append-nil (taken_at d.links n)) ∙ ap (λ l. taken_at d.links n ++ part_of_port n l) (sym fresh);
   owes = λ n live. sym (append-nil (owed_at d.links n))
@@ -133,9 +135,9 @@ turn_of_none m d machine fresh whole = record {
   forgets_none = λ n apart r. r;
 }
 
-pub turn_of_leader : (m : Machine) (old new : Desk) → old.machine ≡ Some m → old.fresh ≡ [] → FeedsPort 0 old new
-    → TakesTurn m old new
-turn_of_leader m old new machine fresh f =
+pub turn_of_leader : (m : Machine) (old new : Desk) → old.machine ≡ Some m → old.fresh ≡ [] → KeepOnlyIfFull old.links
+    → FeedsPort 0 old new → TakesTurn m old new
+turn_of_leader m old new machine fresh full f =
     let is : new.fresh ≡ seen_at old.links 0 = f.fresh ∙ ap (λ l. l ++ seen_at old.links 0) fresh in
     record {
       machine = f.machine m machine
@@ -145,6 +147,7 @@ turn_of_leader m old new machine fresh f =
           ∙ ap (λ (l : List PortMessage). owed_at old.links n ++ share_of_port n (play m (events_of l)).outputs)
           (sym is);
       stay = f.stay;
+      full = f.full full;
       next = f.next;
       in_room = λ n. room_fed 0 old new f n (room_at_first old fresh n);
       leader_first = (let P : List PortMessage → Type 0 = λ l. LeaderComesFirst l in
@@ -194,6 +197,7 @@ serves_left k d new is =
         stay = t.stay;
         next = t.next;
         in_room = t.in_room;
+        full = t.full;
         leader_first = t.leader_first;
         leader_whole = t.leader_whole;
         forgets_none = λ n apart r. left_too k d n apart (t.forgets_none n apart r);
@@ -234,6 +238,7 @@ turn_goes_on k m first old new apart f t =
           ∙ ap (λ (l : List PortMessage). owed_at first.links n ++ share_of_port n (outs l)) (sym f.fresh);
       stay = all_stay_on first.links old.links new.links t.stay f.stay;
       next = f.next ∙ t.next;
+      full = f.full t.full;
       in_room = λ n. room_fed k old new f n (t.in_room n);
       leader_first = (let P : List PortMessage → Type 0 = λ l. LeaderComesFirst l in
           subst P (sym f.fresh) (leader_before old.fresh k (waiting_at old.links k) apart t.leader_first));
@@ -298,6 +303,7 @@ turn_of_list m old begun new is turn there =
       stay = t.stay;
       next = t.next;
       in_room = t.in_room;
+      full = t.full;
       leader_first = t.leader_first;
       leader_whole = t.leader_whole;
       forgets_none = λ n apart r. elim r [
@@ -313,10 +319,12 @@ ports_of_list old begun is =
 
 -- The leader's port is served, and then the clients' ports that were in `later`.
 pub served : (m : Machine) (numbers : List ℕ) (old begun one two : Desk) → begun ≡ record old { later = begun.later }
-    → numbers ≡ old.later → (begun.machine ≡ Some m → begun.fresh ≡ [] → TakesTurn m begun one)
-    → ServesPorts numbers one two → old.machine ≡ Some m → old.fresh ≡ [] → TakesTurn m old two
-served m numbers old begun one two is same leader clients machine fresh =
-    let first = leader (ap (λ (d : Desk). d.machine) is ∙ machine) (ap (λ (d : Desk). d.fresh) is ∙ fresh) in
+    → numbers ≡ old.later
+    → (begun.machine ≡ Some m → begun.fresh ≡ [] → KeepOnlyIfFull begun.links → TakesTurn m begun one)
+    → ServesPorts numbers one two → old.machine ≡ Some m → old.fresh ≡ [] → KeepOnlyIfFull old.links → TakesTurn m old two
+served m numbers old begun one two is same leader clients machine fresh full =
+    let first = leader (ap (λ (d : Desk). d.machine) is ∙ machine) (ap (λ (d : Desk). d.fresh) is ∙ fresh)
+    (subst KeepOnlyIfFull (sym (ap (λ (d : Desk). d.links) is)) full) in
     turn_of_list m old begun two is (clients.goes_on m begun first) (λ n apart there.
     let P : List ℕ → Type 0 = λ l. Contains l n in clients.served n apart (subst P (sym same) there))
 
@@ -330,10 +338,12 @@ served_in_order numbers old begun one two is same leader clients fresh up =
 
 -- The ports that the turn is to come to are put in another order.
 pub reordered : (m : Machine) (old begun new : Desk) → begun ≡ record old { later = begun.later }
-    → IsPermutation old.later begun.later → (begun.machine ≡ Some m → begun.fresh ≡ [] → TakesTurn m begun new)
-    → old.machine ≡ Some m → old.fresh ≡ [] → TakesTurn m old new
-reordered m old begun new is same turn machine fresh =
-    let t = turn (ap (λ (d : Desk). d.machine) is ∙ machine) (ap (λ (d : Desk). d.fresh) is ∙ fresh) in
+    → IsPermutation old.later begun.later
+    → (begun.machine ≡ Some m → begun.fresh ≡ [] → KeepOnlyIfFull begun.links → TakesTurn m begun new)
+    → old.machine ≡ Some m → old.fresh ≡ [] → KeepOnlyIfFull old.links → TakesTurn m old new
+reordered m old begun new is same turn machine fresh full =
+    let t = turn (ap (λ (d : Desk). d.machine) is ∙ machine) (ap (λ (d : Desk). d.fresh) is ∙ fresh)
+    (subst KeepOnlyIfFull (sym (ap (λ (d : Desk). d.links) is)) full) in
     turn_of_list m old begun new is t
     (λ n apart there. t.forgets_none n apart (inr (Contains-permutation old.later begun.later n same there)))
 
@@ -351,18 +361,20 @@ turn_from m a b c begins t = record {
   stay = all_stay_on a.links b.links c.links begins.rests.links.stay t.stay;
   next = t.next ∙ begins.rests.next;
   in_room = t.in_room;
+  full = t.full;
   leader_first = t.leader_first;
   leader_whole = t.leader_whole;
   forgets_none = λ n apart r. t.forgets_none n apart (begins.forgets_none n apart r);
 }
 
 pub answers_ok : (count : ℕ) (a b c : Desk) → BeginsTurn a b
-    → ((m : Machine) → b.machine ≡ Some m → b.fresh ≡ [] → TakesTurn m b c) → count ≡ length c.fresh
+    → ((m : Machine) → b.machine ≡ Some m → b.fresh ≡ [] → KeepOnlyIfFull b.links → TakesTurn m b c)
+    → count ≡ length c.fresh
     → AnswersTurn (Ok count) a.machine a c
 answers_ok count a b c begins turn counts =
     let s = some_of a.machine begins.is_open in
     let P : Option Machine → Type 0 = λ o. AnswersTurn (Ok count) o a c in
-    subst P (sym s.1) (counts, turn_from s.0 a b c begins (turn s.0 (begins.rests.machine ∙ s.1) begins.fresh))
+    subst P (sym s.1) (counts, turn_from s.0 a b c begins (turn s.0 (begins.rests.machine ∙ s.1) begins.fresh begins.full))
 
 -- Nothing was taken yet, and nothing is.
 pub answers_refused : (a b : Desk) → BeginsTurn a b → AnswersTurn (Err stops.NoMemory) a.machine a b

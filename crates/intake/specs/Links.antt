@@ -100,6 +100,10 @@ kept_at links n = kept_for (finmap.get links n)
 abbrev pub KeepersAreAmong : List ℕ → Links → Type 0
 KeepersAreAmong numbers links = (n : ℕ) → (kept_at links n ≡ []) ⊎ Contains numbers n
 
+-- Outputs are kept only for ports whose outboxes were full when they were last looked at.
+abbrev pub KeepOnlyIfFull : Links → Type 0
+KeepOnlyIfFull links = (n : ℕ) → KeepsIfFull (finmap.get links n)
+
 -- The end is that of an open port.
 abbrev pub IsEnd : PortEnd → Links → Type 0
 IsEnd end links = IsEndBy end (finmap.get links end.number)
@@ -121,6 +125,7 @@ SameWait old new = (n : ℕ) → waiting_at new n ≡ waiting_at old n
 -- More messages may be seen in the inboxes of these ports, and in no other.
 pub record LooksAt (numbers : List ℕ) (old new : Links) : Type 0 where
   pub rests : TakesNoMessage old new
+  pub full : KeepOnlyIfFull old → KeepOnlyIfFull new
   pub others : (n : ℕ) → (waiting_at new n ≡ waiting_at old n) ⊎ Contains numbers n
 
 -- The messages of a port that were seen are taken, and appended to a list.
@@ -132,6 +137,7 @@ pub record TakesSeen (n : ℕ) (old : Links) (before : List PortMessage) (new : 
     pub none_waits : waiting_at new n ≡ []
     pub others_wait : (k : ℕ) → k ≢ n → waiting_at new k ≡ waiting_at old k
     pub owes : (k : ℕ) → owed_at new k ≡ owed_at old k
+    pub full : KeepOnlyIfFull old → KeepOnlyIfFull new
 
 -- Each open port gets its share of the outputs.
 pub record PutsShares (old : Links) (outputs : List Output) (new : Links) : Type 0 where
@@ -139,3 +145,4 @@ pub record PutsShares (old : Links) (outputs : List Output) (new : Links) : Type
   pub took : (n : ℕ) → taken_at new n ≡ taken_at old n
   pub owes : (n : ℕ) → is_open_port n old ≡ true → owed_at new n ≡ owed_at old n ++ share_of_port n outputs
   pub waits : SameWait old new
+  pub full : KeepOnlyIfFull old → KeepOnlyIfFull new

@@ -9,7 +9,7 @@ ghost use Rattle.observer_core.specs.Plays.{PlaysEvents};
 ghost use Rattle.intake.specs.declared.message.AddPortError.TheVariants as errors;
 ghost use Rattle.intake.specs.Messages.{events_of, ComeByNumber};
 ghost use Rattle.intake.specs.Ports.{sent_through, received_through, unread_through, HasRoom, SamePort};
-ghost use Rattle.intake.specs.Links.{taken_at, waiting_at, outbox_at, IsEnd};
+ghost use Rattle.intake.specs.Links.{taken_at, waiting_at, outbox_at, IsEnd, KeepOnlyIfFull};
 ghost use Rattle.intake.specs.Desk.{new_desk, AddsPort, ForgetsNone, KeepsPorts, TakesTurn, TakesNothing, AnswersTurn};
 ghost use Rattle.intake.specs.Steps.{BeginsTurn, AreOfPorts, FeedsPort, ServesPorts};
 
@@ -377,6 +377,7 @@ impl Desk {
         ensures fresh { self.new.fresh ≡ self.old.fresh }
         ensures forgets_none { ForgetsNone self.old self.new }
         ensures sorted { IsStrictlyIncreasing self.new.later }
+        ensures full { KeepOnlyIfFull self.old.links → KeepOnlyIfFull self.new.links }
     {
         let found = self.marks.add_to(&mut self.later);
         let leaders = self.links.look(0);
@@ -442,7 +443,7 @@ impl Desk {
         budget: &mut B,
     ) -> Result<usize, NoMemory>
         ensures turn { (m : TheMachine) → self.old.machine ≡ Some m → self.old.fresh ≡ []
-            → OnOk result (TakesTurn m self.old self.new) }
+            → KeepOnlyIfFull self.old.links → OnOk result (TakesTurn m self.old self.new) }
         ensures order { self.old.fresh ≡ [] → IsStrictlyIncreasing self.old.later
             → OnOk result (ComeByNumber self.new.fresh) }
         ensures count { IfOk result (λ count. count ≡ length self.new.fresh) }
@@ -464,7 +465,7 @@ impl Desk {
         gate: &G,
     ) -> Result<(), NoMemory>
         ensures ok { (m : TheMachine) → self.old.machine ≡ Some m → self.old.fresh ≡ []
-            → OnOk result (TakesTurn m self.old self.new) }
+            → KeepOnlyIfFull self.old.links → OnOk result (TakesTurn m self.old self.new) }
         ensures own { self.old.fresh ≡ [] → OnOk result (AreOfPorts (0 ∷ []) self.new.fresh) }
         ensures err { OnErr result (self.new.machine ≡ None) }
         ensures keeps { KeepsPorts self.old self.new }

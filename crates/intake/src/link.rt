@@ -111,6 +111,7 @@ impl Link {
     // Puts an output, after those that are kept; without room it is kept, too.
     fn add_output(&mut self, output: Output) -> Result<(), NoMemory>
         ensures owes { OnOk result (outputs_owed self.new ≡ outputs_owed self.old ++ output ∷ []) }
+        ensures full { KeepsIfFull (Some self.old) → KeepsIfFull (Some self.new) }
         ensures outbox { SameProducer self.old.outbox self.new.outbox }
         ensures inbox { self.new.inbox ≡ self.old.inbox }
     {
@@ -146,6 +147,7 @@ impl Link {
     /// Puts an output, after those that are kept, and notes that the thread is to be told.
     pub fn put(&mut self, number: usize, output: Output, notes: &mut Notes) -> Result<(), NoMemory>
         ensures owes { OnOk result (outputs_owed self.new ≡ outputs_owed self.old ++ output ∷ []) }
+        ensures full { KeepsIfFull (Some self.old) → KeepsIfFull (Some self.new) }
         ensures outbox { SameProducer self.old.outbox self.new.outbox }
         ensures inbox { self.new.inbox ≡ self.old.inbox }
     {

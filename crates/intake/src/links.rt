@@ -3,7 +3,7 @@
 ghost use Rattle.std.specs.Prelude.{◌≡◌, ◌≢◌, ℕ, ◌++◌, [], ◌∷◌, length, false, IfOk, OnOk, OnErr};
 ghost use Rattle.std.specs.FinMap as finmap;
 ghost use Rattle.intake.specs.Ports.{sent_through, received_through, unread_through, SamePort};
-ghost use Rattle.intake.specs.Links.{taken_at, waiting_at, outbox_at, IsEnd, AllStay, SameWait, TakesNoMessage, LooksAt, TakesSeen, PutsShares, kept_at, KeepsIfFull};
+ghost use Rattle.intake.specs.Links.{taken_at, waiting_at, outbox_at, IsEnd, AllStay, SameWait, TakesNoMessage, LooksAt, TakesSeen, PutsShares, kept_at, KeepsIfFull, KeepOnlyIfFull};
 
 use crate::events::port_of;
 use crate::link::Link;
@@ -188,7 +188,7 @@ impl Links {
     pub(crate) fn put_all_kept(&mut self, notes: &mut Notes) -> Result<(), NoMemory>
         ensures rests { TakesNoMessage self.old self.new }
         ensures waits { SameWait self.old self.new }
-        ensures full { OnOk result ((n : ℕ) → KeepsIfFull (finmap.get self.new n)) }
+        ensures full { OnOk result (KeepOnlyIfFull self.new) }
     {
         let mut left = self.keeping.len();
         while left > 0 {

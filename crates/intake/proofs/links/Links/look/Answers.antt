@@ -1,7 +1,7 @@
 use Rattle.std.proofs.Common.{subst, refl}
 use Rattle.std.specs.Prelude.{IsSome}
 use Rattle.world.proofs.NatMaps.{seen}
-use Rattle.intake.proofs.Keeping.{written_over, looks_there, stays_took, same_owed_ends}
+use Rattle.intake.proofs.Keeping.{written_over, looks_there, stays_took}
 use Rattle.intake.proofs.links.Links.look.Goals as goal
 
 pub returns : goal.returns
@@ -13,4 +13,4 @@ returns c =
     ((c.get_mut.follows.holds now).3 (subst IsSome c.in-Some.ensures.value refl)) in
     looks_there c.args.self.now c.args.number c.in-Some.link.now now (seen (c.get_mut.follows.lender now).entries) w
     (stays_took c.in-Some.link.now now c.look.ensures.inbox.0 c.look.ensures.outbox.0)
-    c.look.ensures.inbox.1 (same_owed_ends c.in-Some.link.now now c.look.ensures.outbox)
+    c.look.ensures.inbox.1 c.look.ensures.outbox

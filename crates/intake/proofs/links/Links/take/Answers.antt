@@ -1,7 +1,7 @@
 use Rattle.std.proofs.Common.{ap, ◌∙◌, subst, refl}
 use Rattle.std.specs.Prelude.{IsSome}
 use Rattle.world.proofs.NatMaps.{seen}
-use Rattle.intake.proofs.Keeping.{written_over, all_stay, none_there, rests_is, takes_is, takes_ok, stays_took, same_owed_ends}
+use Rattle.intake.proofs.Keeping.{written_over, all_stay, none_there, rests_is, takes_is, takes_ok, stays_took}
 use Rattle.intake.proofs.links.Links.take.Goals as goal
 
 pub returns : goal.returns
@@ -16,7 +16,7 @@ returns c =
     record {
       ok = takes_ok c.take.result c.args.self.now c.args.number c.in-Some.link.now now new c.args.fresh.now.items
           c.take.new.fresh.items w same c.take.ensures.list c.take.ensures.took c.take.ensures.waits
-          (same_owed_ends c.in-Some.link.now now c.take.ensures.outbox);
+          c.take.ensures.outbox;
       stay = all_stay c.args.self.now c.args.number c.in-Some.link.now now new w same;
     }
 
