@@ -61,7 +61,11 @@ each_at R old k was is new w at others n = elim (eqb_tells n k) [
 
 pub same_link : (o : Option Link) → StaysOpen o o
 same_link None = tt
-same_link (Some l) = record { inbox = ((refl, refl, refl, refl), refl); outbox = ((refl, refl, refl, refl), refl) }
+same_link (Some l) = record {
+  inbox = ((refl, refl, refl, refl), refl);
+  outbox = ((refl, refl, refl, refl), refl);
+  slot = refl;
+}
 
 pub all_stay : (old : Links) (k : ℕ) (was is : Link) (new : Links) → Written old k was is new → IsSameLink was is
     → AllStay old new
@@ -232,6 +236,7 @@ stays_on (Some x) (Some y) None a b = b
 stays_on (Some x) (Some y) (Some z) a b = record {
   inbox = (ring_on x.inbox.end y.inbox.end z.inbox.end a.inbox.0 b.inbox.0, b.inbox.1 ∙ a.inbox.1);
   outbox = (ring_on x.outbox.end y.outbox.end z.outbox.end a.outbox.0 b.outbox.0, b.outbox.1 ∙ a.outbox.1);
+  slot = b.slot ∙ a.slot;
 }
 
 pub all_stay_on : (a b c : Links) → AllStay a b → AllStay b c → AllStay a c
@@ -282,15 +287,17 @@ puts_on a b c xs ys x y = record {
 
 -- ---- a link's ends, and equal maps
 
-pub stays_put : (a b : Link) → SameProducer a.outbox b.outbox → b.inbox ≡ a.inbox → IsSameLink a b
-stays_put a b out in_same = record {
+pub stays_put : (a b : Link) → SameProducer a.outbox b.outbox → b.inbox ≡ a.inbox → b.slot ≡ a.slot → IsSameLink a b
+stays_put a b out in_same slot = record {
+  slot = slot;
   inbox = (let P : Consumer Message Global AnyItems → Type 0 = λ c. SameConsumer a.inbox c in
       subst P (sym in_same) ((refl, refl, refl, refl), refl));
   outbox = out;
 }
 
-pub stays_took : (a b : Link) → SameConsumer a.inbox b.inbox → b.outbox ≡ a.outbox → IsSameLink a b
-stays_took a b taken same = record {
+pub stays_took : (a b : Link) → SameConsumer a.inbox b.inbox → b.outbox ≡ a.outbox → b.slot ≡ a.slot → IsSameLink a b
+stays_took a b taken same slot = record {
+  slot = slot;
   inbox = taken;
   outbox = (let P : Producer Output Global AnyItems → Type 0 = λ p. SameProducer a.outbox p in
       subst P (sym same) ((refl, refl, refl, refl), refl));

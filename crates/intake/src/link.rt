@@ -41,7 +41,8 @@ impl Link {
         slot: usize,
         turn: u64,
     ) -> Link
-        ensures { (result.inbox ≡ inbox) × (result.outbox ≡ outbox) × (result.kept.items ≡ []) }
+        ensures ends { (result.inbox ≡ inbox) × (result.outbox ≡ outbox) × (result.kept.items ≡ []) }
+        ensures slot { result.slot ≡ slot }
     {
         Link {
             inbox,
@@ -56,8 +57,9 @@ impl Link {
 
     // Notes that the port's thread is to be told, once a turn.
     fn tell(&mut self, number: usize, notes: &mut Notes) -> Result<(), NoMemory>
-        ensures { (self.new.inbox ≡ self.old.inbox) × (self.new.outbox ≡ self.old.outbox)
+        ensures ends { (self.new.inbox ≡ self.old.inbox) × (self.new.outbox ≡ self.old.outbox)
             × (self.new.kept ≡ self.old.kept) }
+        ensures slot { self.new.slot ≡ self.old.slot }
     {
         if self.told_in != notes.turn {
             self.told_in = notes.turn;
@@ -80,6 +82,7 @@ impl Link {
         ensures none { self.old.kept.items ≡ [] → self.new.kept.items ≡ [] }
         ensures outbox { SameProducer self.old.outbox self.new.outbox }
         ensures inbox { self.new.inbox ≡ self.old.inbox }
+        ensures slot { self.new.slot ≡ self.old.slot }
     {
         for _ in 0..self.kept.len() {
             if self.outbox.is_full() {
@@ -99,6 +102,7 @@ impl Link {
         ensures none { self.old.kept.items ≡ [] → self.new.kept.items ≡ [] }
         ensures outbox { SameProducer self.old.outbox self.new.outbox }
         ensures inbox { self.new.inbox ≡ self.old.inbox }
+        ensures slot { self.new.slot ≡ self.old.slot }
     {
         let before = self.kept.len();
         self.move_kept();
@@ -114,6 +118,7 @@ impl Link {
         ensures full { KeepsIfFull (Some self.old) → KeepsIfFull (Some self.new) }
         ensures outbox { SameProducer self.old.outbox self.new.outbox }
         ensures inbox { self.new.inbox ≡ self.old.inbox }
+        ensures slot { self.new.slot ≡ self.old.slot }
     {
         if self.kept.is_empty() && !self.outbox.is_full() {
             self.outbox.push_reserved(output);
@@ -130,8 +135,9 @@ impl Link {
         output: &Output,
         notes: &mut Notes,
     ) -> Result<(), NoMemory>
-        ensures { (self.new.inbox ≡ self.old.inbox) × (self.new.outbox ≡ self.old.outbox)
+        ensures ends { (self.new.inbox ≡ self.old.inbox) × (self.new.outbox ≡ self.old.outbox)
             × (self.new.kept ≡ self.old.kept) }
+        ensures slot { self.new.slot ≡ self.old.slot }
     {
         let bytes = content_len(output);
         self.put_bytes = self.put_bytes.saturating_add(bytes as u64);
@@ -150,6 +156,7 @@ impl Link {
         ensures full { KeepsIfFull (Some self.old) → KeepsIfFull (Some self.new) }
         ensures outbox { SameProducer self.old.outbox self.new.outbox }
         ensures inbox { self.new.inbox ≡ self.old.inbox }
+        ensures slot { self.new.slot ≡ self.old.slot }
     {
         self.note_output(number, &output, notes)?;
         self.add_output(output)?;
@@ -160,6 +167,7 @@ impl Link {
     pub fn look(&mut self) -> usize
         ensures inbox { ConsumerLooked self.old.inbox self.new.inbox }
         ensures outbox { (self.new.outbox ≡ self.old.outbox) × (self.new.kept ≡ self.old.kept) }
+        ensures slot { self.new.slot ≡ self.old.slot }
     {
         self.inbox.slots()
     }
@@ -177,6 +185,7 @@ impl Link {
         ensures waits { OnOk result (known_items self.new.inbox ≡ []) }
         ensures inbox { SameConsumer self.old.inbox self.new.inbox }
         ensures outbox { (self.new.outbox ≡ self.old.outbox) × (self.new.kept ≡ self.old.kept) }
+        ensures slot { self.new.slot ≡ self.old.slot }
     {
         let mut ended = false;
         while self.inbox.cached_slots() > 0 {
@@ -203,6 +212,7 @@ impl Link {
         ensures waits { OnOk result (known_items self.new.inbox ≡ []) }
         ensures inbox { SameConsumer self.old.inbox self.new.inbox }
         ensures outbox { (self.new.outbox ≡ self.old.outbox) × (self.new.kept ≡ self.old.kept) }
+        ensures slot { self.new.slot ≡ self.old.slot }
     {
         let ended = self.take_seen(number, fresh)?;
         if ended {

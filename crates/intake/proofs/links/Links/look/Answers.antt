@@ -12,5 +12,5 @@ returns c =
     c.self.view_is c.in-Some.ensures.value
     ((c.get_mut.follows.holds now).3 (subst IsSome c.in-Some.ensures.value refl)) in
     looks_there c.args.self.now c.args.number c.in-Some.link.now now (seen (c.get_mut.follows.lender now).entries) w
-    (stays_took c.in-Some.link.now now c.look.ensures.inbox.0 c.look.ensures.outbox.0)
+    (stays_took c.in-Some.link.now now c.look.ensures.inbox.0 c.look.ensures.outbox.0 c.look.ensures.slot)
     c.look.ensures.inbox.1 c.look.ensures.outbox

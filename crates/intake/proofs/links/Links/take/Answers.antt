@@ -12,7 +12,7 @@ returns c =
     c.in-Some.link.now now
     c.self.view_is c.in-Some.ensures.value
     ((c.get_mut.follows.holds now).3 (subst IsSome c.in-Some.ensures.value refl)) in
-    let same = stays_took c.in-Some.link.now now c.take.ensures.inbox c.take.ensures.outbox.0 in
+    let same = stays_took c.in-Some.link.now now c.take.ensures.inbox c.take.ensures.outbox.0 c.take.ensures.slot in
     record {
       ok = takes_ok c.take.result c.args.self.now c.args.number c.in-Some.link.now now new c.args.fresh.now.items
           c.take.new.fresh.items w same c.take.ensures.list c.take.ensures.took c.take.ensures.waits
