@@ -1,5 +1,5 @@
 -- The session of each connection lives, after every event.
-use Rattle.std.proofs.Common.{◌≡◌, ◌≢◌, ◌⊎◌, inl, inr, ℕ, ◌+◌, ◌-◌, ℤ, Bool, true, false, cond, List, [], ◌∷◌, ◌++◌, length, slice_get, Option, Some, None, Result, Ok, Err, refl, sym, ap, subst, ◌∙◌, arith}
+use Rattle.std.proofs.Common.{◌≡◌, ◌≢◌, ◌⊎◌, inl, inr, ℕ, ◌+◌, ◌-◌, ℤ, Bool, true, false, cond, List, [], ◌∷◌, length, slice_get, Option, Some, None, Result, Ok, Err, refl, sym, ap, subst, ◌∙◌, arith}
 use Rattle.std.specs.Prelude.{is_some, int_lt}
 use Rattle.std.specs.Option.{unwrap_or, option_or}
 use Rattle.std.specs.Ordering.{eq_by_cmp, nat_cmp, int_cmp, is_eq}
@@ -373,7 +373,7 @@ replies_live n = record {
   thens = λ w h next first second live. second (first live);
   stays = λ w live. live;
   closes = λ w a live m session e. live m session (closed_fewer w.clients.sessions n m session e);
-  sends = λ w bytes live. live;
+  sends = λ w bytes shows live. live;
   watches = λ w watch a live. live;
   unwatches = λ w kind path a live. live;
   shows = λ w id a live m session e. live m session (shown_fewer w.clients.sessions n id m session e);
@@ -381,7 +381,7 @@ replies_live n = record {
 
 calls_live : (n : ℕ) → HoldsOfCalls n Agreeing (λ session. Unit {0}) KeepsLive
 calls_live n = record {
-  touches = λ w session a live. live;
+  touches = λ w session own a live. live;
   leaves = λ w k there a live. live;
   writes = λ w session frame xid kind own a live. live;
   syncs = λ w session frame xid path own a live. live;
@@ -460,7 +460,8 @@ module _ (stays : ServingStays) (dialects : DialectStays) (laws : LowerLaws) whe
       by None = live
       by (Some write) =
           (write_makes n (Unit {0}) Agreeing KeepsLive (agreeing_ground laws n) (replies_live n)
-          (agreeing_answers laws n) (answers_live n) w t results write.kind a).is live
+          (agreeing_answers laws n) (answers_live n) w t results write.kind
+          (record { replies = λ kind v bytes same is live. live; ends = λ xid bytes is live. live }) a).is live
 
   -- Only the session that has ended doesn't live.
   abbrev OthersLive : World → ℤ → Type 0
