@@ -1,7 +1,8 @@
 -- The ports for which outputs are kept.
-use Rattle.std.proofs.Common.{◌≡◌, ◌≢◌, ◌<◌, ◌≤◌, ◌+◌, ◌-◌, ◌⊎◌, ℕ, zero, suc, List, [], ◌∷◌, ◌++◌, length, take, get_or, Option, Some, None, refl, ap, sym, ◌∙◌, subst, inl, inr, arith}
-use Rattle.std.specs.Prelude.{Contains}
+use Rattle.std.proofs.Common.{◌≡◌, ◌≢◌, ◌<◌, ◌≤◌, ◌+◌, ◌-◌, ◌⊎◌, ℕ, zero, suc, Bool, false, List, [], ◌∷◌, ◌++◌, length, take, get_or, Option, Some, None, Result, Ok, Err, refl, ap, sym, ◌∙◌, subst, inl, inr, arith}
+use Rattle.std.specs.Prelude.{Contains, IfOk}
 use Rattle.std.specs.List.{swap_remove, slice_set, slice_index_or}
+use Rattle.std.specs.Ordering.{nat_cmp}
 use Rattle.std.specs.FinMap as finmap
 use Rattle.std.proofs.lemmas.List.{take_more, take_all, take-take, take-set-le}
 use Rattle.std.proofs.lemmas.Grind.{get_or_default_zero}
@@ -9,12 +10,14 @@ use Rattle.std.proofs.lemmas.List.Elements.{Contains-append_cases}
 use Rattle.std.proofs.lemmas.List.Sorted.{IsPermutation-swap_remove, Contains-permutation}
 use Rattle.std.proofs.lemmas.Bool.Decides.{eqb_tells}
 use Rattle.world.proofs.NatMaps.{get-inserted, get-beside}
+use Rattle.rtrb.specs.Ring.{received, SameProducer}
+use Rattle.values.specs.declared.fault.NoMemory.{NoMemory}
 use Rattle.intake.specs.declared.link.Link.{Link}
-use Rattle.intake.specs.Links.{Links, kept_for, kept_at, KeepsIfFull, KeepersAreAmong}
-use Rattle.intake.proofs.Keeping.{Written, each_at}
+use Rattle.intake.specs.Links.{Links, outputs_owed, kept_for, kept_at, KeepsIfFull, KeepersAreAmong, PutsKept}
+use Rattle.intake.proofs.Keeping.{Written, each_at, rests_at, same_wait, stays_put, is_there, rests_is, waits_is}
 
 pub none_keeps : KeepersAreAmong [] finmap.empty
-none_keeps n = inl refl
+none_keeps n = inl (ap kept_for (finmap.get-empty nat_cmp n))
 
 -- One port's outputs are kept or put.
 pub among_written : (before after : List ℕ) (old : Links) (k : ℕ) (was is : Link) (new : Links)
@@ -48,6 +51,10 @@ among_added keeping links k link none listed n = elim (eqb_tells n k) [
 
 -- ---- the list is gone through from its end
 
+contains_one : (k n : ℕ) → Contains (k ∷ []) n → n ≡ k
+contains_one k n (zero, within, is) = sym is
+contains_one k n (suc i, within, is) = absurd (let e : suc i < 1 = within in omega (arith, e))
+
 contains_last : (keeping : List ℕ) (left n : ℕ) → left < length keeping → Contains (take (left + 1) keeping) n
     → n ≢ get_or keeping left 0 → Contains (take left keeping) n
 contains_last keeping left n within there apart =
@@ -57,10 +64,6 @@ contains_last keeping left n within there apart =
       | inl before ↦ before
       | inr last ↦ absurd (apart (contains_one (get_or keeping left 0) n last))
     ]
-
-contains_one : (k n : ℕ) → Contains (k ∷ []) n → n ≡ k
-contains_one k n (zero, within, is) = sym is
-contains_one k n (suc i, within, is) = absurd (let e : suc i < 1 = within in omega (arith, e))
 
 -- The list below a place stays when the port at that place is removed from it.
 pub below_removed : (keeping : List ℕ) (left x : ℕ) → left < length keeping
@@ -130,4 +133,50 @@ pub all_done : (keeping : List ℕ) (links : Links) → IsDoneFrom 0 keeping lin
 all_done keeping links done n = elim (done n) [
   | inl d ↦ d
   | inr there ↦ absurd (let e : there.0 < 0 = there.1 in omega (arith, e))
+]
+
+-- ---- one port of the list
+
+pub puts_kept_at : (old : Links) (k : ℕ) (was is : Link) (new : Links) → Written old k was is new
+    → SameProducer was.outbox is.outbox → is.inbox ≡ was.inbox → is.slot ≡ was.slot
+    → outputs_owed is ≡ outputs_owed was → KeepsIfFull (Some is) → (was.kept.items ≡ [] → is.kept.items ≡ [])
+    → PutsKept k old new
+puts_kept_at old k was is new w outbox inbox slot owes full fewer = record {
+  rests = rests_at old k was is new w (stays_put was is outbox inbox slot) (ap (λ i. received i) inbox) owes;
+  waits = same_wait old k was is new w inbox;
+  full = subst KeepsIfFull (sym (is_there old k was is new w)) full;
+  fewer = λ none. ap kept_for (is_there old k was is new w) ∙ fewer (sym (ap kept_for w.there) ∙ none);
+  others = λ n apart. ap (λ (l : Links). finmap.get l n) w.written ∙ get-beside old k n is apart;
+}
+
+pub none_left : (r : Result Bool NoMemory) (old : Links) (k : ℕ) (was is : Link) (new : Links) → Written old k was is new
+    → IfOk r (λ keeps. keeps ≡ false → is.kept.items ≡ []) → IfOk r (λ keeps. keeps ≡ false → kept_at new k ≡ [])
+none_left (Ok b) old k was is new w none = λ no. ap kept_for (is_there old k was is new w) ∙ none no
+none_left (Err e) old k was is new w none = tt
+
+none_kept : (o : Option Link) → None ≡ o → (kept_for o ≡ []) × KeepsIfFull o
+none_kept o none = subst (λ (x : Option Link). (kept_for x ≡ []) × KeepsIfFull x) none (refl, tt)
+
+pub puts_kept_none : (old new : Links) (k : ℕ) → new ≡ old → None ≡ finmap.get old k
+    → PutsKept k old new × (kept_at new k ≡ [])
+puts_kept_none old new k is none =
+    let P : Links → Type 0 = λ l. PutsKept k old l × (kept_at l k ≡ []) in
+    let nothing = none_kept (finmap.get old k) none in
+    subst P (sym is) (
+      record {
+        rests = rests_is old old refl;
+        waits = waits_is old old refl;
+        full = nothing.1;
+        fewer = λ h. h;
+        others = λ n apart. refl;
+      },
+      nothing.0,
+    )
+
+pub done_removed : (keeping : List ℕ) (left x : ℕ) (links : Links) → left < length keeping
+    → IsDoneFrom left keeping links → IsDoneFrom left (swap_remove keeping left x) links
+done_removed keeping left x links within done n = elim (done n) [
+  | inl d ↦ inl d
+  | inr there ↦ inr (let P : List ℕ → Type 0 = λ l. Contains l n in
+      subst P (sym (below_removed keeping left x within)) there)
 ]

@@ -1,6 +1,7 @@
 -- The slots of the open ports.
 use Rattle.std.proofs.Common.{◌≡◌, ◌≢◌, ◌≤◌, ◌+◌, ◌×◌, ℕ, [], Option, Some, None, refl, ap, sym, ◌∙◌, inl, inr, arith}
 use Rattle.std.specs.Option.{option_map}
+use Rattle.std.specs.Ordering.{nat_cmp}
 use Rattle.std.specs.FinMap as finmap
 use Rattle.std.proofs.lemmas.Bool.Decides.{eqb_tells}
 use Rattle.world.proofs.NatMaps.{get-inserted, get-beside, get-removed, get-kept}
@@ -138,4 +139,7 @@ slots_kept slots next old new stay has =
     (slots_stay slots old new stay has.0, below_stay next old new stay has.1)
 
 pub none_has : (next : ℕ) → HasSlots [] next finmap.empty
-none_has next = (λ n k. ((λ is. cc is), (λ is. cc is)), λ n above. refl)
+none_has next = (
+  λ n k. ((λ is. absurd (no_slot (finmap.get finmap.empty n) k (finmap.get-empty nat_cmp n) is)), (λ is. cc is)),
+  λ n above. finmap.get-empty nat_cmp n,
+)

@@ -2,6 +2,7 @@
 use Rattle.std.specs.Prelude.{◌≡◌, ◌≢◌, ◌≤◌, ◌⊎◌, ◌↔◌, ℕ, List, [], ◌++◌, Contains, Option, Some, None, Bool, true}
 use Rattle.std.specs.Option.{option_map}
 use Rattle.std.specs.Ordering.{nat_cmp}
+use Rattle.std.specs.BTreeMap.{BTreeMap}
 use Rattle.std.specs.FinMap as finmap
 use Rattle.rtrb.specs.Ring.{sent, received, known_free, known_items, consumer_capacity, IsPair, SameProducer, SameConsumer}
 use Rattle.port_hints.specs.Slots.{Slots, port_at}
@@ -14,6 +15,9 @@ use Rattle.intake.specs.Messages.{PortMessage, messages_of_port, part_of_port, s
 -- The hub's ends of each open port, by number.
 abbrev pub Links : Type 0
 Links = finmap.FinMap nat_cmp Link
+
+abbrev pub links_of : BTreeMap ℕ Link → Links
+links_of map = finmap.from_entries map.entries
 
 abbrev pub is_open_port : ℕ → Links → Bool
 is_open_port n links = finmap.contains_key links n
@@ -140,6 +144,14 @@ pub record TakesNoMessage (old new : Links) : Type 0 where
 -- In each port, the same messages wait.
 abbrev pub SameWait : Links → Links → Type 0
 SameWait old new = (n : ℕ) → waiting_at new n ≡ waiting_at old n
+
+-- Outputs that were kept for this port are put, as far as there is room for them.
+pub record PutsKept (n : ℕ) (old new : Links) : Type 0 where
+  pub rests : TakesNoMessage old new
+  pub waits : SameWait old new
+  pub full : KeepsIfFull (finmap.get new n)
+  pub fewer : kept_at old n ≡ [] → kept_at new n ≡ []
+  pub others : (k : ℕ) → k ≢ n → finmap.get new k ≡ finmap.get old k
 
 -- More messages may be seen in the inboxes of these ports, and in no other.
 pub record LooksAt (numbers : List ℕ) (old new : Links) : Type 0 where

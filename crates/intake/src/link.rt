@@ -1,6 +1,6 @@
 //! The hub's ends of a port.
 
-ghost use Rattle.std.specs.Prelude.{◌≡◌, ◌≢◌, ◌↔◌, ◌++◌, [], ◌∷◌, length, IsTrue, OnOk, Some};
+ghost use Rattle.std.specs.Prelude.{◌≡◌, ◌≢◌, ◌↔◌, ◌++◌, [], ◌∷◌, length, false, IsTrue, IfOk, OnOk, Some};
 ghost use Rattle.rtrb.specs.Ring.{sent, received, known_items, IsPair, SameProducer, SameConsumer, ConsumerLooked};
 ghost use Rattle.intake.specs.Messages.{messages_of_port};
 ghost use Rattle.intake.specs.Links.{outputs_owed, KeepsIfFull, IsEndBy, IsSameLink};
@@ -84,10 +84,7 @@ impl Link {
         ensures inbox { self.new.inbox ≡ self.old.inbox }
         ensures slot { self.new.slot ≡ self.old.slot }
     {
-        for _ in 0..self.kept.len() {
-            if self.outbox.is_full() {
-                break;
-            }
+        while self.keeps() && !self.outbox.is_full() {
             let Some(output) = self.kept.pop_front() else {
                 break;
             };
@@ -95,8 +92,10 @@ impl Link {
         }
     }
 
-    /// Puts kept outputs until the outbox is full or none is kept, and notes that the thread is to be told.
-    pub(crate) fn put_kept(&mut self, number: usize, notes: &mut Notes) -> Result<(), NoMemory>
+    /// Puts kept outputs until the outbox is full or none is kept, and notes that the thread is to be told. Returns
+    /// whether some are kept still.
+    pub(crate) fn put_kept(&mut self, number: usize, notes: &mut Notes) -> Result<bool, NoMemory>
+        ensures keeps { IfOk result (λ keeps. keeps ≡ false → self.new.kept.items ≡ []) }
         ensures owes { outputs_owed self.new ≡ outputs_owed self.old }
         ensures full { KeepsIfFull (Some self.new) }
         ensures none { self.old.kept.items ≡ [] → self.new.kept.items ≡ [] }
@@ -109,7 +108,7 @@ impl Link {
         if self.kept.len() < before {
             self.tell(number, notes)?;
         }
-        Ok(())
+        Ok(self.keeps())
     }
 
     // Puts an output, after those that are kept; without room it is kept, too.

@@ -1,9 +1,9 @@
 //! The hub's ends of all ports.
 
-ghost use Rattle.std.specs.Prelude.{◌≡◌, ◌≢◌, ℕ, ◌++◌, [], ◌∷◌, length, false, IfOk, OnOk, OnErr};
+ghost use Rattle.std.specs.Prelude.{◌≡◌, ◌++◌, [], ◌∷◌, length, false, IfOk, OnOk, OnErr};
 ghost use Rattle.std.specs.FinMap as finmap;
 ghost use Rattle.intake.specs.Ports.{sent_through, received_through, unread_through, SamePort};
-ghost use Rattle.intake.specs.Links.{taken_at, waiting_at, outbox_at, IsEnd, AllStay, SameWait, TakesNoMessage, LooksAt, TakesSeen, PutsShares, kept_at, KeepsIfFull, KeepOnlyIfFull};
+ghost use Rattle.intake.specs.Links.{taken_at, waiting_at, outbox_at, IsEnd, AllStay, SameWait, TakesNoMessage, LooksAt, TakesSeen, PutsShares, kept_at, KeepOnlyIfFull, PutsKept, links_of};
 
 use crate::events::port_of;
 use crate::link::Link;
@@ -29,15 +29,15 @@ impl Model for Links {
     ghost use Rattle.std.specs.Coded.{coded_ℕ};
     ghost use Rattle.std.specs.FinMap as finmap;
     ghost use Rattle.intake.specs.contracts.link.Link as of_link;
-    ghost use Rattle.intake.specs.Links.{Links as TheLinks, KeepersAreAmong};
+    ghost use Rattle.intake.specs.Links.{Links as TheLinks, links_of, KeepersAreAmong};
 
     ghost Value = { TheLinks };
 
     ghost coded = { finmap.code coded_ℕ of_link.the_row.coded };
 
-    ghost view = { λ l. finmap.from_entries l.map.entries };
+    ghost view = { λ l. links_of l.map };
 
-    ghost invariant = { λ l. KeepersAreAmong l.keeping.items (finmap.from_entries l.map.entries) };
+    ghost invariant = { λ l. KeepersAreAmong l.keeping.items (links_of l.map) };
 }
 
 impl Links {
@@ -65,7 +65,7 @@ impl Links {
     }
 
     pub fn remove(&mut self, number: usize) -> Option<Link>
-        ensures { self.new ≡ finmap.remove self.old number }
+        ensures map { self.new ≡ finmap.remove self.old number }
         ensures link { result ≡ finmap.get self.old number }
     {
         self.map.remove(&number)
@@ -231,20 +231,11 @@ fn put_kept(
     number: usize,
     notes: &mut Notes,
 ) -> Result<bool, NoMemory>
-    ensures rests { TakesNoMessage (finmap.from_entries map.old.entries) (finmap.from_entries map.new.entries) }
-    ensures waits { SameWait (finmap.from_entries map.old.entries) (finmap.from_entries map.new.entries) }
-    ensures full { KeepsIfFull (finmap.get (finmap.from_entries map.new.entries) number) }
-    ensures none { IfOk result (λ keeps. keeps ≡ false → kept_at (finmap.from_entries map.new.entries) number ≡ []) }
-    ensures others { (n : ℕ) → n ≢ number
-        → finmap.get (finmap.from_entries map.new.entries) n ≡ finmap.get (finmap.from_entries map.old.entries) n }
-    ensures fewer { kept_at (finmap.from_entries map.old.entries) number ≡ []
-        → kept_at (finmap.from_entries map.new.entries) number ≡ [] }
+    ensures puts { PutsKept number (links_of map.old) (links_of map.new) }
+    ensures none { IfOk result (λ keeps. keeps ≡ false → kept_at (links_of map.new) number ≡ []) }
 {
     match map.get_mut(&number) {
-        None => Ok(false),
-        Some(link) => {
-            link.put_kept(number, notes)?;
-            Ok(link.keeps())
-        }
+        None => return Ok(false),
+        Some(link) => link.put_kept(number, notes),
     }
 }
