@@ -1,6 +1,7 @@
 -- The ports for which outputs are kept.
-use Rattle.std.proofs.Common.{◌≡◌, ◌≢◌, ◌<◌, ◌≤◌, ◌+◌, ◌-◌, ◌⊎◌, ℕ, zero, suc, Bool, false, List, [], ◌∷◌, ◌++◌, length, take, get_or, Option, Some, None, Result, Ok, Err, refl, ap, sym, ◌∙◌, subst, inl, inr, arith}
-use Rattle.std.specs.Prelude.{Contains, IfOk}
+use Rattle.std.proofs.Common.{◌≡◌, ◌≢◌, ◌<◌, ◌+◌, ◌-◌, ◌⊎◌, ◌↔◌, ℕ, zero, suc, Bool, true, false, List, [], ◌∷◌, length, take, get_or, Option, Some, None, Result, Ok, Err, refl, ap, sym, ◌∙◌, subst, inl, inr, arith}
+use Rattle.std.specs.Prelude.{Contains, IfOk, IsTrue}
+use Rattle.world.specs.declared.output.Output.{Output}
 use Rattle.std.specs.List.{swap_remove, slice_set, slice_index_or}
 use Rattle.std.specs.Ordering.{nat_cmp}
 use Rattle.std.specs.FinMap as finmap
@@ -9,15 +10,16 @@ use Rattle.std.proofs.lemmas.Grind.{get_or_default_zero}
 use Rattle.std.proofs.lemmas.List.Elements.{Contains-append_cases}
 use Rattle.std.proofs.lemmas.List.Sorted.{IsPermutation-swap_remove, Contains-permutation}
 use Rattle.std.proofs.lemmas.Bool.Decides.{eqb_tells}
-use Rattle.world.proofs.NatMaps.{get-inserted, get-beside}
+use Rattle.world.proofs.NatMaps.{get-inserted, get-beside, get-removed, get-kept}
 use Rattle.rtrb.specs.Ring.{received, SameProducer}
 use Rattle.values.specs.declared.fault.NoMemory.{NoMemory}
+use mathlib.Core.Bool.{true≢false}
 use Rattle.intake.specs.declared.link.Link.{Link}
 use Rattle.intake.specs.Links.{Links, outputs_owed, kept_for, kept_at, KeepsIfFull, KeepersAreAmong, PutsKept}
 use Rattle.intake.proofs.Keeping.{Written, each_at, rests_at, same_wait, stays_put, is_there, rests_is, waits_is}
 
-pub none_keeps : KeepersAreAmong [] finmap.empty
-none_keeps n = inl (ap kept_for (finmap.get-empty nat_cmp n))
+pub none_keeps : (keeping : List ℕ) → KeepersAreAmong keeping finmap.empty
+none_keeps keeping n = inl (ap kept_for (finmap.get-empty nat_cmp n))
 
 -- One port's outputs are kept or put.
 pub among_written : (before after : List ℕ) (old : Links) (k : ℕ) (was is : Link) (new : Links)
@@ -30,6 +32,14 @@ among_written before after old k was is new w more at listed n =
       | inl none ↦ inl none
       | inr there ↦ inr (more j there)
     ]) n (listed n)
+
+pub keeps_some : (b : Bool) (kept : List Output) → (IsTrue b ↔ (kept ≢ [])) → b ≡ true → kept ≡ [] → ⊥
+keeps_some b kept tells is none = tells.0 is none
+
+pub keeps_none : (b : Bool) (kept : List Output) → (IsTrue b ↔ (kept ≢ [])) → b ≡ false → kept ≡ []
+keeps_none b [] tells is = refl
+keeps_none true (o ∷ os) tells is = absurd (true≢false is)
+keeps_none false (o ∷ os) tells is = absurd (true≢false (sym (tells.1 (λ none. cc))))
 
 pub among_same : (keeping : List ℕ) (old : Links) (k : ℕ) (was is : Link) (new : Links) → Written old k was is new
     → is.kept ≡ was.kept → KeepersAreAmong keeping old → KeepersAreAmong keeping new
@@ -45,6 +55,16 @@ among_added keeping links k link none listed n = elim (eqb_tells n k) [
   | inl h ↦ inl (ap kept_for (ap (finmap.get (finmap.insert links k link)) h.1 ∙ get-inserted links k link) ∙ none)
   | inr h ↦ elim (listed n) [
     | inl nothing ↦ inl (ap kept_for (get-beside links k n link h.1) ∙ nothing)
+    | inr there ↦ inr there
+  ]
+]
+
+pub among_without : (keeping : List ℕ) (links : Links) (k : ℕ) → KeepersAreAmong keeping links
+    → KeepersAreAmong keeping (finmap.remove links k)
+among_without keeping links k listed n = elim (eqb_tells n k) [
+  | inl h ↦ inl (ap kept_for (ap (finmap.get (finmap.remove links k)) h.1 ∙ get-removed links k))
+  | inr h ↦ elim (listed n) [
+    | inl nothing ↦ inl (ap kept_for (get-kept links k n h.1) ∙ nothing)
     | inr there ↦ inr there
   ]
 ]

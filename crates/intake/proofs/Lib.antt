@@ -1,7 +1,6 @@
 pub mod Parts
 pub mod Keeping
 pub mod Kept
-pub mod Slots
 pub mod Looking
 pub mod Agreeing
 pub mod Numbering

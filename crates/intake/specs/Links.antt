@@ -1,11 +1,9 @@
 -- The messages taken of a port, and the outputs put to it, given the hub's ends of all open ports.
-use Rattle.std.specs.Prelude.{◌≡◌, ◌≢◌, ◌≤◌, ◌⊎◌, ◌↔◌, ℕ, List, [], ◌++◌, Contains, Option, Some, None, Bool, true}
-use Rattle.std.specs.Option.{option_map}
+use Rattle.std.specs.Prelude.{◌≡◌, ◌≢◌, ◌⊎◌, ℕ, List, [], ◌++◌, Contains, Option, Some, None, Bool, true}
 use Rattle.std.specs.Ordering.{nat_cmp}
 use Rattle.std.specs.BTreeMap.{BTreeMap}
 use Rattle.std.specs.FinMap as finmap
 use Rattle.rtrb.specs.Ring.{sent, received, known_free, known_items, consumer_capacity, IsPair, SameProducer, SameConsumer}
-use Rattle.port_hints.specs.Slots.{Slots, port_at}
 use Rattle.world.specs.declared.output.Output.{Output}
 use Rattle.intake.specs.declared.message.Message.{Message}
 use Rattle.intake.specs.declared.port.PortEnd.{PortEnd}
@@ -110,22 +108,6 @@ KeepersAreAmong numbers links = (n : ℕ) → (kept_at links n ≡ []) ⊎ Conta
 -- Outputs are kept only for ports whose outboxes were full when they were last looked at.
 abbrev pub KeepOnlyIfFull : Links → Type 0
 KeepOnlyIfFull links = (n : ℕ) → KeepsIfFull (finmap.get links n)
-
--- The slot of an open port.
-abbrev pub slot_at : Links → ℕ → Option ℕ
-slot_at links n = option_map (λ (link : Link). link.slot) (finmap.get links n)
-
--- The slots that are given out are those of the open ports.
-abbrev pub SlotsAreOfPorts : Slots → Links → Type 0
-SlotsAreOfPorts slots links = (n slot : ℕ) → (slot_at links n ≡ Some slot) ↔ (port_at slots slot ≡ Some n)
-
--- No port from this number on is open.
-abbrev pub AreBelow : ℕ → Links → Type 0
-AreBelow next links = (n : ℕ) → next ≤ n → finmap.get links n ≡ None
-
--- The slots are those of the open ports, and none of these has this number or a later one.
-abbrev pub HasSlots : Slots → ℕ → Links → Type 0
-HasSlots slots next links = SlotsAreOfPorts slots links × AreBelow next links
 
 -- The end is that of an open port.
 abbrev pub IsEnd : PortEnd → Links → Type 0

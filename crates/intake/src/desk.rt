@@ -90,7 +90,6 @@ impl Model for Desk {
     ghost use Rattle.observer_core.specs.contracts.engine.Engine as of_engine;
     ghost use Rattle.intake.specs.contracts.links.Links as of_links;
     ghost use Rattle.intake.specs.contracts.message.Message as of_message;
-    ghost use Rattle.intake.specs.Links.{HasSlots};
     ghost use Rattle.intake.specs.Desk.{Desk as TheDesk, desk_code, IsOpenUnless};
 
     ghost Value = { TheDesk };
@@ -106,7 +105,7 @@ impl Model for Desk {
       later = d.later.items;
     } };
 
-    ghost invariant = { λ d. IsOpenUnless d.closed d.engine × HasSlots d.marks d.next d.links };
+    ghost invariant = { λ d. IsOpenUnless d.closed d.engine };
 }
 
 impl Desk {

@@ -65,8 +65,7 @@ impl Links {
     }
 
     pub fn remove(&mut self, number: usize) -> Option<Link>
-        ensures map { self.new ≡ finmap.remove self.old number }
-        ensures link { result ≡ finmap.get self.old number }
+        ensures { self.new ≡ finmap.remove self.old number }
     {
         self.map.remove(&number)
     }

@@ -31,7 +31,7 @@ returns-clause-ok c =
     let P : List ℕ → Type 0 = λ later. AddsPort c.args.self.now c.new-3.result
     (seen_desk c.self.inside.closed c.self.inside.engine c.add-2.new.self c.in-Some.next c.self.inside.fresh.items
     later) in
-    subst P (sym c.reserve-3.ensures)
+    subst P (sym c.reserve-2.ensures)
     (added c.self.inside.closed c.self.inside.engine c.self.inside.links c.add-2.new.self c.self.inside.next
     c.in-Some.next
     c.self.inside.fresh.items c.self.inside.later.items end c.new-3.result link c.args.self.now c.self.view_is c.new-3.ensures new refl
