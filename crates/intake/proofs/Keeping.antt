@@ -14,14 +14,14 @@ use Rattle.rtrb.specs.declared.AnyItems.{AnyItems}
 use Rattle.rtrb.specs.declared.end.End.{End}
 use Rattle.rtrb.specs.Ends.{SameRing}
 use Rattle.values.specs.declared.fault.NoMemory.{NoMemory}
-use Rattle.rtrb.specs.Ring.{sent, received, known_items, SameProducer, SameConsumer}
+use Rattle.rtrb.specs.Ring.{sent, received, known_free, known_items, SameProducer, SameConsumer}
 use Rattle.world.specs.declared.output.Output.{Output}
 use Rattle.world.proofs.NatMaps.{seen, get-seen, seen-insert, get-inserted, get-beside}
 use Rattle.intake.specs.declared.message.Message.{Message}
 use Rattle.intake.specs.declared.link.Link.{Link}
 use Rattle.intake.specs.declared.port.PortEnd.{PortEnd}
 use Rattle.intake.specs.Messages.{PortMessage, messages_of_port, part_of_port, port_of, share_of_port}
-use Rattle.intake.specs.Links.{Links, outputs_owed, taken_from, waiting_from, room_from, owed_to, taken_at, waiting_at, room_at, seen_at, owed_at, IsEndBy, IsSameLink, StaysOpen, AllStay, SameWait, TakesNoMessage, LooksAt, TakesSeen, PutsShares}
+use Rattle.intake.specs.Links.{Links, outputs_owed, taken_from, waiting_from, room_from, owed_to, taken_at, waiting_at, room_at, seen_at, owed_at, IsEndBy, IsSameLink, StaysOpen, AllStay, SameWait, TakesNoMessage, LooksAt, TakesSeen, PutsShares, KeepsIfFull, KeepOnlyIfFull}
 use Rattle.intake.proofs.Parts.{part_own, part_others, share_joined, share_own, share_other}
 
 -- ---- one port's ends are overwritten
@@ -61,7 +61,11 @@ each_at R old k was is new w at others n = elim (eqb_tells n k) [
 
 pub same_link : (o : Option Link) → StaysOpen o o
 same_link None = tt
-same_link (Some l) = record { inbox = ((refl, refl, refl, refl), refl); outbox = ((refl, refl, refl, refl), refl) }
+same_link (Some l) = record {
+  inbox = ((refl, refl, refl, refl), refl);
+  outbox = ((refl, refl, refl, refl), refl);
+  slot = refl;
+}
 
 pub all_stay : (old : Links) (k : ℕ) (was is : Link) (new : Links) → Written old k was is new → IsSameLink was is
     → AllStay old new
@@ -105,10 +109,25 @@ pub same_wait : (old : Links) (k : ℕ) (was is : Link) (new : Links) → Writte
 same_wait old k was is new w e =
     each_at (λ n x y. waiting_from y ≡ waiting_from x) old k was is new w (ap (λ i. known_items i) e) (λ n apart. refl)
 
+same_owed_ends : (a b : Link) → (b.outbox ≡ a.outbox) × (b.kept ≡ a.kept) → outputs_owed b ≡ outputs_owed a
+same_owed_ends a b h = ap (λ p. sent p ++ b.kept.items) h.0 ∙ ap (λ k. sent a.outbox ++ k.items) h.1
+
+full_same : (a b : Link) → (b.outbox ≡ a.outbox) × (b.kept ≡ a.kept) → KeepsIfFull (Some a) → KeepsIfFull (Some b)
+full_same a b same full = elim full [
+  | inl none ↦ inl (ap (λ k. k.items) same.1 ∙ none)
+  | inr full ↦ inr (ap (λ p. known_free p) same.0 ∙ full)
+]
+
+full_at : (old : Links) (k : ℕ) (was is : Link) (new : Links) → Written old k was is new
+    → (KeepsIfFull (Some was) → KeepsIfFull (Some is)) → KeepOnlyIfFull old → KeepOnlyIfFull new
+full_at old k was is new w at full n =
+    each_at (λ j x y. KeepsIfFull x → KeepsIfFull y) old k was is new w at (λ j apart h. h) n (full n)
+
 pub looks_there : (old : Links) (k : ℕ) (was is : Link) (new : Links) → Written old k was is new → IsSameLink was is
-    → received is.inbox ≡ received was.inbox → outputs_owed is ≡ outputs_owed was → LooksAt (k ∷ []) old new
-looks_there old k was is new w stays took owes = record {
-  rests = rests_at old k was is new w stays took owes;
+    → received is.inbox ≡ received was.inbox → (is.outbox ≡ was.outbox) × (is.kept ≡ was.kept) → LooksAt (k ∷ []) old new
+looks_there old k was is new w stays took same = record {
+  rests = rests_at old k was is new w stays took (same_owed_ends was is same);
+  full = full_at old k was is new w (full_same was is same);
   others = λ n. elim (eqb_tells n k) [
     | inl h ↦ inr (0, omega arith, sym h.1)
     | inr h ↦ inl (others_same old k was is new w n h.1)
@@ -119,8 +138,8 @@ pub takes_at : (old : Links) (k : ℕ) (was is : Link) (new : Links) (before aft
     → Written old k was is new → IsSameLink was is
     → after ≡ before ++ messages_of_port k (known_items was.inbox)
     → received is.inbox ≡ received was.inbox ++ known_items was.inbox → known_items is.inbox ≡ []
-    → outputs_owed is ≡ outputs_owed was → TakesSeen k old before new after
-takes_at old k was is new before after w stays list took none owes =
+    → (is.outbox ≡ was.outbox) × (is.kept ≡ was.kept) → TakesSeen k old before new after
+takes_at old k was is new before after w stays list took none same =
     let seen = waits_there old k was is new w in record {
       stay = all_stay old k was is new w stays;
       list = list ∙ ap (λ ms. before ++ messages_of_port k ms) (sym seen);
@@ -130,13 +149,15 @@ takes_at old k was is new before after w stays list took none owes =
           ∙ ap (λ ms. taken_at old n ++ ms) (sym (part_others n k (waiting_at old k) apart)));
       none_waits = ap waiting_from (is_there old k was is new w) ∙ none;
       others_wait = others_same old k was is new w;
-      owes = same_owed old k was is new w owes;
+      owes = same_owed old k was is new w (same_owed_ends was is same);
+      full = full_at old k was is new w (full_same was is same);
     }
 
 pub puts_at : (old : Links) (was is : Link) (new : Links) (o : Output) → Written old (port_of o) was is new
     → IsSameLink was is → is.inbox ≡ was.inbox → outputs_owed is ≡ outputs_owed was ++ o ∷ []
-    → PutsShares old (o ∷ []) new
-puts_at old was is new o w stays same owes = record {
+    → (KeepsIfFull (Some was) → KeepsIfFull (Some is)) → PutsShares old (o ∷ []) new
+puts_at old was is new o w stays same owes full = record {
+  full = full_at old (port_of o) was is new w full;
   stay = all_stay old (port_of o) was is new w stays;
   took = same_taken old (port_of o) was is new w (ap (λ i. received i) same);
   waits = same_wait old (port_of o) was is new w same;
@@ -169,6 +190,7 @@ takes_none links k came none =
       none_waits = nothing;
       others_wait = λ n apart. refl;
       owes = λ n. refl;
+      full = λ full. full;
     }
 
 pub nothing_is_open : (o : Option Link) → None ≡ o → is_some o ≡ true → ⊥
@@ -176,6 +198,7 @@ nothing_is_open o none live = cc (ap is_some none)
 
 pub drops : (links : Links) (o : Output) → None ≡ finmap.get links (port_of o) → PutsShares links (o ∷ []) links
 drops links o none = record {
+  full = λ full. full;
   stay = (rests_same links).stay;
   took = λ n. refl;
   waits = λ n. refl;
@@ -187,6 +210,7 @@ drops links o none = record {
 
 pub puts_none : (links : Links) → PutsShares links [] links
 puts_none links = record {
+  full = λ full. full;
   stay = (rests_same links).stay;
   took = λ n. refl;
   waits = λ n. refl;
@@ -212,6 +236,7 @@ stays_on (Some x) (Some y) None a b = b
 stays_on (Some x) (Some y) (Some z) a b = record {
   inbox = (ring_on x.inbox.end y.inbox.end z.inbox.end a.inbox.0 b.inbox.0, b.inbox.1 ∙ a.inbox.1);
   outbox = (ring_on x.outbox.end y.outbox.end z.outbox.end a.outbox.0 b.outbox.0, b.outbox.1 ∙ a.outbox.1);
+  slot = b.slot ∙ a.slot;
 }
 
 pub all_stay_on : (a b c : Links) → AllStay a b → AllStay b c → AllStay a c
@@ -249,6 +274,7 @@ rests_on a b c x y = record {
 
 pub puts_on : (a b c : Links) (xs ys : List Output) → PutsShares a xs b → PutsShares b ys c → PutsShares a (xs ++ ys) c
 puts_on a b c xs ys x y = record {
+  full = λ full. y.full (x.full full);
   stay = all_stay_on a b c x.stay y.stay;
   took = λ n. y.took n ∙ x.took n;
   waits = λ n. y.waits n ∙ x.waits n;
@@ -261,22 +287,21 @@ puts_on a b c xs ys x y = record {
 
 -- ---- a link's ends, and equal maps
 
-pub stays_put : (a b : Link) → SameProducer a.outbox b.outbox → b.inbox ≡ a.inbox → IsSameLink a b
-stays_put a b out in_same = record {
+pub stays_put : (a b : Link) → SameProducer a.outbox b.outbox → b.inbox ≡ a.inbox → b.slot ≡ a.slot → IsSameLink a b
+stays_put a b out in_same slot = record {
+  slot = slot;
   inbox = (let P : Consumer Message Global AnyItems → Type 0 = λ c. SameConsumer a.inbox c in
       subst P (sym in_same) ((refl, refl, refl, refl), refl));
   outbox = out;
 }
 
-pub stays_took : (a b : Link) → SameConsumer a.inbox b.inbox → b.outbox ≡ a.outbox → IsSameLink a b
-stays_took a b taken same = record {
+pub stays_took : (a b : Link) → SameConsumer a.inbox b.inbox → b.outbox ≡ a.outbox → b.slot ≡ a.slot → IsSameLink a b
+stays_took a b taken same slot = record {
+  slot = slot;
   inbox = taken;
   outbox = (let P : Producer Output Global AnyItems → Type 0 = λ p. SameProducer a.outbox p in
       subst P (sym same) ((refl, refl, refl, refl), refl));
 }
-
-pub same_owed_ends : (a b : Link) → (b.outbox ≡ a.outbox) × (b.kept ≡ a.kept) → outputs_owed b ≡ outputs_owed a
-same_owed_ends a b h = ap (λ p. sent p ++ b.kept.items) h.0 ∙ ap (λ k. sent a.outbox ++ k.items) h.1
 
 pub rests_is : (old new : Links) → new ≡ old → TakesNoMessage old new
 rests_is old new is = let P : Links → Type 0 = λ l. TakesNoMessage old l in subst P (sym is) (rests_same old)
@@ -288,7 +313,7 @@ takes_is old new k came is none = let P : Links → Type 0 = λ l. TakesSeen k o
 
 pub looks_is : (old new : Links) (numbers : List ℕ) → new ≡ old → LooksAt numbers old new
 looks_is old new numbers is = let P : Links → Type 0 = λ l. LooksAt numbers old l in
-    subst P (sym is) (record { rests = rests_same old; others = λ n. inl refl })
+    subst P (sym is) (record { rests = rests_same old; full = λ full. full; others = λ n. inl refl })
 
 pub waits_is : (old new : Links) → new ≡ old → SameWait old new
 waits_is old new is = let P : Links → Type 0 = λ l. SameWait old l in subst P (sym is) (λ n. refl)
@@ -320,16 +345,17 @@ pub takes_ok : (result : Result (Unit {0}) NoMemory) (old : Links) (k : ℕ) (wa
     (before after : List PortMessage) → Written old k was is new → IsSameLink was is
     → OnOk result (after ≡ before ++ messages_of_port k (known_items was.inbox))
     → OnOk result (received is.inbox ≡ received was.inbox ++ known_items was.inbox)
-    → OnOk result (known_items is.inbox ≡ []) → outputs_owed is ≡ outputs_owed was
+    → OnOk result (known_items is.inbox ≡ []) → (is.outbox ≡ was.outbox) × (is.kept ≡ was.kept)
     → OnOk result (TakesSeen k old before new after)
-takes_ok (Ok u) old k was is new before after w stays list took none owes =
-    takes_at old k was is new before after w stays list took none owes
-takes_ok (Err e) old k was is new before after w stays list took none owes = tt
+takes_ok (Ok u) old k was is new before after w stays list took none same =
+    takes_at old k was is new before after w stays list took none same
+takes_ok (Err e) old k was is new before after w stays list took none same = tt
 
 pub puts_ok : (result : Result (Unit {0}) NoMemory) (old : Links) (k : ℕ) (was is : Link) (new : Links) (o : Output)
     → k ≡ port_of o → Written old k was is new → IsSameLink was is → is.inbox ≡ was.inbox
-    → OnOk result (outputs_owed is ≡ outputs_owed was ++ o ∷ []) → OnOk result (PutsShares old (o ∷ []) new)
-puts_ok (Ok u) old k was is new o number w stays same owes =
+    → OnOk result (outputs_owed is ≡ outputs_owed was ++ o ∷ []) → (KeepsIfFull (Some was) → KeepsIfFull (Some is))
+    → OnOk result (PutsShares old (o ∷ []) new)
+puts_ok (Ok u) old k was is new o number w stays same owes full =
     let P : ℕ → Type 0 = λ j. Written old j was is new in
-    puts_at old was is new o (subst P number w) stays same owes
-puts_ok (Err e) old k was is new o number w stays same owes = tt
+    puts_at old was is new o (subst P number w) stays same owes full
+puts_ok (Err e) old k was is new o number w stays same owes full = tt

@@ -1,5 +1,6 @@
 pub mod Parts
 pub mod Keeping
+pub mod Kept
 pub mod Looking
 pub mod Agreeing
 pub mod Numbering

@@ -6,11 +6,12 @@ use Rattle.intake.specs.Links.{Links, LooksAt}
 use Rattle.intake.proofs.Keeping.{rests_same, rests_on}
 
 pub looks_at_none : (links : Links) → LooksAt [] links links
-looks_at_none links = record { rests = rests_same links; others = λ n. inl refl }
+looks_at_none links = record { rests = rests_same links; full = λ full. full; others = λ n. inl refl }
 
 looks_on : (xs ys : List ℕ) (a b c : Links) → LooksAt xs a b → LooksAt ys b c → LooksAt (xs ++ ys) a c
 looks_on xs ys a b c x y = record {
   rests = rests_on a b c x.rests y.rests;
+  full = λ full. y.full (x.full full);
   others = λ n. elim (x.others n) [
     | inr h ↦ inr (Contains-append_left xs ys n h)
     | inl same ↦ elim (y.others n) [

@@ -52,35 +52,37 @@ adds_first numbers old new none adds =
 
 -- ---- they come by number
 
-of_port : (n low : ℕ) (ms : List Message) → low ≤ n → All (λ (c : PortMessage). low ≤ c.0) (messages_of_port n ms)
-of_port n low ms below =
-    All-map (λ (c : PortMessage). low ≤ c.0) (λ (m : Message). (n, m)) ms (λ k d within. below)
+abbrev IsFrom : ℕ → PortMessage → Type 0
+IsFrom low c = low ≤ c.0
 
-from_low : (low : ℕ) (numbers : List ℕ) (came : List PortMessage) → All (λ n. low ≤ n) numbers
-    → AreOfPorts numbers came → All (λ (c : PortMessage). low ≤ c.0) came
-from_low low [] came above is =
-    let P : List PortMessage → Type 0 = λ l. All (λ (c : PortMessage). low ≤ c.0) l in
+from_port : (low n : ℕ) (ms : List Message) → low ≤ n → All (IsFrom low) (messages_of_port n ms)
+from_port low n ms above = All-map (IsFrom low) (λ (m : Message). (n, m)) ms (λ k d within. above)
+
+from_ports : (low : ℕ) (numbers : List ℕ) (came : List PortMessage) → All (λ n. low ≤ n) numbers
+    → AreOfPorts numbers came → All (IsFrom low) came
+from_ports low [] came above is =
+    let P : List PortMessage → Type 0 = λ l. All (IsFrom low) l in
     subst P (sym is) (λ k d within. absurd (omega arith))
-from_low low (n ∷ ns) came above of =
-    let P : List PortMessage → Type 0 = λ l. All (λ (c : PortMessage). low ≤ c.0) l in
+from_ports low (n ∷ ns) came above of =
+    let P : List PortMessage → Type 0 = λ l. All (IsFrom low) l in
     subst P (sym of.2)
-    (All-append (λ (c : PortMessage). low ≤ c.0) (messages_of_port n of.0) of.1
-    (of_port n low of.0 (above 0 0 (omega arith)))
-    (from_low low ns of.1 (λ k d within. above (suc k) d (omega arith)) of.3))
+    (All-append (IsFrom low) (messages_of_port n of.0) of.1
+    (from_port low n of.0 (above 0 0 (omega arith)))
+    (from_ports low ns of.1 (λ k d within. above (suc k) d (omega arith)) of.3))
 
-rises_from : (c : PortMessage) (came : List PortMessage) → All (λ (x : PortMessage). c.0 ≤ x.0) came
+rises_from : (c : PortMessage) (came : List PortMessage) → All (IsFrom c.0) came
     → ComeByNumber came → ComeByNumber (c ∷ came)
 rises_from c came above rises zero zero d le within = omega arith
 rises_from c came above rises zero (suc j) d le within = above j d (omega arith)
 rises_from c came above rises (suc i) zero d le within = absurd (omega arith)
 rises_from c came above rises (suc i) (suc j) d le within = rises i j d (omega arith) (omega arith)
 
-port_rises : (n : ℕ) (ms : List Message) (rest : List PortMessage) → All (λ (c : PortMessage). n ≤ c.0) rest
+port_rises : (n : ℕ) (ms : List Message) (rest : List PortMessage) → All (IsFrom n) rest
     → ComeByNumber rest → ComeByNumber (messages_of_port n ms ++ rest)
 port_rises n [] rest above rises = rises
 port_rises n (m ∷ ms) rest above rises =
     rises_from (n, m) (messages_of_port n ms ++ rest)
-    (All-append (λ (c : PortMessage). n ≤ c.0) (messages_of_port n ms) rest (of_port n n ms (omega arith)) above)
+    (All-append (IsFrom n) (messages_of_port n ms) rest (from_port n n ms (omega arith)) above)
     (port_rises n ms rest above rises)
 
 ports_rise : (numbers : List ℕ) (came : List PortMessage) → AllPairs (λ a b. a ≤ b) numbers → AreOfPorts numbers came
@@ -92,7 +94,7 @@ ports_rise (n ∷ ns) came up of =
     let P : List PortMessage → Type 0 = λ l. ComeByNumber l in
     subst P (sym of.2)
     (port_rises n of.0 of.1
-    (from_low n ns of.1 (λ k d within. up 0 (suc k) d (omega arith) (omega arith)) of.3)
+    (from_ports n ns of.1 (λ k d within. up 0 (suc k) d (omega arith) (omega arith)) of.3)
     (ports_rise ns of.1 (λ i j d lt within. up (suc i) (suc j) d (omega arith) (omega arith)) of.3))
 
 -- First the leader's messages, and then those of the clients' ports in order.

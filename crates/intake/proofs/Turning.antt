@@ -1,9 +1,9 @@
 -- The steps of a turn, one after the other.
-use Rattle.std.proofs.Common.{◌≡◌, ◌≢◌, ◌≤◌, ◌<◌, ◌+◌, ℕ, zero, suc, true, false, Bool, List, [], ◌∷◌, ◌++◌, length, take, get_or, Option, Some, None, Result, Ok, Err, refl, ap, sym, ◌∙◌, subst, inl, inr, append_assoc, arith}
+use Rattle.std.proofs.Common.{◌≡◌, ◌≢◌, ◌≤◌, ◌<◌, ◌+◌, ◌-◌, ℕ, zero, suc, true, false, Bool, List, [], ◌∷◌, ◌++◌, length, take, drop, get_or, Option, Some, None, Result, Ok, Err, refl, ap, sym, ◌∙◌, subst, inl, inr, append_assoc, arith}
 use Rattle.std.specs.Prelude.{Contains, IsSome, OnOk, if◌then◌else◌}
 use Rattle.std.specs.List.Sorted.{IsPermutation, IsStrictlyIncreasing}
 use Rattle.std.specs.FinMap as finmap
-use Rattle.std.proofs.lemmas.List.{append-nil, length-append, take_all, take_more}
+use Rattle.std.proofs.lemmas.List.{append-nil, length-append, drop_at, take_all, take_more}
 use Rattle.std.proofs.lemmas.List.Elements.{Contains-append_left, Contains-append_right, Contains-append_cases}
 use Rattle.std.proofs.lemmas.List.Sorted.{Contains-permutation}
 use Rattle.std.proofs.lemmas.Bool.Decides.{eqb_tells}
@@ -11,16 +11,15 @@ use Rattle.world.specs.declared.output.Output.{Output}
 use Rattle.world.specs.Steps.{StepResult}
 use Rattle.observer_core.specs.Machine.{Machine}
 use Rattle.observer_core.specs.Play.{play}
+use Rattle.observer_core.specs.Plays.{PlaysEvents}
 use Rattle.observer_core.specs.declared.engine.Stop.TheVariants as stops
 use Rattle.intake.specs.Messages.{PortMessage, events_of, part_of_port, share_of_port, LeaderComesFirst, ComeByNumber}
-use Rattle.port_hints.specs.Lists.{KeepsEach}
-use Rattle.intake.specs.Links.{Links, LooksAt, taken_at, waiting_at, room_at, seen_at, owed_at, TakesSeen, PutsShares}
+use Rattle.intake.specs.Links.{Links, taken_at, waiting_at, room_at, seen_at, owed_at, TakesSeen, PutsShares, KeepOnlyIfFull}
 use Rattle.intake.specs.Desk.{Desk, IsRemembered, ForgetsNone, KeepsPorts, TakesTurn, AnswersTurn}
 use Rattle.intake.specs.Steps.{BeginsTurn, AreOfPorts, FeedsPort, ServesPorts}
 use Rattle.intake.specs.Agreement.{outputs_of}
 use Rattle.intake.proofs.Parts.{part_joined, part_own, part_others, share_joined, leader_alone, leader_before}
 use Rattle.intake.proofs.Keeping.{rests_same, all_stay_on, still_open, same_room, room_for_seen}
-use Rattle.intake.proofs.Adding.{seen_desk}
 use Rattle.intake.proofs.Agreeing.{joined}
 use Rattle.intake.proofs.Numbering.{adds_on, adds_nothing, adds_none, adds_fed, adds_first, come_by_number}
 
@@ -28,31 +27,32 @@ contains_one : (k n : ℕ) → Contains (k ∷ []) n → n ≡ k
 contains_one k n (zero, within, is) = sym is
 contains_one k n (suc i, within, is) = absurd (let e : suc i < 1 = within in omega (arith, e))
 
--- ---- ports are looked at
-
-pub looked : (closed : Bool) (engine : Option Machine) (links : Links) (next : ℕ) (fresh : List PortMessage)
-    (before : List ℕ) (old : Desk) (one two : Links) (later : List ℕ)
-    → seen_desk closed engine links next fresh before ≡ old → KeepsEach before later → LooksAt (0 ∷ []) links one
-    → LooksAt later one two → ForgetsNone old (seen_desk closed engine two next fresh later)
-looked closed engine links next fresh before old one two later view keeps leader others n apart remembered =
-    let P : Desk → Type 0 = λ d. IsRemembered n d in
-    elim (subst P (sym view) remembered) [
-      | inr there ↦ inr (keeps n there)
-      | inl none ↦ elim (others.others n) [
-        | inr there ↦ inr there
-        | inl same ↦ elim (leader.others n) [
-          | inr leaders ↦ absurd (apart (contains_one 0 n leaders))
-          | inl first ↦ inl (same ∙ first ∙ none)
-        ]
-      ]
-    ]
-
 -- ---- a port is fed
 
 pub engine_is : (closed : Bool) (engine : Option Machine) (m : Machine) → (if closed then None else engine) ≡ Some m
     → engine ≡ Some m
 engine_is true engine m is = cc
 engine_is false engine m is = is
+
+-- The messages after those that came before.
+pub rest_after : (all before rest : List PortMessage) (n : ℕ) → all ≡ before ++ rest → n ≡ length before
+    → take (length all - n) (drop n all) ≡ rest
+rest_after all before rest n is at =
+    let dropped : drop n all ≡ rest = ap (drop n) is ∙ drop_at before rest n (sym at) in
+    let long : length all ≡ length before + length rest = ap length is ∙ length-append before rest in
+    ap (take (length all - n)) dropped ∙ take_all (length all - n) rest (omega arith)
+
+pub plays_seen : (closed : Bool) (engine after : Option Machine) (messages seen : List PortMessage)
+    (before outputs : List Output) (m : Machine) → PlaysEvents (Ok tt) engine (events_of messages) before outputs after
+    → messages ≡ seen → before ≡ [] → (if closed then None else engine) ≡ Some m
+    → (outputs ≡ (play m (events_of seen)).outputs) × (after ≡ Some (play m (events_of seen)).after)
+plays_seen closed engine after messages seen before outputs m plays same none is =
+    let P : Option Machine → Type 0 = λ e. PlaysEvents (Ok tt) e (events_of messages) before outputs after in
+    let p = subst P (engine_is closed engine m is) plays in (
+      p.0 ∙ ap (λ l. l ++ (play m (events_of messages)).outputs) none
+          ∙ ap (λ (l : List PortMessage). (play m (events_of l)).outputs) same,
+      p.1 ∙ ap (λ (l : List PortMessage). Some (play m (events_of l)).after) same,
+    )
 
 pub fed : (n : ℕ) (old new : Desk) (links : Links) (outputs : List Output)
     → TakesSeen n old.links old.fresh links new.fresh → PutsShares links outputs new.links
@@ -70,6 +70,7 @@ fed n old new links outputs takes puts plays next later = record {
   none_waits = puts.waits n ∙ takes.none_waits;
   others_wait = λ k apart. puts.waits k ∙ takes.others_wait k apart;
   stay = all_stay_on old.links links new.links takes.stay puts.stay;
+  full = λ full. puts.full (takes.full full);
   next = next;
   later = later;
 }
@@ -118,9 +119,10 @@ room_at_first d none n =
 
 -- ---- the leader's port
 
-pub turn_of_none : (m : Machine) (d : Desk) → d.machine ≡ Some m → d.fresh ≡ [] → waiting_at d.links 0 ≡ []
-    → TakesTurn m d d
-turn_of_none m d machine fresh whole = record {
+pub turn_of_none : (m : Machine) (d : Desk) → d.machine ≡ Some m → d.fresh ≡ [] → KeepOnlyIfFull d.links
+    → waiting_at d.links 0 ≡ [] → TakesTurn m d d
+turn_of_none m d machine fresh full whole = record {
+  full = full;
   machine = machine ∙ ap (λ (l : List PortMessage). Some (play m (events_of l)).after) (sym fresh);
   took = λ n. sym (append-nil (taken_at d.links n)) ∙ ap (λ l. taken_at d.links n ++ part_of_port n l) (sym fresh);
   owes = λ n live. sym (append-nil (owed_at d.links n))
@@ -133,9 +135,9 @@ turn_of_none m d machine fresh whole = record {
   forgets_none = λ n apart r. r;
 }
 
-pub turn_of_leader : (m : Machine) (old new : Desk) → old.machine ≡ Some m → old.fresh ≡ [] → FeedsPort 0 old new
-    → TakesTurn m old new
-turn_of_leader m old new machine fresh f =
+pub turn_of_leader : (m : Machine) (old new : Desk) → old.machine ≡ Some m → old.fresh ≡ [] → KeepOnlyIfFull old.links
+    → FeedsPort 0 old new → TakesTurn m old new
+turn_of_leader m old new machine fresh full f =
     let is : new.fresh ≡ seen_at old.links 0 = f.fresh ∙ ap (λ l. l ++ seen_at old.links 0) fresh in
     record {
       machine = f.machine m machine
@@ -145,6 +147,7 @@ turn_of_leader m old new machine fresh f =
           ∙ ap (λ (l : List PortMessage). owed_at old.links n ++ share_of_port n (play m (events_of l)).outputs)
           (sym is);
       stay = f.stay;
+      full = f.full full;
       next = f.next;
       in_room = λ n. room_fed 0 old new f n (room_at_first old fresh n);
       leader_first = (let P : List PortMessage → Type 0 = λ l. LeaderComesFirst l in
@@ -152,9 +155,6 @@ turn_of_leader m old new machine fresh f =
       leader_whole = f.none_waits;
       forgets_none = forgets_none_fed 0 old new f;
     }
-
-pub own_of_none : (d : Desk) → d.fresh ≡ [] → AreOfPorts (0 ∷ []) d.fresh
-own_of_none d none = adds_first (0 ∷ []) d.fresh d.fresh none (adds_none 0 d.fresh)
 
 pub own_of_leader : (old new : Desk) → old.fresh ≡ [] → FeedsPort 0 old new → AreOfPorts (0 ∷ []) new.fresh
 own_of_leader old new none f = adds_first (0 ∷ []) old.fresh new.fresh none (adds_fed 0 old new f)
@@ -197,6 +197,7 @@ serves_left k d new is =
         stay = t.stay;
         next = t.next;
         in_room = t.in_room;
+        full = t.full;
         leader_first = t.leader_first;
         leader_whole = t.leader_whole;
         forgets_none = λ n apart r. left_too k d n apart (t.forgets_none n apart r);
@@ -237,6 +238,7 @@ turn_goes_on k m first old new apart f t =
           ∙ ap (λ (l : List PortMessage). owed_at first.links n ++ share_of_port n (outs l)) (sym f.fresh);
       stay = all_stay_on first.links old.links new.links t.stay f.stay;
       next = f.next ∙ t.next;
+      full = f.full t.full;
       in_room = λ n. room_fed k old new f n (t.in_room n);
       leader_first = (let P : List PortMessage → Type 0 = λ l. LeaderComesFirst l in
           subst P (sym f.fresh) (leader_before old.fresh k (waiting_at old.links k) apart t.leader_first));
@@ -287,8 +289,8 @@ ports_on a b c x y = record {
   next = y.next ∙ x.next;
 }
 
--- The ports of the last turn's `later` are served, or left for the next turn, if they are in the list that the turn
--- has in its place.
+-- A turn that begins with another list in the place of `later` is one that begins with `later`, if each port of `later`
+-- is served, or left for the next turn.
 turn_of_list : (m : Machine) (old begun new : Desk) → begun ≡ record old { later = begun.later } → TakesTurn m begun new
     → ((n : ℕ) → n ≢ 0 → Contains old.later n → IsRemembered n new) → TakesTurn m old new
 turn_of_list m old begun new is turn there =
@@ -301,6 +303,7 @@ turn_of_list m old begun new is turn there =
       stay = t.stay;
       next = t.next;
       in_room = t.in_room;
+      full = t.full;
       leader_first = t.leader_first;
       leader_whole = t.leader_whole;
       forgets_none = λ n apart r. elim r [
@@ -316,10 +319,12 @@ ports_of_list old begun is =
 
 -- The leader's port is served, and then the clients' ports that were in `later`.
 pub served : (m : Machine) (numbers : List ℕ) (old begun one two : Desk) → begun ≡ record old { later = begun.later }
-    → numbers ≡ old.later → (begun.machine ≡ Some m → begun.fresh ≡ [] → TakesTurn m begun one)
-    → ServesPorts numbers one two → old.machine ≡ Some m → old.fresh ≡ [] → TakesTurn m old two
-served m numbers old begun one two is same leader clients machine fresh =
-    let first = leader (ap (λ (d : Desk). d.machine) is ∙ machine) (ap (λ (d : Desk). d.fresh) is ∙ fresh) in
+    → numbers ≡ old.later
+    → (begun.machine ≡ Some m → begun.fresh ≡ [] → KeepOnlyIfFull begun.links → TakesTurn m begun one)
+    → ServesPorts numbers one two → old.machine ≡ Some m → old.fresh ≡ [] → KeepOnlyIfFull old.links → TakesTurn m old two
+served m numbers old begun one two is same leader clients machine fresh full =
+    let first = leader (ap (λ (d : Desk). d.machine) is ∙ machine) (ap (λ (d : Desk). d.fresh) is ∙ fresh)
+    (subst KeepOnlyIfFull (sym (ap (λ (d : Desk). d.links) is)) full) in
     turn_of_list m old begun two is (clients.goes_on m begun first) (λ n apart there.
     let P : List ℕ → Type 0 = λ l. Contains l n in clients.served n apart (subst P (sym same) there))
 
@@ -333,10 +338,12 @@ served_in_order numbers old begun one two is same leader clients fresh up =
 
 -- The ports that the turn is to come to are put in another order.
 pub reordered : (m : Machine) (old begun new : Desk) → begun ≡ record old { later = begun.later }
-    → IsPermutation old.later begun.later → (begun.machine ≡ Some m → begun.fresh ≡ [] → TakesTurn m begun new)
-    → old.machine ≡ Some m → old.fresh ≡ [] → TakesTurn m old new
-reordered m old begun new is same turn machine fresh =
-    let t = turn (ap (λ (d : Desk). d.machine) is ∙ machine) (ap (λ (d : Desk). d.fresh) is ∙ fresh) in
+    → IsPermutation old.later begun.later
+    → (begun.machine ≡ Some m → begun.fresh ≡ [] → KeepOnlyIfFull begun.links → TakesTurn m begun new)
+    → old.machine ≡ Some m → old.fresh ≡ [] → KeepOnlyIfFull old.links → TakesTurn m old new
+reordered m old begun new is same turn machine fresh full =
+    let t = turn (ap (λ (d : Desk). d.machine) is ∙ machine) (ap (λ (d : Desk). d.fresh) is ∙ fresh)
+    (subst KeepOnlyIfFull (sym (ap (λ (d : Desk). d.links) is)) full) in
     turn_of_list m old begun new is t
     (λ n apart there. t.forgets_none n apart (inr (Contains-permutation old.later begun.later n same there)))
 
@@ -354,18 +361,20 @@ turn_from m a b c begins t = record {
   stay = all_stay_on a.links b.links c.links begins.rests.links.stay t.stay;
   next = t.next ∙ begins.rests.next;
   in_room = t.in_room;
+  full = t.full;
   leader_first = t.leader_first;
   leader_whole = t.leader_whole;
   forgets_none = λ n apart r. t.forgets_none n apart (begins.forgets_none n apart r);
 }
 
 pub answers_ok : (count : ℕ) (a b c : Desk) → BeginsTurn a b
-    → ((m : Machine) → b.machine ≡ Some m → b.fresh ≡ [] → TakesTurn m b c) → count ≡ length c.fresh
+    → ((m : Machine) → b.machine ≡ Some m → b.fresh ≡ [] → KeepOnlyIfFull b.links → TakesTurn m b c)
+    → count ≡ length c.fresh
     → AnswersTurn (Ok count) a.machine a c
 answers_ok count a b c begins turn counts =
     let s = some_of a.machine begins.is_open in
     let P : Option Machine → Type 0 = λ o. AnswersTurn (Ok count) o a c in
-    subst P (sym s.1) (counts, turn_from s.0 a b c begins (turn s.0 (begins.rests.machine ∙ s.1) begins.fresh))
+    subst P (sym s.1) (counts, turn_from s.0 a b c begins (turn s.0 (begins.rests.machine ∙ s.1) begins.fresh begins.full))
 
 -- Nothing was taken yet, and nothing is.
 pub answers_refused : (a b : Desk) → BeginsTurn a b → AnswersTurn (Err stops.NoMemory) a.machine a b

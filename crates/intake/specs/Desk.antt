@@ -10,7 +10,7 @@ use Rattle.observer_core.specs.declared.engine.Stop.TheVariants as stops
 use Rattle.intake.specs.Messages.{PortMessage, events_of, part_of_port, share_of_port, LeaderComesFirst}
 use Rattle.intake.specs.declared.port.PortEnd.{PortEnd}
 use Rattle.intake.specs.Ports.{sent_through, received_through}
-use Rattle.intake.specs.Links.{Links, is_open_port, taken_at, waiting_at, room_at, owed_at, IsEnd, AllStay, TakesNoMessage}
+use Rattle.intake.specs.Links.{Links, is_open_port, taken_at, waiting_at, room_at, owed_at, IsEnd, AllStay, TakesNoMessage, KeepOnlyIfFull}
 
 -- An observer with its open ports; a closed one has no machine.
 pub record Desk : Type 0 where
@@ -71,6 +71,8 @@ pub record TakesTurn (m : Machine) (old new : Desk) : Type 0 where
   pub next : new.next ≡ old.next
   -- The messages taken of a port, and those that were seen and still wait, are no more than it has room for.
   pub in_room : (n : ℕ) → length (part_of_port n new.fresh) + length (waiting_at new.links n) ≤ room_at new.links n
+  -- What is kept of a port's outputs is kept because its outbox was full.
+  pub full : KeepOnlyIfFull new.links
   -- The leader's messages come first, and all of them that were seen are taken.
   pub leader_first : LeaderComesFirst new.fresh
   pub leader_whole : waiting_at new.links 0 ≡ []

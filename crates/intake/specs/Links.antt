@@ -1,8 +1,9 @@
 -- The messages taken of a port, and the outputs put to it, given the hub's ends of all open ports.
 use Rattle.std.specs.Prelude.{◌≡◌, ◌≢◌, ◌⊎◌, ℕ, List, [], ◌++◌, Contains, Option, Some, None, Bool, true}
 use Rattle.std.specs.Ordering.{nat_cmp}
+use Rattle.std.specs.BTreeMap.{BTreeMap}
 use Rattle.std.specs.FinMap as finmap
-use Rattle.rtrb.specs.Ring.{sent, received, known_items, consumer_capacity, IsPair, SameProducer, SameConsumer}
+use Rattle.rtrb.specs.Ring.{sent, received, known_free, known_items, consumer_capacity, IsPair, SameProducer, SameConsumer}
 use Rattle.world.specs.declared.output.Output.{Output}
 use Rattle.intake.specs.declared.message.Message.{Message}
 use Rattle.intake.specs.declared.port.PortEnd.{PortEnd}
@@ -12,6 +13,9 @@ use Rattle.intake.specs.Messages.{PortMessage, messages_of_port, part_of_port, s
 -- The hub's ends of each open port, by number.
 abbrev pub Links : Type 0
 Links = finmap.FinMap nat_cmp Link
+
+abbrev pub links_of : BTreeMap ℕ Link → Links
+links_of map = finmap.from_entries map.entries
 
 abbrev pub is_open_port : ℕ → Links → Bool
 is_open_port n links = finmap.contains_key links n
@@ -43,6 +47,16 @@ abbrev pub owed_to : Option Link → List Output
 owed_to None = []
 owed_to (Some link) = outputs_owed link
 
+-- The outputs kept for a port.
+abbrev pub kept_for : Option Link → List Output
+kept_for None = []
+kept_for (Some link) = link.kept.items
+
+-- Outputs are kept for a port only if its outbox was full when it was last looked at.
+abbrev pub KeepsIfFull : Option Link → Type 0
+KeepsIfFull None = Unit {0}
+KeepsIfFull (Some link) = (link.kept.items ≡ []) ⊎ (known_free link.outbox ≡ 0)
+
 -- The end belongs to the rings of which the hub has these ends.
 abbrev pub IsEndBy : PortEnd → Option Link → Type 0
 IsEndBy end None = ⊥
@@ -52,6 +66,7 @@ IsEndBy end (Some link) = IsPair end.inbox link.inbox × IsPair link.outbox end.
 pub record IsSameLink (old new : Link) : Type 0 where
   pub inbox : SameConsumer old.inbox new.inbox
   pub outbox : SameProducer old.outbox new.outbox
+  pub slot : new.slot ≡ old.slot
 
 -- A port is open as before, and has the same rings.
 abbrev pub StaysOpen : Option Link → Option Link → Type 0
@@ -83,6 +98,17 @@ outbox_at links n = put_to (finmap.get links n)
 abbrev pub owed_at : Links → ℕ → List Output
 owed_at links n = owed_to (finmap.get links n)
 
+abbrev pub kept_at : Links → ℕ → List Output
+kept_at links n = kept_for (finmap.get links n)
+
+-- Each port for which outputs are kept is among these.
+abbrev pub KeepersAreAmong : List ℕ → Links → Type 0
+KeepersAreAmong numbers links = (n : ℕ) → (kept_at links n ≡ []) ⊎ Contains numbers n
+
+-- Outputs are kept only for ports whose outboxes were full when they were last looked at.
+abbrev pub KeepOnlyIfFull : Links → Type 0
+KeepOnlyIfFull links = (n : ℕ) → KeepsIfFull (finmap.get links n)
+
 -- The end is that of an open port.
 abbrev pub IsEnd : PortEnd → Links → Type 0
 IsEnd end links = IsEndBy end (finmap.get links end.number)
@@ -101,9 +127,18 @@ pub record TakesNoMessage (old new : Links) : Type 0 where
 abbrev pub SameWait : Links → Links → Type 0
 SameWait old new = (n : ℕ) → waiting_at new n ≡ waiting_at old n
 
+-- Outputs that were kept for this port are put, as far as there is room for them.
+pub record PutsKept (n : ℕ) (old new : Links) : Type 0 where
+  pub rests : TakesNoMessage old new
+  pub waits : SameWait old new
+  pub full : KeepsIfFull (finmap.get new n)
+  pub fewer : kept_at old n ≡ [] → kept_at new n ≡ []
+  pub others : (k : ℕ) → k ≢ n → finmap.get new k ≡ finmap.get old k
+
 -- More messages may be seen in the inboxes of these ports, and in no other.
 pub record LooksAt (numbers : List ℕ) (old new : Links) : Type 0 where
   pub rests : TakesNoMessage old new
+  pub full : KeepOnlyIfFull old → KeepOnlyIfFull new
   pub others : (n : ℕ) → (waiting_at new n ≡ waiting_at old n) ⊎ Contains numbers n
 
 -- The messages of a port that were seen are taken, and appended to a list.
@@ -115,6 +150,7 @@ pub record TakesSeen (n : ℕ) (old : Links) (before : List PortMessage) (new : 
     pub none_waits : waiting_at new n ≡ []
     pub others_wait : (k : ℕ) → k ≢ n → waiting_at new k ≡ waiting_at old k
     pub owes : (k : ℕ) → owed_at new k ≡ owed_at old k
+    pub full : KeepOnlyIfFull old → KeepOnlyIfFull new
 
 -- Each open port gets its share of the outputs.
 pub record PutsShares (old : Links) (outputs : List Output) (new : Links) : Type 0 where
@@ -122,3 +158,4 @@ pub record PutsShares (old : Links) (outputs : List Output) (new : Links) : Type
   pub took : (n : ℕ) → taken_at new n ≡ taken_at old n
   pub owes : (n : ℕ) → is_open_port n old ≡ true → owed_at new n ≡ owed_at old n ++ share_of_port n outputs
   pub waits : SameWait old new
+  pub full : KeepOnlyIfFull old → KeepOnlyIfFull new

@@ -5,7 +5,7 @@ use Rattle.observer_core.specs.Machine.{Machine}
 use Rattle.observer_core.specs.Play.{play}
 use Rattle.intake.specs.declared.message.Message.{Message}
 use Rattle.intake.specs.Messages.{PortMessage, events_of, part_of_port, messages_of_port, share_of_port}
-use Rattle.intake.specs.Links.{is_open_port, taken_at, waiting_at, seen_at, owed_at, AllStay}
+use Rattle.intake.specs.Links.{is_open_port, taken_at, waiting_at, seen_at, owed_at, AllStay, KeepOnlyIfFull}
 use Rattle.intake.specs.Desk.{Desk, IsRemembered, ForgetsNone, TakesTurn, TakesNothing}
 
 -- Before messages are taken, `later` has the clients' ports that the turn is to come to, in order.
@@ -15,6 +15,7 @@ pub record BeginsTurn (old new : Desk) : Type 0 where
   pub fresh : new.fresh ≡ []
   pub forgets_none : ForgetsNone old new
   pub sorted : IsStrictlyIncreasing new.later
+  pub full : KeepOnlyIfFull new.links
 
 -- The messages of a port that were seen are taken and played, and the outputs put.
 pub record FeedsPort (n : ℕ) (old new : Desk) : Type 0 where
@@ -28,6 +29,7 @@ pub record FeedsPort (n : ℕ) (old new : Desk) : Type 0 where
   pub none_waits : waiting_at new.links n ≡ []
   pub others_wait : (k : ℕ) → k ≢ n → waiting_at new.links k ≡ waiting_at old.links k
   pub stay : AllStay old.links new.links
+  pub full : KeepOnlyIfFull old.links → KeepOnlyIfFull new.links
   pub next : new.next ≡ old.next
   pub later : new.later ≡ old.later
 

@@ -9,7 +9,7 @@ ghost use Rattle.observer_core.specs.Plays.{PlaysEvents};
 ghost use Rattle.intake.specs.declared.message.AddPortError.TheVariants as errors;
 ghost use Rattle.intake.specs.Messages.{events_of, ComeByNumber};
 ghost use Rattle.intake.specs.Ports.{sent_through, received_through, unread_through, HasRoom, SamePort};
-ghost use Rattle.intake.specs.Links.{taken_at, waiting_at, outbox_at, IsEnd};
+ghost use Rattle.intake.specs.Links.{taken_at, waiting_at, outbox_at, IsEnd, KeepOnlyIfFull};
 ghost use Rattle.intake.specs.Desk.{new_desk, AddsPort, ForgetsNone, KeepsPorts, TakesTurn, TakesNothing, AnswersTurn};
 ghost use Rattle.intake.specs.Steps.{BeginsTurn, AreOfPorts, FeedsPort, ServesPorts};
 
@@ -80,9 +80,7 @@ pub struct Desk {
     round: Round,
     // A port in `later` isn't blocked.
     is_behind: bool,
-    // The ports for which outputs were kept when the turn began, and a list for the next `later`. Each list has
-    // capacity for all open ports.
-    kept: Vec<usize>,
+    // A list for the next `later`. Both have capacity for all open ports.
     spare: Vec<usize>,
 }
 
@@ -147,7 +145,6 @@ impl Desk {
             notes: Notes::new(alloc),
             round: Round::new(),
             is_behind: false,
-            kept: Vec::new(alloc),
             spare: Vec::new(alloc),
         }
     }
@@ -182,7 +179,6 @@ impl Desk {
         };
         let ports = self.links.len().saturating_add(1);
         self.notes.reserve(ports)?;
-        reserve(&mut self.kept, ports)?;
         reserve(&mut self.later, ports)?;
         reserve(&mut self.spare, ports)?;
         let (to_hub, inbox) = RingBuffer::new(self.alloc, capacity)?;
@@ -356,19 +352,16 @@ impl Desk {
     pub(crate) fn prepare(&mut self) -> Result<usize, Stop>
         ensures ok { OnOk result (BeginsTurn self.old self.new) }
         ensures err { IfErr result (λ stop. AnswersTurn (Err stop) self.old.machine self.old self.new) }
+        ensures machine { self.new.machine ≡ self.old.machine }
     {
         self.fresh.clear();
-        self.notes.begin(&mut self.kept);
+        self.notes.begin();
         self.round.begin();
         self.is_behind = false;
         if self.closed {
             return Err(Stop::Closed);
         }
-        let put = self
-            .links
-            .put_all_kept(self.kept.as_slice(), &mut self.notes);
-        if put.is_err() {
-            mem::swap(&mut self.notes.keeping, &mut self.kept);
+        if self.links.put_all_kept(&mut self.notes).is_err() {
             return Err(Stop::NoMemory);
         }
         match self.look() {
@@ -384,6 +377,7 @@ impl Desk {
         ensures fresh { self.new.fresh ≡ self.old.fresh }
         ensures forgets_none { ForgetsNone self.old self.new }
         ensures sorted { IsStrictlyIncreasing self.new.later }
+        ensures full { KeepOnlyIfFull self.old.links → KeepOnlyIfFull self.new.links }
     {
         let found = self.marks.add_to(&mut self.later);
         let leaders = self.links.look(0);
@@ -449,7 +443,7 @@ impl Desk {
         budget: &mut B,
     ) -> Result<usize, NoMemory>
         ensures turn { (m : TheMachine) → self.old.machine ≡ Some m → self.old.fresh ≡ []
-            → OnOk result (TakesTurn m self.old self.new) }
+            → KeepOnlyIfFull self.old.links → OnOk result (TakesTurn m self.old self.new) }
         ensures order { self.old.fresh ≡ [] → IsStrictlyIncreasing self.old.later
             → OnOk result (ComeByNumber self.new.fresh) }
         ensures count { IfOk result (λ count. count ≡ length self.new.fresh) }
@@ -471,7 +465,7 @@ impl Desk {
         gate: &G,
     ) -> Result<(), NoMemory>
         ensures ok { (m : TheMachine) → self.old.machine ≡ Some m → self.old.fresh ≡ []
-            → OnOk result (TakesTurn m self.old self.new) }
+            → KeepOnlyIfFull self.old.links → OnOk result (TakesTurn m self.old self.new) }
         ensures own { self.old.fresh ≡ [] → OnOk result (AreOfPorts (0 ∷ []) self.new.fresh) }
         ensures err { OnErr result (self.new.machine ≡ None) }
         ensures keeps { KeepsPorts self.old self.new }

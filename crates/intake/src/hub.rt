@@ -1,12 +1,13 @@
 //! The hub: a desk, and the list of all messages that it took.
 
-ghost use Rattle.std.specs.Prelude.{◌≡◌, ◌≢◌, ◌⊎◌, ◌++◌, ◌<◌, ◌≤◌, ◌∷◌, length, IfOk, OnErr, OnOk, Err, []};
+ghost use Rattle.std.specs.Prelude.{◌≡◌, ◌≢◌, ◌⊎◌, ◌++◌, ◌<◌, ◌≤◌, ◌∷◌, length, IfErr, IfOk, OnErr, OnOk, Err, []};
 ghost use Rattle.observer_core.specs.Play.{new_machine, primed_machine};
 ghost use Rattle.intake.specs.declared.message.AddPortError.TheVariants as errors;
 ghost use Rattle.intake.specs.Ports.{sent_through, received_through, unread_through, HasRoom, SamePort};
 ghost use Rattle.intake.specs.Links.{taken_at, waiting_at, outbox_at, IsEnd};
 ghost use Rattle.intake.specs.Desk.{TakesNothing};
-ghost use Rattle.intake.specs.Hub.{new_hub, GainsPort, TurnsHub, without_port};
+ghost use Rattle.intake.specs.Steps.{BeginsTurn};
+ghost use Rattle.intake.specs.Hub.{new_hub, GainsPort, RefusesTurn, TurnsHub, without_port};
 
 use crate::budget::Unlimited;
 use crate::desk::Desk;
@@ -101,7 +102,7 @@ impl Hub {
     /// Makes a turn of the desk, and appends its messages to the list. Returns the number of messages taken. Fails as
     /// [`Desk::turn`] does. The list grows before anything is taken: if it can't, the messages stay where they are, and
     /// the desk isn't closed.
-    #[tactic(auto, using(crate::proofs::Turning::answers_refused, crate::proofs::Turning::answers_closed))]
+    #[tactic(auto, using(crate::proofs::Turning::answers_closed))]
     pub fn turn<R: Threads + Sync, G: Gate + Sync>(
         &mut self,
         rt: &R,
@@ -109,10 +110,7 @@ impl Hub {
     ) -> Result<usize, Stop>
         ensures { TurnsHub result self.old self.new }
     {
-        let seen = self.desk.prepare()?;
-        if self.taken.reserve(seen).is_err() {
-            return Err(Stop::NoMemory);
-        }
+        self.prepare()?;
         match self.desk.serve(rt, gate, &mut Unlimited) {
             Err(NoMemory) => Err(Stop::NoMemory),
             Ok(count) => match self.desk.hand_over(&mut self.taken) {
@@ -120,6 +118,22 @@ impl Hub {
                 Ok(()) => Ok(count),
             },
         }
+    }
+
+    // Begins a turn of the desk, and makes room in the list for its messages. Refused here, the messages stay where they
+    // are, and the desk isn't closed.
+    #[tactic(auto, using(crate::proofs::Turning::answers_refused))]
+    fn prepare(&mut self) -> Result<(), Stop>
+        ensures ok { OnOk result (BeginsTurn self.old.desk self.new.desk) }
+        ensures err { IfErr result (λ stop. RefusesTurn stop self.old self.new) }
+        ensures machine { self.new.desk.machine ≡ self.old.desk.machine }
+        ensures list { (self.new.taken ≡ self.old.taken) × (self.new.since ≡ self.old.since) }
+    {
+        let seen = self.desk.prepare()?;
+        if self.taken.reserve(seen).is_err() {
+            return Err(Stop::NoMemory);
+        }
+        Ok(())
     }
 
     /// The number of messages of a finished port that weren't taken yet. The next turn takes them.

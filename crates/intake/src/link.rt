@@ -1,9 +1,9 @@
 //! The hub's ends of a port.
 
-ghost use Rattle.std.specs.Prelude.{◌≡◌, ◌++◌, [], ◌∷◌, length, OnOk, Some};
+ghost use Rattle.std.specs.Prelude.{◌≡◌, ◌≢◌, ◌↔◌, ◌++◌, [], ◌∷◌, length, false, IsTrue, IfOk, OnOk, Some};
 ghost use Rattle.rtrb.specs.Ring.{sent, received, known_items, IsPair, SameProducer, SameConsumer, ConsumerLooked};
 ghost use Rattle.intake.specs.Messages.{messages_of_port};
-ghost use Rattle.intake.specs.Links.{outputs_owed, IsEndBy, IsSameLink};
+ghost use Rattle.intake.specs.Links.{outputs_owed, KeepsIfFull, IsEndBy, IsSameLink};
 ghost use Rattle.intake.specs.Ports.{sent_through, received_through, unread_through, SamePort};
 
 use crate::events::content_len;
@@ -41,7 +41,8 @@ impl Link {
         slot: usize,
         turn: u64,
     ) -> Link
-        ensures { (result.inbox ≡ inbox) × (result.outbox ≡ outbox) × (result.kept.items ≡ []) }
+        ensures ends { (result.inbox ≡ inbox) × (result.outbox ≡ outbox) × (result.kept.items ≡ []) }
+        ensures slot { result.slot ≡ slot }
     {
         Link {
             inbox,
@@ -56,8 +57,9 @@ impl Link {
 
     // Notes that the port's thread is to be told, once a turn.
     fn tell(&mut self, number: usize, notes: &mut Notes) -> Result<(), NoMemory>
-        ensures { (self.new.inbox ≡ self.old.inbox) × (self.new.outbox ≡ self.old.outbox)
+        ensures ends { (self.new.inbox ≡ self.old.inbox) × (self.new.outbox ≡ self.old.outbox)
             × (self.new.kept ≡ self.old.kept) }
+        ensures slot { self.new.slot ≡ self.old.slot }
     {
         if self.told_in != notes.turn {
             self.told_in = notes.turn;
@@ -66,16 +68,23 @@ impl Link {
         Ok(())
     }
 
+    /// Whether outputs are kept.
+    pub(crate) fn keeps(&self) -> bool
+        ensures { IsTrue result ↔ (self.now.kept.items ≢ []) }
+    {
+        !self.kept.is_empty()
+    }
+
     // Puts kept outputs until the outbox is full or none is kept.
     fn move_kept(&mut self)
         ensures owes { outputs_owed self.new ≡ outputs_owed self.old }
+        ensures full { KeepsIfFull (Some self.new) }
+        ensures none { self.old.kept.items ≡ [] → self.new.kept.items ≡ [] }
         ensures outbox { SameProducer self.old.outbox self.new.outbox }
         ensures inbox { self.new.inbox ≡ self.old.inbox }
+        ensures slot { self.new.slot ≡ self.old.slot }
     {
-        for _ in 0..u64::MAX {
-            if self.outbox.is_full() {
-                break;
-            }
+        while self.keeps() && !self.outbox.is_full() {
             let Some(output) = self.kept.pop_front() else {
                 break;
             };
@@ -83,28 +92,32 @@ impl Link {
         }
     }
 
-    /// Puts kept outputs until the outbox is full or none is kept, and notes that the thread is to be told.
-    pub(crate) fn put_kept(&mut self, number: usize, notes: &mut Notes) -> Result<(), NoMemory>
+    /// Puts kept outputs until the outbox is full or none is kept, and notes that the thread is to be told. Returns
+    /// whether some are kept still.
+    pub(crate) fn put_kept(&mut self, number: usize, notes: &mut Notes) -> Result<bool, NoMemory>
+        ensures keeps { IfOk result (λ keeps. keeps ≡ false → self.new.kept.items ≡ []) }
         ensures owes { outputs_owed self.new ≡ outputs_owed self.old }
+        ensures full { KeepsIfFull (Some self.new) }
+        ensures none { self.old.kept.items ≡ [] → self.new.kept.items ≡ [] }
         ensures outbox { SameProducer self.old.outbox self.new.outbox }
         ensures inbox { self.new.inbox ≡ self.old.inbox }
+        ensures slot { self.new.slot ≡ self.old.slot }
     {
         let before = self.kept.len();
         self.move_kept();
         if self.kept.len() < before {
             self.tell(number, notes)?;
         }
-        if !self.kept.is_empty() {
-            notes.keeping.push(number)?;
-        }
-        Ok(())
+        Ok(self.keeps())
     }
 
     // Puts an output, after those that are kept; without room it is kept, too.
     fn add_output(&mut self, output: Output) -> Result<(), NoMemory>
         ensures owes { OnOk result (outputs_owed self.new ≡ outputs_owed self.old ++ output ∷ []) }
+        ensures full { KeepsIfFull (Some self.old) → KeepsIfFull (Some self.new) }
         ensures outbox { SameProducer self.old.outbox self.new.outbox }
         ensures inbox { self.new.inbox ≡ self.old.inbox }
+        ensures slot { self.new.slot ≡ self.old.slot }
     {
         if self.kept.is_empty() && !self.outbox.is_full() {
             self.outbox.push_reserved(output);
@@ -121,8 +134,9 @@ impl Link {
         output: &Output,
         notes: &mut Notes,
     ) -> Result<(), NoMemory>
-        ensures { (self.new.inbox ≡ self.old.inbox) × (self.new.outbox ≡ self.old.outbox)
+        ensures ends { (self.new.inbox ≡ self.old.inbox) × (self.new.outbox ≡ self.old.outbox)
             × (self.new.kept ≡ self.old.kept) }
+        ensures slot { self.new.slot ≡ self.old.slot }
     {
         let bytes = content_len(output);
         self.put_bytes = self.put_bytes.saturating_add(bytes as u64);
@@ -138,15 +152,13 @@ impl Link {
     /// Puts an output, after those that are kept, and notes that the thread is to be told.
     pub fn put(&mut self, number: usize, output: Output, notes: &mut Notes) -> Result<(), NoMemory>
         ensures owes { OnOk result (outputs_owed self.new ≡ outputs_owed self.old ++ output ∷ []) }
+        ensures full { KeepsIfFull (Some self.old) → KeepsIfFull (Some self.new) }
         ensures outbox { SameProducer self.old.outbox self.new.outbox }
         ensures inbox { self.new.inbox ≡ self.old.inbox }
+        ensures slot { self.new.slot ≡ self.old.slot }
     {
         self.note_output(number, &output, notes)?;
-        let kept_before = !self.kept.is_empty();
         self.add_output(output)?;
-        if !kept_before && !self.kept.is_empty() {
-            notes.keeping.push(number)?;
-        }
         self.tell(number, notes)
     }
 
@@ -154,6 +166,7 @@ impl Link {
     pub fn look(&mut self) -> usize
         ensures inbox { ConsumerLooked self.old.inbox self.new.inbox }
         ensures outbox { (self.new.outbox ≡ self.old.outbox) × (self.new.kept ≡ self.old.kept) }
+        ensures slot { self.new.slot ≡ self.old.slot }
     {
         self.inbox.slots()
     }
@@ -171,6 +184,7 @@ impl Link {
         ensures waits { OnOk result (known_items self.new.inbox ≡ []) }
         ensures inbox { SameConsumer self.old.inbox self.new.inbox }
         ensures outbox { (self.new.outbox ≡ self.old.outbox) × (self.new.kept ≡ self.old.kept) }
+        ensures slot { self.new.slot ≡ self.old.slot }
     {
         let mut ended = false;
         while self.inbox.cached_slots() > 0 {
@@ -197,6 +211,7 @@ impl Link {
         ensures waits { OnOk result (known_items self.new.inbox ≡ []) }
         ensures inbox { SameConsumer self.old.inbox self.new.inbox }
         ensures outbox { (self.new.outbox ≡ self.old.outbox) × (self.new.kept ≡ self.old.kept) }
+        ensures slot { self.new.slot ≡ self.old.slot }
     {
         let ended = self.take_seen(number, fresh)?;
         if ended {
@@ -214,6 +229,7 @@ impl Link {
         ensures received { received_through end.new ++ unread_through end.new ≡ sent self.new.outbox }
         ensures took { received self.new.inbox ≡ received self.old.inbox }
         ensures owes { outputs_owed self.new ≡ outputs_owed self.old }
+        ensures kept { self.new.kept ≡ self.old.kept }
         ensures link { IsSameLink self.old self.new }
         ensures end { SamePort end.old end.new }
     {

@@ -1,16 +1,16 @@
 //! The hub's ends of all ports.
 
-ghost use Rattle.std.specs.Prelude.{◌≡◌, ◌++◌, [], ◌∷◌, length, OnOk, OnErr};
+ghost use Rattle.std.specs.Prelude.{◌≡◌, ◌++◌, [], ◌∷◌, length, false, IfOk, OnOk, OnErr};
 ghost use Rattle.std.specs.FinMap as finmap;
 ghost use Rattle.intake.specs.Ports.{sent_through, received_through, unread_through, SamePort};
-ghost use Rattle.intake.specs.Links.{taken_at, waiting_at, outbox_at, IsEnd, AllStay, SameWait, TakesNoMessage, LooksAt, TakesSeen, PutsShares};
+ghost use Rattle.intake.specs.Links.{taken_at, waiting_at, outbox_at, IsEnd, AllStay, SameWait, TakesNoMessage, LooksAt, TakesSeen, PutsShares, kept_at, KeepOnlyIfFull, PutsKept, links_of};
 
 use crate::events::port_of;
 use crate::link::Link;
 use crate::message::Message;
 use crate::port::PortEnd;
 use observer_core::Output;
-use port_hints::{Marks, Notes};
+use port_hints::{Marks, Notes, reserve};
 use std::alloc::Global;
 use std::collections::BTreeMap;
 use std::marker::Model;
@@ -20,19 +20,24 @@ use values::NoMemory;
 #[derive(Drop)]
 pub struct Links {
     map: BTreeMap<usize, Link>,
+    // The ports for which outputs are kept, and some for which none are kept any more. It has capacity for all open
+    // ports.
+    keeping: Vec<usize>,
 }
 
 impl Model for Links {
     ghost use Rattle.std.specs.Coded.{coded_ℕ};
     ghost use Rattle.std.specs.FinMap as finmap;
     ghost use Rattle.intake.specs.contracts.link.Link as of_link;
-    ghost use Rattle.intake.specs.Links.{Links as TheLinks};
+    ghost use Rattle.intake.specs.Links.{Links as TheLinks, links_of, KeepersAreAmong};
 
     ghost Value = { TheLinks };
 
     ghost coded = { finmap.code coded_ℕ of_link.the_row.coded };
 
-    ghost view = { λ l. finmap.from_entries l.map.entries };
+    ghost view = { λ l. links_of l.map };
+
+    ghost invariant = { λ l. KeepersAreAmong l.keeping.items (links_of l.map) };
 }
 
 impl Links {
@@ -41,6 +46,7 @@ impl Links {
     {
         Links {
             map: BTreeMap::new(alloc),
+            keeping: Vec::new(alloc),
         }
     }
 
@@ -49,9 +55,11 @@ impl Links {
     }
 
     pub fn add(&mut self, number: usize, link: Link) -> Result<(), NoMemory>
+        requires { link.kept.items ≡ [] }
         ensures ok { OnOk result (self.new ≡ finmap.insert self.old number link) }
         ensures err { OnErr result (self.new ≡ self.old) }
     {
+        reserve(&mut self.keeping, self.map.len().saturating_add(1))?;
         self.map.insert(number, link)?;
         Ok(())
     }
@@ -62,26 +70,23 @@ impl Links {
         self.map.remove(&number)
     }
 
-    /// Puts outputs that are kept for the port.
-    pub(crate) fn put_kept(&mut self, number: usize, notes: &mut Notes) -> Result<(), NoMemory>
-        ensures rests { TakesNoMessage self.old self.new }
-        ensures waits { SameWait self.old self.new }
-    {
-        match self.map.get_mut(&number) {
-            None => return Ok(()),
-            Some(link) => link.put_kept(number, notes),
-        }
-    }
-
     /// Puts an output to its port.
     pub fn put(&mut self, output: Output, notes: &mut Notes) -> Result<(), NoMemory>
         ensures ok { OnOk result (PutsShares self.old (output ∷ []) self.new) }
         ensures stay { AllStay self.old self.new }
     {
         let number = port_of(&output);
+        self.keeping.reserve(1)?;
         match self.map.get_mut(&number) {
             None => return Ok(()),
-            Some(link) => link.put(number, output, notes),
+            Some(link) => {
+                let kept_before = link.keeps();
+                let put = link.put(number, output, notes);
+                if link.keeps() && !kept_before {
+                    self.keeping.push_reserved(number);
+                }
+                put
+            }
         }
     }
 
@@ -179,18 +184,18 @@ impl Links {
         }
     }
 
-    /// Puts the outputs that are kept for these ports.
-    #[tactic(auto, using(crate::proofs::Keeping::rests_same, crate::proofs::Keeping::rests_on))]
-    pub(crate) fn put_all_kept(
-        &mut self,
-        numbers: &[usize],
-        notes: &mut Notes,
-    ) -> Result<(), NoMemory>
+    /// Puts the outputs that are kept, as far as there is room for them.
+    pub(crate) fn put_all_kept(&mut self, notes: &mut Notes) -> Result<(), NoMemory>
         ensures rests { TakesNoMessage self.old self.new }
         ensures waits { SameWait self.old self.new }
+        ensures full { OnOk result (KeepOnlyIfFull self.new) }
     {
-        for number in numbers {
-            self.put_kept(*number, notes)?;
+        let mut left = self.keeping.len();
+        while left > 0 {
+            left -= 1;
+            if !put_kept(&mut self.map, self.keeping[left], notes)? {
+                self.keeping.swap_remove(left);
+            }
         }
         Ok(())
     }
@@ -216,5 +221,20 @@ impl Links {
             self.put(output, notes)?;
         }
         Ok(())
+    }
+}
+
+// Puts outputs that are kept for the port, as far as there is room. Returns whether some are kept still.
+fn put_kept(
+    map: &mut BTreeMap<usize, Link>,
+    number: usize,
+    notes: &mut Notes,
+) -> Result<bool, NoMemory>
+    ensures puts { PutsKept number (links_of map.old) (links_of map.new) }
+    ensures none { IfOk result (λ keeps. keeps ≡ false → kept_at (links_of map.new) number ≡ []) }
+{
+    match map.get_mut(&number) {
+        None => return Ok(false),
+        Some(link) => link.put_kept(number, notes),
     }
 }

@@ -2,7 +2,7 @@
 //! come to them, and which threads are to be told.
 //!
 //! No contract says that a hint is right: which threads have sent something, or how much they have written, no proof
-//! can know, and tests check it. What is proved is that a list of ports loses none of them.
+//! can know, and tests check it. What is proved is that a list of ports loses none of them, and which port has each slot.
 #![tactic(auto)]
 
 mod marks;

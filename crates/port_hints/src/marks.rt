@@ -10,11 +10,14 @@
 //! is under way.
 
 ghost use Rattle.std.specs.List.Sorted.{IsStrictlyIncreasing};
+ghost use Rattle.std.specs.Prelude.{◌≡◌, [], Some, None, IfOk, OnErr};
 ghost use Rattle.port_hints.specs.Lists.{KeepsEach};
+ghost use Rattle.port_hints.specs.Slots.{port_at, GivesSlot, GivesNoSlot};
 
 use crate::waker::Waker;
 use slab::Slab;
 use std::alloc::Global;
+use std::marker::Model;
 use std::sync::Arc;
 use std::sync::atomic::{AtomicBool, AtomicU64, Ordering};
 use values::NoMemory;
@@ -26,6 +29,8 @@ struct Slot {
     mark: AtomicBool,
     // What the port's thread sends next may be costly.
     is_heavy: AtomicBool,
+    // Its last messages were costly.
+    is_costly: AtomicBool,
     // How many bytes the port's thread has written.
     written: AtomicU64,
 }
@@ -44,6 +49,7 @@ impl Group {
             slots.push(Slot {
                 mark: AtomicBool::new(false),
                 is_heavy: AtomicBool::new(false),
+                is_costly: AtomicBool::new(false),
                 written: AtomicU64::new(0),
             })?;
         }
@@ -80,6 +86,12 @@ impl Group {
     fn heavy(&self, place: usize) -> Option<&AtomicBool> {
         let slot = self.slots.get(place)?;
         Some(&slot.is_heavy)
+    }
+
+    // Whether the last messages of the slot's port were costly.
+    fn costly(&self, place: usize) -> Option<&AtomicBool> {
+        let slot = self.slots.get(place)?;
+        Some(&slot.is_costly)
     }
 
     // The count of the bytes that the slot's thread has written.
@@ -151,27 +163,34 @@ impl Mark {
     }
 }
 
-// The port that has a slot.
-#[derive(Drop)]
-struct Seat {
-    number: usize,
-    // Its last messages were costly.
-    is_costly: bool,
-}
-
 /// The slots, with the port of each, and their marks.
 #[derive(Drop)]
 pub struct Marks {
     alloc: Global,
     shared: Arc<Shared, Global>,
     groups: Vec<Arc<Group, Global>>,
-    seats: Slab<Seat>,
+    // The port that has each slot.
+    ports: Slab<usize>,
     // How many bytes were put to clients.
     put: u64,
 }
 
+impl Model for Marks {
+    ghost use Rattle.std.specs.Prelude.{List, Option, ℕ};
+    ghost use Rattle.std.specs.Coded.{coded_list, coded_option, coded_ℕ};
+
+    ghost Value = { List (Option ℕ) };
+
+    ghost coded = { coded_list (coded_option coded_ℕ) };
+
+    ghost view = { λ m. m.ports.slots };
+}
+
 impl Marks {
-    pub fn new(alloc: Global) -> Result<Marks, NoMemory> {
+    /// No slot is given out yet. Fails only if an allocation is refused.
+    pub fn new(alloc: Global) -> Result<Marks, NoMemory>
+        ensures { IfOk result (λ m. m ≡ []) }
+    {
         let shared = Shared {
             waker: Arc::new(alloc, Waker::new())?,
             written: AtomicU64::new(0),
@@ -181,14 +200,18 @@ impl Marks {
             alloc,
             shared: Arc::new(alloc, shared)?,
             groups: Vec::new(alloc),
-            seats: Slab::new(alloc),
+            ports: Slab::new(alloc),
             put: 0,
         })
     }
 
     /// Gives the port a slot, and returns the slot with its mark.
-    pub fn add(&mut self, number: usize) -> Result<(usize, Mark), NoMemory> {
-        let slot = self.seats.vacant_key();
+    pub fn add(&mut self, number: usize) -> Result<(usize, Mark), NoMemory>
+        ensures free { IfOk result (λ given. port_at self.old given.0 ≡ None) }
+        ensures given { IfOk result (λ given. GivesSlot given.0 (Some number) self.old self.new) }
+        ensures err { OnErr result (GivesNoSlot self.old self.new) }
+    {
+        let slot = self.ports.vacant_key();
         let index = slot / GROUP;
         if self.groups.get(index).is_none() {
             self.groups
@@ -204,16 +227,16 @@ impl Marks {
             shared: Arc::try_clone(&self.shared)?,
         };
         mark.set_heavy(false);
-        self.seats.insert(Seat {
-            number,
-            is_costly: false,
-        })?;
+        self.ports.insert(number)?;
+        self.set_costly(slot, false);
         Ok((slot, mark))
     }
 
     /// Frees the slot of a port to which so many bytes were put.
-    pub fn remove(&mut self, slot: usize, put: u64) {
-        let Some(seat) = self.seats.try_remove(slot) else {
+    pub fn remove(&mut self, slot: usize, put: u64)
+        ensures { GivesSlot slot None self.old self.new }
+    {
+        let Some(number) = self.ports.try_remove(slot) else {
             return;
         };
         let Some(group) = self.groups.get(slot / GROUP) else {
@@ -223,7 +246,7 @@ impl Marks {
             return;
         };
         let written = written.swap(0, Ordering::SeqCst);
-        if seat.number != 0 {
+        if number != 0 {
             self.shared.written.fetch_sub(written, Ordering::SeqCst);
             self.put = self.put.saturating_sub(put);
         }
@@ -263,8 +286,8 @@ impl Marks {
         let first = index.saturating_mul(GROUP);
         for place in 0..GROUP {
             if group.take(place) {
-                if let Some(seat) = self.seats.get(first.saturating_add(place)) {
-                    if numbers.push(seat.number).is_err() {
+                if let Some(number) = self.ports.get(first.saturating_add(place)) {
+                    if numbers.push(*number).is_err() {
                         group.raise(place);
                         return Err(NoMemory);
                     }
@@ -288,30 +311,29 @@ impl Marks {
 
     /// Whether the port's last messages were costly, or its thread has told that the next ones may be.
     pub fn is_costly(&self, slot: usize) -> bool {
-        match self.seats.get(slot) {
-            None => true,
-            Some(seat) => seat.is_costly || self.is_heavy(slot),
-        }
-    }
-
-    fn is_heavy(&self, slot: usize) -> bool {
         let Some(group) = self.groups.get(slot / GROUP) else {
-            return false;
+            return true;
         };
-        match group.heavy(slot % GROUP) {
-            None => false,
-            Some(heavy) => heavy.load(Ordering::SeqCst),
-        }
+        let (Some(costly), Some(heavy)) = (group.costly(slot % GROUP), group.heavy(slot % GROUP))
+        else {
+            return true;
+        };
+        costly.load(Ordering::SeqCst) || heavy.load(Ordering::SeqCst)
     }
 
-    pub fn set_costly(&mut self, slot: usize, is_costly: bool) {
-        if let Some(seat) = self.seats.get_mut(slot) {
-            seat.is_costly = is_costly;
+    pub fn set_costly(&self, slot: usize, is_costly: bool) {
+        let Some(group) = self.groups.get(slot / GROUP) else {
+            return;
+        };
+        if let Some(costly) = group.costly(slot % GROUP) {
+            costly.store(is_costly, Ordering::SeqCst);
         }
     }
 
     /// Counts bytes that were put to clients.
-    pub fn add_put(&mut self, bytes: usize) {
+    pub fn add_put(&mut self, bytes: usize)
+        ensures { self.new ≡ self.old }
+    {
         self.put = self.put.saturating_add(bytes as u64);
     }
 

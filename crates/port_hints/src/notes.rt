@@ -3,7 +3,6 @@
 ghost use Rattle.std.specs.Prelude.{◌≡◌, []};
 
 use std::alloc::Global;
-use std::mem;
 use values::NoMemory;
 
 /// Ports by number. Each list has capacity for all open ports, so a turn allocates nothing for them.
@@ -15,8 +14,6 @@ pub struct Notes {
     pub told: Vec<usize>,
     /// The ports whose `End` was taken.
     pub ended: Vec<usize>,
-    /// The ports for which outputs are kept.
-    pub keeping: Vec<usize>,
     /// The ports to which an output was put that closes the connection.
     pub closing: Vec<usize>,
     /// The number of bytes put to clients since the last messages were taken.
@@ -26,14 +23,12 @@ pub struct Notes {
 impl Notes {
     pub fn new(alloc: Global) -> Notes
         ensures told { (result.told.items ≡ []) × (result.ended.items ≡ []) × (result.closing.items ≡ []) }
-        ensures keeping { result.keeping.items ≡ [] }
         ensures counts { (result.turn ≡ 0) × (result.answered ≡ 0) }
     {
         Notes {
             turn: 0,
             told: Vec::new(alloc),
             ended: Vec::new(alloc),
-            keeping: Vec::new(alloc),
             closing: Vec::new(alloc),
             answered: 0,
         }
@@ -43,28 +38,23 @@ impl Notes {
     pub fn reserve(&mut self, ports: usize) -> Result<(), NoMemory>
         ensures told { self.new.told.items ≡ self.old.told.items }
         ensures ended { self.new.ended.items ≡ self.old.ended.items }
-        ensures keeping { self.new.keeping.items ≡ self.old.keeping.items }
         ensures closing { self.new.closing.items ≡ self.old.closing.items }
         ensures counts { (self.new.turn ≡ self.old.turn) × (self.new.answered ≡ self.old.answered) }
     {
         reserve(&mut self.told, ports)?;
         reserve(&mut self.ended, ports)?;
-        reserve(&mut self.keeping, ports)?;
         reserve(&mut self.closing, ports)
     }
 
-    /// Begins another turn. `kept` becomes the list of the ports for which outputs are kept.
-    pub fn begin(&mut self, kept: &mut Vec<usize>)
+    /// Begins another turn.
+    pub fn begin(&mut self)
         ensures told { (self.new.told.items ≡ []) × (self.new.ended.items ≡ []) × (self.new.closing.items ≡ []) }
-        ensures keeping { (kept.new.items ≡ self.old.keeping.items) × (self.new.keeping.items ≡ []) }
         ensures answered { self.new.answered ≡ self.old.answered }
     {
         self.turn = self.turn.wrapping_add(1);
         self.told.clear();
         self.ended.clear();
         self.closing.clear();
-        kept.clear();
-        mem::swap(&mut self.keeping, kept);
     }
 }
 

@@ -14,8 +14,8 @@ returns-clause-ok c =
       outbox = c.in_ok-outbox.from_hub;
     } in
     let link = c.new-link.result in
-    let inbox = c.new-link.ensures.0 in
-    let outbox = c.new-link.ensures.1 in
+    let inbox = c.new-link.ensures.ends.0 in
+    let outbox = c.new-link.ensures.ends.1 in
     let new : AreNew end link = record {
       inbox = rw inbox c.in_ok-to_hub.ensures.pair;
       outbox = rw outbox c.in_ok-outbox.ensures.pair;
@@ -26,12 +26,12 @@ returns-clause-ok c =
       no_seen = ap (λ i. known_items i) inbox ∙ c.in_ok-to_hub.ensures.consumer.1;
       no_put = ap (λ o. sent o) outbox ∙ c.in_ok-outbox.ensures.producer.0;
       no_received = c.in_ok-outbox.ensures.consumer.0;
-      no_kept = c.new-link.ensures.2;
+      no_kept = c.new-link.ensures.ends.2;
     } in
     let P : List ℕ → Type 0 = λ later. AddsPort c.args.self.now c.new-3.result
     (seen_desk c.self.inside.closed c.self.inside.engine c.add-2.new.self c.in-Some.next c.self.inside.fresh.items
     later) in
-    subst P (sym c.reserve-3.ensures)
+    subst P (sym c.reserve-2.ensures)
     (added c.self.inside.closed c.self.inside.engine c.self.inside.links c.add-2.new.self c.self.inside.next
     c.in-Some.next
     c.self.inside.fresh.items c.self.inside.later.items end c.new-3.result link c.args.self.now c.self.view_is c.new-3.ensures new refl

@@ -12,6 +12,7 @@ invariant-loop-self l = record {
   inbox : SameConsumer l.initial.self.inbox l.self.inbox;
   outbox : l.self.outbox ≡ l.initial.self.outbox;
   kept : l.self.kept ≡ l.initial.self.kept;
+  slot : l.self.slot ≡ l.initial.self.slot;
 }
 
 abbrev pub decreases-loop-self : goal.decreases-loop-self

@@ -4,6 +4,7 @@ use Rattle.std.specs.FinMap as finmap
 use Rattle.world.proofs.NatMaps.{seen, get-seen}
 use Rattle.intake.specs.Links.{Links, taken_from, waiting_from, put_to}
 use Rattle.intake.proofs.Keeping.{written_over, rests_at, none_there, no_end, end_there, is_there}
+use Rattle.intake.proofs.Kept.{among_same}
 use Rattle.intake.proofs.links.Links.left.Goals as goal
 
 pub returns-in-None-clause-count : goal.returns-in-None-clause-count
@@ -71,3 +72,12 @@ returns-clause-links c =
     ((c.get_mut.follows.holds now).3 (subst IsSome c.in-Some.ensures.value refl)) in
     rests_at c.args.self.now c.args.end.now.number c.in-Some.link.now now (seen (c.get_mut.follows.lender now).entries)
     w c.left.ensures.link c.left.ensures.took c.left.ensures.owes
+
+pub invariant_of-self-2 : goal.invariant_of-self-2
+invariant_of-self-2 c =
+    let now = c.left.new.self in
+    let old = seen c.self.inside.map.entries in
+    let w = written_over c.self.inside.map (c.get_mut.follows.lender now) old c.args.end.now.number c.in-Some.link.now now refl
+    c.in-Some.ensures.value ((c.get_mut.follows.holds now).3 (subst IsSome c.in-Some.ensures.value refl)) in
+    among_same c.self.inside.keeping.items old c.args.end.now.number c.in-Some.link.now now
+    (seen (c.get_mut.follows.lender now).entries) w c.left.ensures.kept c.self.invariant
