@@ -102,9 +102,9 @@ def test_ends_that_come_with_the_last_bytes():
         server.ends()
 
 
-def writes(number, each):
-    """So many creates of a client, which are sent at once."""
-    return b"".join(forwarded.create(xid, b"/n%d-%d" % (number, xid), bytes(500)) for xid in range(each))
+def writes(number, each, size):
+    """So many creates of a client, each with so many bytes of data."""
+    return b"".join(forwarded.create(xid, b"/n%d-%d" % (number, xid), bytes(size)) for xid in range(each))
 
 
 def are_written(client, each):
@@ -115,17 +115,17 @@ def are_written(client, each):
             assert reply[:4] + reply[12:16] == struct.pack(">ii", xid, 0), (xid, reply)
 
 
-def forwarded_within(server, clients, each):
+def forwarded_within(server, clients, each, size):
     """Each client writes so often, all at once. Returns what the leader was asked, how long that took, and how long a
     PING waited for its answer meanwhile at most."""
-    asked, waited = [writes(number, each) for number in range(len(clients))], 0
+    asked, waited = [writes(number, each, size) for number in range(len(clients))], 0
     began = time.monotonic()
     for client, requests in zip(clients, asked):
         client.sendall(requests)
     requests = []
     while len(requests) < len(clients) * each:
         requests.append(server.leader.asked())
-        if len(requests) % 1000 == 0:
+        if len(requests) % 100 == 0:
             pinged = time.monotonic()
             server.leader.pinged()
             waited = max(waited, time.monotonic() - pinged)
@@ -133,14 +133,14 @@ def forwarded_within(server, clients, each):
 
 
 def test_many_writes_at_once_are_forwarded():
-    """Far more than may be under way to the leader, and than its port has room for: all go on whenever there is room,
-    with no wait for the clock, and PINGs are answered meanwhile. Clients that go unanswered leave no trace."""
-    count, each = 50, 160
+    """More than the leader's port has room for, and then far more bytes than may be under way to it: all go on whenever
+    there is room, with no wait for the clock, and PINGs are answered meanwhile. Clients that go unanswered leave no
+    trace."""
     with Server() as server:
-        for are_answered in (False, True):
-            clients = [server.client() for _ in range(count)]
-            requests, took, waited = forwarded_within(server, clients, each)
-            assert took < 20 and waited < 2, (took, waited)
+        for each, size, are_answered in ((160, 2, False), (20, 20_000, True)):
+            clients = [server.client() for _ in range(50)]
+            requests, took, waited = forwarded_within(server, clients, each, size)
+            assert took < 15 and waited < 2, (each, took, waited)
             if are_answered:
                 with server.leader.lock:
                     server.leader.send(b"".join(map(server.leader.done, requests)))

@@ -7,6 +7,8 @@
 #[cfg(test)]
 mod helpers;
 #[cfg(test)]
+mod hints;
+#[cfg(test)]
 mod ports;
 #[cfg(test)]
 mod turns;
