@@ -37,6 +37,7 @@ import logs  # noqa: E402
 import next_leaders  # noqa: E402
 import several  # noqa: E402
 import silence  # noqa: E402
+import words  # noqa: E402
 from leader import CLOSE_SESSION, CREATE, ERROR, EPOCH_1, received  # noqa: E402
 from server import (  # noqa: E402
     ACKEPOCH, CONNECT, CONNECTED_LEN, GET, GOT_LEN, LEADERINFO, OBSERVERINFO, PING, PINGED_LEN, SNAP, UPTODATE, Program,
@@ -45,7 +46,7 @@ from server import (  # noqa: E402
 
 MODULES = (
     commands, configured, sys.modules[__name__], claims, keyed, addresses, logs, next_leaders, silence, checkpoints, bounds,
-    attacks, attacks_on_memory,
+    words,    attacks, attacks_on_memory,
 )
 
 
