@@ -1,11 +1,10 @@
 //! The thread of a client's connection.
 
 use crate::begin::{First, passed, read_first, write_text};
-use crate::count::PacketCount;
 use crate::counted::{CountedReader, CountedWriter};
 use connection_loop::{ReadsAhead, Rest, SessionLimits, session_loop};
 use intake::{Port, PortEnd};
-use server_tally::ClientTally;
+use server_tally::{ClientTally, PacketCount};
 use server_words::ServerWord;
 use std::alloc::Global;
 use std::io::{Read, Write};

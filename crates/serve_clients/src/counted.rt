@@ -1,9 +1,8 @@
 //! A reader and a writer that count packets.
 
 use crate::begin::First;
-use crate::count::{Found, PacketCount};
 use connection_loop::Rest;
-use server_tally::ClientTally;
+use server_tally::{ClientTally, Found, PacketCount};
 use std::io;
 use std::io::{Read, Write};
 use std::time::Clock;

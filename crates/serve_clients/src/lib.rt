@@ -9,7 +9,6 @@
 
 mod begin;
 mod client;
-mod count;
 mod counted;
 
 pub use client::client_loop;

@@ -1,7 +1,7 @@
 //! What has gone through a server and its connections, counted by their threads, and the answers to the words that ask
 //! for it.
 //!
-//! All threads share one [`Tally`]. The thread of a connection has an [`ClientTally`], which it tells what has come and
+//! All threads share one [`Tally`]. The thread of a connection has a [`ClientTally`], which it tells what has come and
 //! gone, and asks for the answer to a word; the hub stores after each turn what the engine holds
 //! ([`EngineFigures`]). So an answer takes no message and no turn, and no time for nodes, watches or other clients,
 //! unless it lists these. The counts are read one after the other, so an answer may tell of a packet that came and not
@@ -23,8 +23,10 @@
 
 mod client;
 mod counts;
+mod packets;
 mod tally;
 mod timed;
 
 pub use client::ClientTally;
+pub use packets::{Found, PacketCount};
 pub use tally::{EngineFigures, Tally, TallySettings};

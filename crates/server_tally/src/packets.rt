@@ -5,7 +5,7 @@ const HEAD: usize = 8;
 
 /// What some bytes of a stream brought.
 #[derive(Clone, Copy, Debug, PartialEq, Eq)]
-pub(crate) struct Found {
+pub struct Found {
     pub packets: u64,
     /// Those with xid -1, which are events and no answers.
     pub notices: u64,
@@ -13,7 +13,7 @@ pub(crate) struct Found {
 
 /// How far the packets of a stream were counted: each counts when its length and its xid have come.
 #[derive(Clone, Copy, Debug)]
-pub(crate) struct PacketCount {
+pub struct PacketCount {
     head: [u8; HEAD],
     // How many bytes of the head have come.
     have: usize,
@@ -51,6 +51,16 @@ impl PacketCount {
         self.have >= HEAD
     }
 
+    // Counts the packet whose head is whole.
+    fn end_head(&mut self, found: &mut Found) {
+        found.packets = found.packets.saturating_add(1);
+        if is_notice(self.head) {
+            found.notices = found.notices.saturating_add(1);
+        }
+        self.left = rest_of(self.head);
+        self.have = 0;
+    }
+
     /// Counts the packets whose heads end in these bytes, which come next.
     pub fn count(&mut self, bytes: &[u8]) -> Found {
         let mut found = Found {
@@ -58,20 +68,17 @@ impl PacketCount {
             notices: 0,
         };
         let mut at: usize = 0;
-        while at < bytes.len() {
-            let skipped = self.left.min(bytes.len() - at);
-            self.left -= skipped;
-            at += skipped;
-            if let Some(byte) = bytes.get(at).copied() {
-                at += 1;
-                if self.add(byte) {
-                    found.packets = found.packets.saturating_add(1);
-                    if is_notice(self.head) {
-                        found.notices = found.notices.saturating_add(1);
-                    }
-                    self.left = rest_of(self.head);
-                    self.have = 0;
-                }
+        // Each step takes a byte of a head at least.
+        for _ in 0..bytes.len() {
+            let skipped = self.left.min(bytes.len().saturating_sub(at));
+            self.left = self.left.saturating_sub(skipped);
+            at = at.saturating_add(skipped);
+            let Some(byte) = bytes.get(at).copied() else {
+                break;
+            };
+            at = at.saturating_add(1);
+            if self.add(byte) {
+                self.end_head(&mut found);
             }
         }
         found
