@@ -1,4 +1,4 @@
-use Rattle.std.proofs.Common.{◌++◌, append_assoc, refl, ◌∙◌}
+use Rattle.std.proofs.Common.{append_assoc, refl, ◌∙◌}
 use Rattle.server_words.proofs.texts.put_mntr_tree.Goals as goal
 
 pub returns-in-Ok : goal.returns-in-Ok
