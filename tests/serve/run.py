@@ -4,8 +4,8 @@
 It plays a small leader and many clients: some are reset, some are cut in the middle of a frame, some say nothing, some
 don't read, some send what is no frame, some go while their session or a write of theirs waits for the leader, some
 bring their sessions from elsewhere (claims.py), or with passwords of a secret (keyed.py), some ask for the address that
-they come from (addresses.py), and many of these load it together with clients that pipeline; and leaders that fault, or end in the middle of an image. Then it attacks the
-server (attacks.py, attacks_on_memory.py). By --long some of this is tried more often, or whole. PROGRAM is
+they come from (addresses.py), some ask words (words.py), and many of these load it together with clients that pipeline;
+and leaders that fault, or end in the middle of an image. Then it attacks the server (attacks.py, attacks_on_memory.py). By --long some of this is tried more often, or whole. PROGRAM is
 crates/replay_runner/out/replay_runner where none is named. The last line is `N passed, M failed`.
 """
 import os
