@@ -46,7 +46,7 @@ from server import (  # noqa: E402
 
 MODULES = (
     commands, configured, sys.modules[__name__], claims, keyed, addresses, logs, next_leaders, silence, checkpoints, bounds,
-    words,    attacks, attacks_on_memory,
+    words, attacks, attacks_on_memory,
 )
 
 
