@@ -18,11 +18,13 @@ Lines count in a bad script, so a comment there is replaced and never added. Row
 by made.py.
 
 A replay prints the same whatever its limits, so each row that isn't an audit is run again with the options of LIMITS,
-and a few with those of WORKERS too. Beside the rows, wrong command lines are tried. Each run counts: the last line
-printed is `N passed, M failed`; the exit status is 0 where none failed and there was one at least.
+and a few with those of WORKERS too. Beside the rows, wrong command lines are tried, and rows whose output can't be
+written. Each run counts: the last line printed is `N passed, M failed`; the exit status is 0 where none failed and
+there was one at least.
 """
 import argparse
 import concurrent.futures
+import contextlib
 import os
 import pathlib
 import shutil
@@ -72,6 +74,11 @@ WRONG_LINES = (
     f"audit {NO_FILE} / --workers 1",
 )
 
+# Rows whose output goes to a device that is full. Only the last flush of the first two writes anything; the third one's
+# output is longer than what is gathered.
+FULL = ("nothing-primed", "audit-made", "many-reads")
+DEVICE = "/dev/full"
+
 
 def directives(script):
     """Returns what the comments at the script's head ask for: the path of an audit, if it is one, the exit status, and
@@ -99,10 +106,13 @@ def first_difference(wanted, got):
 
 
 def faults(command, wanted, status, complaint):
-    """Runs a command and returns what is wrong, in lines; none where it prints and ends as it has to."""
-    how = {"stdin": subprocess.DEVNULL, "stdout": subprocess.PIPE, "stderr": subprocess.PIPE}
+    """Runs a command and returns what is wrong, in lines; none where it prints and ends as it has to. Where `wanted` is
+    None its output goes to a device that is full."""
     try:
-        done = subprocess.run(command, timeout=SECONDS, **how)
+        with contextlib.ExitStack() as opened:
+            out = subprocess.PIPE if wanted is not None else opened.enter_context(open(DEVICE, "wb"))
+            how = {"stdin": subprocess.DEVNULL, "stdout": out, "stderr": subprocess.PIPE}
+            done = subprocess.run(command, timeout=SECONDS, **how)
     except OSError as failed:
         return [f"can't start the program: {failed}"]
     except subprocess.TimeoutExpired:
@@ -133,6 +143,12 @@ def runs_of_wrong_lines(words):
     return [(f"usage of {it}", [*words, *it.split()], b"", 2, b"usage\n") for it in WRONG_LINES]
 
 
+def runs_on_a_full_device(words, rows):
+    """Returns the runs of rows whose output can't be written."""
+    runs = [runs_of_row(words, path)[0] for path in rows if path.stem in FULL]
+    return [(f"full device for {name}", command, None, 3, b"cannot open\n") for name, command, *_ in runs]
+
+
 def make(room):
     """Writes the rows that made.py makes into a folder, and those whose scripts are examples."""
     for name, script, wanted in made.rows():
@@ -149,6 +165,7 @@ def run(words, only, room):
     make(room)
     rows = sorted([*HERE.glob("*/*.script"), *room.glob("*.script")], key=lambda it: it.stem)
     runs = [it for path in rows for it in runs_of_row(words, path)] + runs_of_wrong_lines(words)
+    runs += runs_on_a_full_device(words, rows)
     runs = [it for it in runs if only in it[0]]
     passed = failed = 0
     with concurrent.futures.ThreadPoolExecutor(os.cpu_count()) as pool:

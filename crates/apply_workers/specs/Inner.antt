@@ -1,8 +1,10 @@
 -- What only private contracts cite.
-use Rattle.std.specs.Prelude.{◌≡◌, ℕ, ◌<◌, List, [], ◌∷◌, Option, IfSome, slice_set}
+use Rattle.std.specs.Prelude.{◌≡◌, ℕ, ◌<◌, List, [], ◌∷◌, Option, IfSome, slice_set, take}
 use Rattle.txn_codec.specs.declared.txn.Txn.{Txn}
 use Rattle.batcher.specs.Class.{TxnGroup}
 use Rattle.batcher.specs.Front.{TxnFront, IsFrontOf}
+use Rattle.batcher.specs.Limits.{LimitNumbers}
+use Rattle.batcher.specs.Cut.{cut}
 use Rattle.apply_board.specs.Sitting.{BoardId, Sitting}
 use Rattle.apply_board.specs.Seats.{AreAllSeats, works_of}
 use Rattle.apply_workers.specs.Working.{IsWorked}
@@ -45,6 +47,7 @@ finished_groups [] answers = []
 finished_groups (c ∷ cs) [] = []
 finished_groups (c ∷ cs) (os ∷ answers) = Home (Done c os) ∷ finished_groups cs answers
 
--- A batch at the front of these transactions, if there is one, that has one of them.
-abbrev pub IsNextBatch : Option TxnFront → List Txn → Type 0
-IsNextBatch next txns = IfSome next (λ front. IsFrontOf front txns × (0 < front.count))
+-- The batch that these limits cut from the front of the transactions, if one is made; it has one of them at least.
+abbrev pub IsNextBatch : LimitNumbers → Option TxnFront → List Txn → Type 0
+IsNextBatch limits next txns =
+    IfSome next (λ front. IsFrontOf front txns × (0 < front.count) × (take front.count txns ≡ cut limits txns))

@@ -53,7 +53,7 @@ fn next_batch(
     limits: &Limits,
     threshold: &SpreadThreshold,
 ) -> Result<Option<Front>, NoMemory>
-    ensures { IfOk result (λ next. IsNextBatch next txns.now) }
+    ensures { IfOk result (λ next. IsNextBatch limits.now next txns.now) }
 {
     let (next, _) = txns.split_at(limits.batch().min(txns.len()));
     if next.is_empty() || limits.workers() <= 1 || !is_worth_spreading(next, threshold) {
@@ -77,7 +77,7 @@ fn spread_onto<G: Gate + Sync, R: Threads + Sync>(
     ensures tree { OnOk result (tree.new ≡ state_after tree.old batch.now) }
     ensures outcomes { OnOk result
         (outcomes.new.items ≡ outcomes.old.items ++ outcomes_of_txns tree.old batch.now) }
-    ensures next { IfOk result (λ next. IsNextBatch next later.now) }
+    ensures next { IfOk result (λ next. IsNextBatch limits.now next later.now) }
 {
     let mut cut = || next_batch(alloc, later, limits, threshold);
     let mut apply = || apply_lent(rt, alloc, tree, batch, limits.workers(), gate, &AllStart);

@@ -9,9 +9,7 @@ use Rattle.std.specs.FinSet as set
 use Rattle.std.specs.Ordering.{eq_by_cmp}
 use Rattle.ephemerals.specs.Orders.{Bytes, Names, path_cmp, pair_cmp}
 use Rattle.ephemerals.proofs.Totals.{path_total}
-use Rattle.txn_codec.specs.Parents.{HaveParents}
 use Rattle.paths_and_acls.specs.Paths.{is_root}
-use Rattle.txn_codec.specs.declared.txn.Txn.{Txn}
 use Rattle.node_map.specs.Updates.{preset_node}
 use Rattle.node_map.specs.Agreement.{is_listed, is_listed_at}
 use Rattle.node_map.specs.declared.node.Node.{Node}
@@ -20,7 +18,7 @@ use Rattle.audit.specs.Count.{first_count, count_from_log}
 use Rattle.audit.specs.Laws.{CountsAreShown}
 use Rattle.audit.proofs.Holding.{Agrees, HasPlace}
 use Rattle.audit.proofs.Numbers.{net, shown_is}
-use Rattle.audit.proofs.Runs.{Holds, log_holds, each_of_all}
+use Rattle.audit.proofs.Runs.{Holds, log_holds}
 
 abbrev root : Bytes
 root = codes "/"
@@ -133,9 +131,9 @@ fresh_holds = record {
 }
 
 pub counts_are_shown : CountsAreShown
-counts_are_shown log path node has clean at =
+counts_are_shown log path node clean at =
     let holds : Holds (state_after fresh_state log) (count_from_log log) =
-    log_holds log fresh_state first_count (each_of_all (λ (t : Txn). HaveParents t.body) log has) clean fresh_holds in
+    log_holds log fresh_state first_count clean fresh_holds in
     let agrees : Agrees (count_from_log log path) node = holds.nodes.agree path node at in
     record {
       cversion = agrees.cversion ∙ sym (shown_is node.stat.cversion (set.len node.children) agrees.fits);

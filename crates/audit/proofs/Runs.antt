@@ -1,5 +1,5 @@
 -- A clean log leaves nodes whose numbers are their counts.
-use Rattle.std.proofs.Common.{◌≡◌, ℕ, ◌-◌, ◌<◌, suc, ℤ, pos, negsuc, ◌+ℤ◌, Bool, true, false, not, ◌==◌, ◌&&◌, ◌||◌, cond, List, [], ◌∷◌, Option, Some, None, is_none, All, length, refl, sym, ap, subst, ◌∙◌, if◌then◌else◌, arith, codes, w32}
+use Rattle.std.proofs.Common.{◌≡◌, ℕ, ◌-◌, ℤ, pos, negsuc, ◌+ℤ◌, Bool, true, false, not, ◌==◌, ◌&&◌, ◌||◌, cond, List, [], ◌∷◌, Option, Some, None, is_none, refl, sym, ap, subst, ◌∙◌, if◌then◌else◌, arith, codes, w32}
 use mathlib.Core.Bool.{true≢false}
 use Rattle.std.proofs.lemmas.Bool.{eqb-true}
 use Rattle.std.proofs.lemmas.Map.Lookups.{exact_bytes, exact_signed}
@@ -7,7 +7,7 @@ use Rattle.std.proofs.lemmas.Map.Views.{tells_apart}
 use Rattle.std.specs.FinMap as finmap
 use Rattle.std.specs.FinSet as set
 use Rattle.std.specs.Int.{int_wrap}
-use Rattle.std.specs.List.{list_any, list_all, AllByRecursion}
+use Rattle.std.specs.List.{list_any, list_all}
 use Rattle.std.specs.Ordering.{eq_by_cmp, int_eq}
 use Rattle.ephemerals.specs.Orders.{Bytes, Names, path_cmp, pair_cmp, sorted_names}
 use Rattle.ephemerals.specs.Pairs.{paths_of_session}
@@ -16,7 +16,6 @@ use Rattle.ephemerals.proofs.SessionPaths.{contains-owned, contains-without}
 use Rattle.ephemerals.proofs.Totals.{path_total, pair_total, pair_exact}
 use Rattle.settings.specs.declared.dialect.Dialect.{Dialect}
 use Rattle.settings.specs.declared.dialect.Dialect.TheVariants.{Zk34, Zk38}
-use Rattle.txn_codec.specs.Parents.{HasParent, HaveParents}
 use Rattle.paths_and_acls.specs.Paths.{is_root, is_child_path, parent_of, name_of}
 use Rattle.txn_codec.specs.declared.txn.TxnHeader.{TxnHeader}
 use Rattle.txn_codec.specs.declared.txn.Txn.{Txn}
@@ -106,8 +105,14 @@ earlier h = record h { rules = Zk34 }
 is_earlier : (h : TxnHeader) → h.rules ≡ Zk34 → earlier h ≡ h
 is_earlier h e = λ i. record h { rules = sym e i }
 
+-- The create counts its parent's cversion up by one, and doesn't fail.
+abbrev CountsUp : TxnHeader → Create → State → Type 0
+CountsUp h c s =
+    (counts_up c.parent_cversion (finmap.get s.nodes (parent_of c.path))
+    && int_eq (of_operation h (op.Create c) s).err (pos 0)) ≡ true
+
 create_counts : (k : TxnHeader) (c : Create) (s : State) (counts : Bytes → Count) → is_child_path c.path ≡ true
-    → is_clean_operation (earlier k) (op.Create c) s ≡ true → Holds s counts
+    → CountsUp (earlier k) c s → Holds s counts
     → Holds (of_operation (earlier k) (op.Create c) s).state
     (counts_after counts k.zxid (of_operation (earlier k) (op.Create c) s).triggers)
 create_counts k c s counts child clean holds = by (finmap.get s.nodes (parent_of c.path)) refl clean
@@ -140,15 +145,14 @@ create_counts k c s counts child clean holds = by (finmap.get s.nodes (parent_of
         with_parent parent at (set.contains parent.children (name_of c.path)) refl e
 
 create_holds : (h : TxnHeader) → h.rules ≡ Zk34 → (c : Create) (s : State) (counts : Bytes → Count)
-    → is_child_path c.path ≡ true
-    → is_clean_operation h (op.Create c) s ≡ true → Holds s counts
+    → is_child_path c.path ≡ true → CountsUp h c s → Holds s counts
     → Holds (of_operation h (op.Create c) s).state
     (counts_after counts h.zxid (of_operation h (op.Create c) s).triggers)
 create_holds h e c s counts child clean holds =
     subst (λ (g : TxnHeader). Holds (of_operation g (op.Create c) s).state
     (counts_after counts g.zxid (of_operation g (op.Create c) s).triggers)) (is_earlier h e)
     (create_counts h c s counts child
-    (subst (λ (g : TxnHeader). is_clean_operation g (op.Create c) s ≡ true) (sym (is_earlier h e)) clean) holds)
+    (subst (λ (g : TxnHeader). CountsUp g c s) (sym (is_earlier h e)) clean) holds)
 
 delete_counts : (h : TxnHeader) (path : Bytes) (s : State) (counts : Bytes → Count) → is_root path ≡ false
     → is_childless (finmap.get s.nodes path) ≡ true → Holds s counts
@@ -187,32 +191,37 @@ set_data_holds h b s counts (Some node) at e holds = record {
   root = holds.root;
 }
 
-operation_holds : (h : TxnHeader) → h.rules ≡ Zk34 → (o : Operation) (s : State) (counts : Bytes → Count) → HasParent o
+operation_holds : (h : TxnHeader) → h.rules ≡ Zk34 → (o : Operation) (s : State) (counts : Bytes → Count)
     → is_clean_operation h o s ≡ true → Holds s counts
     → Holds (of_operation h o s).state (counts_after counts h.zxid (of_operation h o s).triggers)
-operation_holds h e (op.Create c) s counts has clean holds = create_holds h e c s counts has clean holds
-operation_holds h e (op.Delete d) s counts has clean holds =
-    let none = both (is_childless (finmap.get s.nodes d.path))
-    (int_eq (of_operation h (delete_of d.path) s).err (pos 0)) clean in
-    delete_holds h e d.path s counts (child_no_root d.path has) none.0 holds
-operation_holds h e (op.SetData b) s counts has clean holds =
+operation_holds h e (op.Create c) s counts clean holds =
+    let up : Bool = counts_up c.parent_cversion (finmap.get s.nodes (parent_of c.path)) in
+    let all = both (is_child_path c.path && up) (int_eq (of_operation h (op.Create c) s).err (pos 0)) clean in
+    let orderly = both (is_child_path c.path) up all.0 in
+    create_holds h e c s counts orderly.0 (λ i. orderly.1 i && all.1 i) holds
+operation_holds h e (op.Delete d) s counts clean holds =
+    let none : Bool = is_childless (finmap.get s.nodes d.path) in
+    let all = both (is_child_path d.path && none) (int_eq (of_operation h (delete_of d.path) s).err (pos 0)) clean in
+    let orderly = both (is_child_path d.path) none all.0 in
+    delete_holds h e d.path s counts (child_no_root d.path orderly.0) orderly.1 holds
+operation_holds h e (op.SetData b) s counts clean holds =
     set_data_holds h b s counts (finmap.get s.nodes b.path) refl clean holds
-operation_holds h e (op.Check b) s counts has clean holds = holds
-operation_holds h e (op.Error error) s counts has clean holds = holds
+operation_holds h e (op.Check b) s counts clean holds = holds
+operation_holds h e (op.Error error) s counts clean holds = holds
 
 -- ---- transactions
 
-parts_hold : (h : TxnHeader) → h.rules ≡ Zk34 → (os : List Operation) (s : State) (counts : Bytes → Count) → AllByRecursion HasParent os
+parts_hold : (h : TxnHeader) → h.rules ≡ Zk34 → (os : List Operation) (s : State) (counts : Bytes → Count)
     → are_clean_parts h os s ≡ true → Holds s counts
     → Holds (of_parts h os s).state (counts_after counts h.zxid (of_parts h os s).triggers)
-parts_hold h e [] s counts has clean holds = holds
-parts_hold h e (o ∷ os) s counts has clean holds =
+parts_hold h e [] s counts clean holds = holds
+parts_hold h e (o ∷ os) s counts clean holds =
     let here = both (is_none (error_of o)) (is_clean_operation h o s && are_clean_parts h os (of_operation h o s).state)
     clean in
     let rest = both (is_clean_operation h o s) (are_clean_parts h os (of_operation h o s).state) here.1 in
-    let one = operation_holds h e o s counts has.0 rest.0 holds in
+    let one = operation_holds h e o s counts rest.0 holds in
     let all = parts_hold h e os (of_operation h o s).state
-    (counts_after counts h.zxid (of_operation h o s).triggers) has.1 rest.1 one in
+    (counts_after counts h.zxid (of_operation h o s).triggers) rest.1 one in
     subst (Holds (of_parts h os (of_operation h o s).state).state)
     (λ i (path : Bytes). sym (counted_all-append path (counts path) h.zxid (of_operation h o s).triggers
     (of_parts h os (of_operation h o s).state).triggers) i)
@@ -338,19 +347,11 @@ closing_holds h e (p ∷ ps) s counts no_root none holds =
     inner apart true is = absurd (true≢false (ap (eq_by_cmp path_cmp (codes "/")) (sym (root_is p is)) ∙ apart))
     inner apart false is = refl
 
-pub each_of_all : {A : Type 0} (P : A → Type 0) (xs : List A) → All P xs → AllByRecursion P xs
-each_of_all P [] all = tt
-each_of_all P (x ∷ xs) all = (
-  all 0 x (omega arith),
-  each_of_all P xs
-      (λ k d lt. let next : suc k < length (x ∷ xs) = omega arith in all (suc k) d next),
-)
-
-body_holds : (h : TxnHeader) → h.rules ≡ Zk34 → (b : Body) (s : State) (counts : Bytes → Count) → HaveParents b
+body_holds : (h : TxnHeader) → h.rules ≡ Zk34 → (b : Body) (s : State) (counts : Bytes → Count)
     → is_clean_body h b s ≡ true → Holds s counts
     → Holds (effect_of_body h b s).state (counts_after counts h.zxid (effect_of_body h b s).triggers)
-body_holds h e (body.Single o) s counts has clean holds = operation_holds h e o s counts has clean holds
-body_holds h e (body.SetAcl b) s counts has clean holds = by (finmap.get s.nodes b.path) refl clean
+body_holds h e (body.Single o) s counts clean holds = operation_holds h e o s counts clean holds
+body_holds h e (body.SetAcl b) s counts clean holds = by (finmap.get s.nodes b.path) refl clean
   where
     by : (o : Option Node) → finmap.get s.nodes b.path ≡ o → int_eq (set_acl_at b o).err (pos 0) ≡ true
         → Holds (after_changes s (set_acl_at b o).changes) (counts_after counts h.zxid (set_acl_at b o).triggers)
@@ -359,13 +360,13 @@ body_holds h e (body.SetAcl b) s counts has clean holds = by (finmap.get s.nodes
       nodes = same_counted s.nodes counts b.path node (with_acl b node) at refl refl refl holds.nodes;
       root = holds.root;
     }
-body_holds h e (body.Multi os) s counts has clean holds =
+body_holds h e (body.Multi os) s counts clean holds =
     subst (λ (m : TxnEffect). Holds m.state (counts_after counts h.zxid m.triggers)) (sym (multi_is h os s clean))
-    (parts_hold h e os s counts (each_of_all HasParent os has) clean holds)
-body_holds h e (body.CreateSession timeout) s counts has clean holds =
+    (parts_hold h e os s counts clean holds)
+body_holds h e (body.CreateSession timeout) s counts clean holds =
     record { nodes = holds.nodes; root = holds.root }
-body_holds h e (body.CloseSession (p ∷ ps)) s counts has clean holds = absurd (true≢false (sym clean))
-body_holds h e (body.CloseSession []) s counts has clean holds =
+body_holds h e (body.CloseSession (p ∷ ps)) s counts clean holds = absurd (true≢false (sym clean))
+body_holds h e (body.CloseSession []) s counts clean holds =
     closing_holds h e (sorted_names (paths_of_session h.client_id s.pairs)) (state_without_session h.client_id s) counts
     (any-in_order (paths_of_session h.client_id s.pairs) (codes "/")
     ∙ contains-owned h.client_id s.pairs (codes "/")
@@ -381,13 +382,11 @@ counted_rules : (rules : Dialect) → counts_all rules ≡ true → rules ≡ Zk
 counted_rules Zk34 e = refl
 counted_rules Zk38 e = absurd (true≢false (sym e))
 
-pub log_holds : (log : List Txn) (s : State) (counts : Bytes → Count)
-    → AllByRecursion (λ (t : Txn). HaveParents t.body) log → are_clean s log ≡ true → Holds s counts
+pub log_holds : (log : List Txn) (s : State) (counts : Bytes → Count) → are_clean s log ≡ true → Holds s counts
     → Holds (state_after s log) (λ (path : Bytes). count_after_log path (counts path) s log)
-log_holds [] s counts has clean holds = holds
-log_holds (t ∷ ts) s counts has clean holds =
+log_holds [] s counts clean holds = holds
+log_holds (t ∷ ts) s counts clean holds =
     let split = both (is_clean s t) (are_clean (effect_of_txn s t).state ts) clean in
     let here = both (counts_all t.header.rules) (is_clean_body t.header t.body s) split.0 in
-    log_holds ts (effect_of_txn s t).state (counts_after counts t.header.zxid (effect_of_txn s t).triggers) has.1
-    split.1
-    (body_holds t.header (counted_rules t.header.rules here.0) t.body s counts has.0 here.1 holds)
+    log_holds ts (effect_of_txn s t).state (counts_after counts t.header.zxid (effect_of_txn s t).triggers) split.1
+    (body_holds t.header (counted_rules t.header.rules here.0) t.body s counts here.1 holds)

@@ -1,5 +1,5 @@
--- A log is clean if it is applied by the rules of ZooKeeper 3.4, nothing fails, each deleted node has no children, and
--- each create counts its parent's stored cversion up by one.
+-- A log is clean if it is applied by the rules of ZooKeeper 3.4, nothing fails, "/" is neither created nor deleted, each
+-- deleted node has no children, and each create counts its parent's stored cversion up by one.
 use Rattle.std.specs.Prelude.{ℤ, pos, negsuc, ◌+ℤ◌, ◌&&◌, ◌||◌, ◌==◌, Bool, true, false, List, [], ◌∷◌, Option, Some, None, is_none}
 use Rattle.std.specs.Int.{int_wrap, w32}
 use Rattle.std.specs.List.{list_all}
@@ -10,7 +10,7 @@ use Rattle.ephemerals.specs.Orders.{Bytes, sorted_names}
 use Rattle.ephemerals.specs.Pairs.{paths_of_session}
 use Rattle.settings.specs.declared.dialect.Dialect.{Dialect}
 use Rattle.settings.specs.declared.dialect.Dialect.TheVariants.{Zk34, Zk38}
-use Rattle.paths_and_acls.specs.Paths.{parent_of}
+use Rattle.paths_and_acls.specs.Paths.{is_child_path, parent_of}
 use Rattle.txn_codec.specs.declared.txn.TxnHeader.{TxnHeader}
 use Rattle.txn_codec.specs.declared.txn.Txn.{Txn}
 use Rattle.txn_codec.specs.declared.txn.Operation.{Operation}
@@ -36,8 +36,9 @@ counts_up wanted (Some parent) =
     int_eq wanted (negsuc 0) || int_eq wanted (int_wrap w32 (parent.stat.cversion +ℤ pos 1))
 
 abbrev pub is_orderly : Operation → Nodes → Bool
-is_orderly (op.Create create) nodes = counts_up create.parent_cversion (finmap.get nodes (parent_of create.path))
-is_orderly (op.Delete body) nodes = is_childless (finmap.get nodes body.path)
+is_orderly (op.Create create) nodes =
+    is_child_path create.path && counts_up create.parent_cversion (finmap.get nodes (parent_of create.path))
+is_orderly (op.Delete body) nodes = is_child_path body.path && is_childless (finmap.get nodes body.path)
 is_orderly (op.SetData body) nodes = true
 is_orderly (op.Check body) nodes = true
 is_orderly (op.Error error) nodes = true

@@ -1,10 +1,9 @@
 -- The count of a clean log, and a session that closes clean.
-use Rattle.std.specs.Prelude.{◌≡◌, ℤ, Bool, true, ◌&&◌, List, [], ◌∷◌, Some, All}
+use Rattle.std.specs.Prelude.{◌≡◌, ℤ, Bool, true, ◌&&◌, List, [], ◌∷◌, Some}
 use Rattle.std.specs.FinMap as finmap
 use Rattle.std.specs.FinSet as set
 use Rattle.ephemerals.specs.Orders.{Bytes, sorted_names}
 use Rattle.ephemerals.specs.Pairs.{paths_of_session}
-use Rattle.txn_codec.specs.Parents.{HaveParents}
 use Rattle.paths_and_acls.specs.Paths.{is_child_path}
 use Rattle.txn_codec.specs.declared.txn.TxnHeader.{TxnHeader}
 use Rattle.txn_codec.specs.declared.txn.Txn.{Txn}
@@ -21,10 +20,9 @@ pub record MatchesStat (counted : Count) (node : Node) : Type 0 where
   pub cversion : counted.cversion ≡ (stat_of node).cversion
   pub pzxid : counted.pzxid ≡ (stat_of node).pzxid
 
--- For a clean log in which no "/" is created or deleted, as in each that was decoded.
 abbrev pub CountsAreShown : Type 0
 CountsAreShown =
-    (log : List Txn) (path : Bytes) (node : Node) → All (λ (t : Txn). HaveParents t.body) log
+    (log : List Txn) (path : Bytes) (node : Node)
     → are_clean fresh_state log ≡ true → finmap.get (state_after fresh_state log).nodes path ≡ Some node
     → MatchesStat (count_from_log log path) node
 

@@ -4,9 +4,11 @@ ghost use Rattle.std.specs.Prelude.{◌≡◌};
 ghost use Rattle.std.specs.Option.{option_copied};
 ghost use Rattle.audit.specs.Clean.{is_childless, are_childless, counts_up, is_orderly, closes_clean, counts_all};
 ghost use Rattle.ephemerals.specs.Orders.{sorted_names};
+ghost use Rattle.paths_and_acls.specs.Paths.{is_child_path};
 
 use data_tree::{Node, Tree};
 use ephemerals::TextSet;
+use paths_and_acls::Path;
 use settings::Dialect;
 use txn_codec::{Operation, TxnHeader};
 
@@ -29,16 +31,26 @@ fn counts_up(wanted: i32, parent: Option<&Node>) -> bool
     }
 }
 
-/// Whether a create counts its parent's cversion up by one, and a delete is of a node without children.
+// Whether the node at this path has a parent.
+fn is_below_root(path: &Path) -> bool
+    ensures { result ≡ is_child_path path.now }
+{
+    path.as_str() != "/"
+}
+
+/// Whether a create counts its parent's cversion up by one, a delete is of a node without children, and neither is of
+/// "/".
 pub(crate) fn is_orderly(operation: &Operation, tree: &Tree) -> bool
     ensures { result ≡ is_orderly operation.now tree.now.nodes }
 {
     match operation {
-        Operation::Create(create) => counts_up(
-            create.parent_cversion,
-            tree.node(create.path.parent()),
-        ),
-        Operation::Delete(delete) => is_childless(tree.node(delete.path.as_str())),
+        Operation::Create(create) => {
+            is_below_root(&create.path)
+                && counts_up(create.parent_cversion, tree.node(create.path.parent()))
+        }
+        Operation::Delete(delete) => {
+            is_below_root(&delete.path) && is_childless(tree.node(delete.path.as_str()))
+        }
         Operation::SetData(_) | Operation::Check(_) | Operation::Error(_) => true,
     }
 }

@@ -3,8 +3,7 @@
 ghost use Rattle.audit.specs.Laws.{CountsAreShown, DeletesGoInTurn};
 ghost use Rattle.audit.specs.Rows.{CountsAreWorked};
 
-/// After a clean log in which no "/" is created or deleted, as in each that was decoded, the count of each node is the
-/// cversion and the pzxid of its Stat.
+/// After a clean log the count of each node is the cversion and the pzxid of its Stat.
 pub fn counts_are_shown()
     ensures { CountsAreShown }
 {}

@@ -121,6 +121,12 @@ fn what_is_not_clean_is_named(rt: HostRuntime) -> Result<(), Fail> {
         "not clean at 1"
     );
     log.truncate(1);
+    log.push(single(2, create(alloc, "/", false, -1)?))?;
+    assert_eq!(rt;
+        audited(alloc, log.as_slice(), "/")?.as_str(),
+        "not clean at 1"
+    );
+    log.truncate(1);
     log.push(single(2, create(alloc, "/a/b", false, -1)?))?;
     log.push(single(3, delete(alloc, "/a")?))?;
     assert_eq!(rt;

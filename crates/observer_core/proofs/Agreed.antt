@@ -1,5 +1,5 @@
 -- No event ends the agreement of the clients.
-use Rattle.std.proofs.Common.{◌≡◌, ℕ, ◌+◌, Bool, List, Option, Some, None, refl, sym, ap, subst, ◌∙◌}
+use Rattle.std.proofs.Common.{◌≡◌, ℕ, ◌+◌, Bool, List, Option, Some, None, sym, ap, subst, ◌∙◌}
 use Rattle.std.specs.Prelude.{is_some, IsTrue}
 use Rattle.std.specs.Ordering.{nat_cmp, int_cmp}
 use Rattle.std.specs.FinMap as finmap
@@ -76,7 +76,7 @@ module _ (laws : LowerLaws) where
     thens = λ w h next a b. tt;
     stays = λ w. tt;
     closes = λ w a. tt;
-    sends = λ w bytes. tt;
+    sends = λ w bytes shows. tt;
     watches = λ w watch a. tt;
     unwatches = λ w kind path a. tt;
     shows = λ w id a. tt;
@@ -84,7 +84,7 @@ module _ (laws : LowerLaws) where
 
   any_calls : (n : ℕ) → HoldsOfCalls n Agreeing (λ session. Unit {0}) Any
   any_calls n = record {
-    touches = λ w session a. tt;
+    touches = λ w session own a. tt;
     leaves = λ w k there a. tt;
     writes = λ w session frame xid kind own a. tt;
     syncs = λ w session frame xid path own a. tt;
@@ -119,7 +119,7 @@ module _ (laws : LowerLaws) where
 
   pub effect_agrees : (w : World) (t : ItemEffect) → Agreeing w → Agreeing (send_effect w t).after
   effect_agrees w t a =
-      (news_make (Unit {0}) Agreeing Any (holds_of_all Any any_then) t.news (tell_effect w t).after
+      (news_make (Unit {0}) Agreeing Any (holds_of_all Any any_then) (λ n w bytes. tt) t.news (tell_effect w t).after
       (tell_agrees w t a)).keeps
 
   bytes_agree : (serving : Bool) (n : ℕ) (w : World) (o : Option OpenConnection) (bytes : List ℕ) → Agreeing w

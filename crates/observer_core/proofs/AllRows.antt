@@ -30,7 +30,7 @@ use Rattle.world.proofs.NatMaps.{get-inserted}
 use Rattle.observer_core.proofs.Rows.{earlier_machine, in_earlier, ReadAgain, NobodyTold, start, idle_at, heard, world_at, at_frames, in_hand, left_at, first_open}
 use Rattle.observer_core.proofs.WatchRows.{create_get, set_get, cut_get, create_twice, closed_passes, watch_told, idle_is}
 use Rattle.observer_core.proofs.ForwardedRows.{SessionsStay, create_answered, error_answered, sync_answers}
-use Rattle.observer_core.proofs.SessionRows.{session_is_created, first_is_told}
+use Rattle.observer_core.proofs.SessionRows.{session_is_created, first_is_told, claim_names}
 
 -- ---- connection 2 begins with a word, and no leader was followed
 
@@ -127,6 +127,7 @@ rows_hold again nobody rows = record {
   idle = λ settings. idle_is settings;
   ruok = λ settings. word_comes settings (codes "ruok");
   isro_not_serving = λ settings. word_comes settings (codes "isro");
+  claim = claim_names;
   word_with_a_session = λ settings is. in_earlier settings
       (ClientBytes 1 (codes "ruok") ∷ []) _ is (letters_close settings);
 }

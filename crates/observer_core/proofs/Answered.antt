@@ -1,5 +1,5 @@
 -- What a connection's small steps keep, the answers that the leader's stream brings keep.
-use Rattle.std.proofs.Common.{◌≡◌, ℕ, zero, suc, ℤ, Bool, true, false, ◌||◌, List, [], ◌∷◌, length, slice_get, Option, Some, None, Result, Ok, Err, refl, sym, ap, ◌∙◌}
+use Rattle.std.proofs.Common.{◌≡◌, inl, ℕ, zero, suc, ℤ, Bool, true, false, ◌||◌, List, [], ◌∷◌, length, slice_get, Option, Some, None, Result, Ok, Err, refl, sym, ap, ◌∙◌}
 use Rattle.std.specs.Prelude.{is_some, nat_lt}
 use Rattle.std.proofs.lemmas.Bool.{cond_both}
 use Rattle.std.specs.FinMap as finmap
@@ -12,6 +12,8 @@ use Rattle.client_frames.specs.declared.call.Call.{Call}
 use Rattle.client_frames.specs.declared.call.CallBody.{CallBody}
 use Rattle.client_frames.specs.declared.call.CallBody.TheVariants as bodies
 use Rattle.client_records.specs.declared.codes.TheConstants.{OK}
+use Rattle.observer_core.specs.Shown.{OfPath}
+use Rattle.observer_core.proofs.Sent.{plain_reply}
 use Rattle.forwarding.specs.declared.request.Ready.{Ready}
 use Rattle.forwarding.specs.declared.request.Ready.TheVariants.{SettledSync, HeldFrame}
 use Rattle.forwarding.specs.declared.request.Settled.{Settled}
@@ -32,7 +34,7 @@ use Rattle.sessions.specs.Sessions.{refusal_response, close_as, close_connection
 use Rattle.world.specs.World.{OpenConnection, World}
 use Rattle.world.specs.Clients.{address_in, with_address}
 use Rattle.world.specs.Steps.{StepResult, no_output, and_then, fold_steps}
-use Rattle.world.specs.Sending.{send_or_close, with_sessions, with_pending}
+use Rattle.world.specs.Sending.{close_client, send_or_close, with_sessions, with_pending}
 use Rattle.client_service.specs.Serve.{send_connect_response, call_of, client_frame_limit, is_unheard}
 use Rattle.world.proofs.NatMaps.{get-removed}
 use Rattle.leader_answers.specs.declared.due.Due.{Due}
@@ -40,7 +42,7 @@ use Rattle.leader_answers.specs.declared.due.Due.TheVariants as dues
 use Rattle.leader_answers.specs.Answering.{handle_held, serve_held, answer_ready, answer_if_ready, answer_up_to, answer_front, txn_number, answer_due, has_moved, send_write_reply, answer_write_as, serve_next, with_known_address, serve_admitted, admit_as, admit_client, refuse_as, answer_claim, close_ended, give_answer, answer_txn, answer_optional_txn, answer_settled, answer_sync, timeout_in, answer_ping}
 use Rattle.write_replies.specs.Replies.{write_look}
 use Rattle.observer_core.specs.Leader.{answer_news}
-use Rattle.observer_core.proofs.Walking.{IsOpen, Steps, NoConnect, given, IsGround, HoldsOfReplies, HoldsOfCalls, HoldsOfConnects, Makes, first_false, idle_queue, heard_open, then_makes, stay_makes, close_makes, send_makes, send_last_makes, id_makes, local_makes, serve_as_makes, greet_makes}
+use Rattle.observer_core.proofs.Walking.{sent_bytes, HoldsOfTxn, IsOpen, Steps, NoConnect, given, IsGround, HoldsOfReplies, HoldsOfCalls, HoldsOfConnects, Makes, first_false, idle_queue, heard_open, then_makes, stay_makes, close_makes, send_makes, id_makes, local_makes, serve_as_makes, greet_makes}
 
 -- Nothing of the connection waits any more, and it has no session.
 abbrev pub unqueued : ℕ → World → World
@@ -108,7 +110,9 @@ module _ (n : ℕ) (Strict : Type 0) (A : World → Type 0) (Q : Steps) (ground 
     (r : HoldsOfReplies n A Q) where
   pub ready_makes : (w : World) (ready : Ready) → (Strict → IsOpen n w) → A w → Makes A Q w (answer_ready n w ready)
   ready_makes w (SettledSync xid path) here a =
-      send_makes n Strict A Q ground r w (reply_frame xid w.replica.learner.last_zxid (look_of_path path)) a
+      let zxid = w.replica.learner.last_zxid in
+      send_makes n Strict A Q ground r w (reply_frame xid zxid (look_of_path path))
+      (plain_reply w xid zxid (OfPath path) refl (inl refl)) a
   ready_makes w (HeldFrame frame) here a = by (call_of w frame)
     where
       held : (xid : ℤ) (b : CallBody) → Makes A Q w (handle_held n w xid b)
@@ -130,10 +134,21 @@ module _ (n : ℕ) (Strict : Type 0) (A : World → Type 0) (Q : Steps) (ground 
 
   -- ---- a session that has ended
 
-  pub ended_makes : (w : World) (zxid : ℤ) (o : Option ℤ) → A w → Makes A Q w (close_ended n w zxid o)
-  ended_makes w zxid None a = close_makes n Strict A Q ground r w a
-  ended_makes w zxid (Some xid) a =
-      send_last_makes n Strict A Q ground r w (reply_frame xid zxid (without_body OK)) a
+  -- The reply is sent, or the connection closes.
+  written_makes : (w : World) (frame : Option (List ℕ))
+      → ((bytes : List ℕ) → frame ≡ Some bytes → Q w (sent_bytes n bytes w)) → A w
+      → Makes A Q w (send_or_close n w frame)
+  written_makes w None sends a = close_makes n Strict A Q ground r w a
+  written_makes w (Some bytes) sends a = record { keeps = a; is = sends bytes refl }
+
+  pub ended_makes : (w : World) (zxid : ℤ) (o : Option ℤ)
+      → ((xid : ℤ) (bytes : List ℕ) → reply_frame xid zxid (without_body OK) ≡ Some bytes → Q w (sent_bytes n bytes w))
+      → A w → Makes A Q w (close_ended n w zxid o)
+  ended_makes w zxid None ends a = close_makes n Strict A Q ground r w a
+  ended_makes w zxid (Some xid) ends a =
+      let frame = reply_frame xid zxid (without_body OK) in
+      then_makes n Strict A Q ground r w (send_or_close n w frame) (close_client n) (written_makes w frame (ends xid) a)
+      (close_makes n Strict A Q ground r (send_or_close n w frame).after)
 
   -- ---- a session that was created
 
@@ -248,9 +263,9 @@ module _ (n : ℕ) (Strict : Type 0) (A : World → Type 0) (Q : Steps) (ground 
     pub front_makes : (w : World) → A w → Makes A Q w (answer_front n w)
     front_makes w a = up_to_makes pending_limit w a
 
-    replied_makes : (w : World) (t : Txn) (results : TxnResults) (kind : WriteKind) → A w
+    replied_makes : (w : World) (t : Txn) (results : TxnResults) (kind : WriteKind) → HoldsOfTxn Q n w t results → A w
         → Makes A Q w (send_write_reply n w t results kind)
-    replied_makes w t results kind a =
+    replied_makes w t results kind writes a =
         let xid = t.header.cxid in
         let v = with_pending w (answer_write w.clients.pending n xid (txn_number t)).after in
         let frame = reply_frame xid t.header.zxid (write_look w.replica.tree kind t.body results) in
@@ -258,13 +273,14 @@ module _ (n : ℕ) (Strict : Type 0) (A : World → Type 0) (Q : Steps) (ground 
         (λ u. and_then (send_or_close n u frame) (answer_front n))
         (record { keeps = more.answers w xid (txn_number t) a; is = s.answers w xid (txn_number t) a })
         (λ b. then_makes n Strict A Q ground r v (send_or_close n v frame) (answer_front n)
-        (send_makes n Strict A Q ground r v frame b) (front_makes (send_or_close n v frame).after))
+        (written_makes v frame (λ bytes is. writes.replies kind v bytes refl is) b)
+        (front_makes (send_or_close n v frame).after))
 
-    pub write_makes : (w : World) (t : Txn) (results : TxnResults) (kind : WriteKind) → A w
+    pub write_makes : (w : World) (t : Txn) (results : TxnResults) (kind : WriteKind) → HoldsOfTxn Q n w t results → A w
         → Makes A Q w (answer_write_as n w t results kind)
-    write_makes w t results kind a =
+    write_makes w t results kind writes a =
         cond_both (has_moved w results) _ _ (Makes A Q w) (λ _. close_makes n Strict A Q ground r w a)
-        (λ _. replied_makes w t results kind a)
+        (λ _. replied_makes w t results kind writes a)
 
 -- ---- what the leader's news answer
 
@@ -291,20 +307,26 @@ module _ (Strict : Type 0) (A : World → Type 0) (Q : Steps) (s : HoldsOfAll St
       admit_makes n Strict A Q (s.ground n) (s.replies n) (λ session. Unit {0}) (s.calls n) (λ w session. Unit {0})
       (s.connects n).gives (s.answer_ground n) (s.answers n).drops w (λ connect e. (tt, tt)) a
 
-  due_makes : (w : World) (t : Txn) (results : TxnResults) (due : Due) → A w → Makes A Q w (give_answer w t results due)
-  due_makes w t results dues.Nothing a = nothing_makes w a
-  due_makes w t results (dues.Admission n) a = due_admits w n a
-  due_makes w t results (dues.Ending n) a =
-      ended_makes n Strict A Q (s.ground n) (s.replies n) w t.header.zxid (pending_close w.clients.pending n) a
-  due_makes w t results (dues.Reply n write) a =
-      write_makes n Strict A Q (s.ground n) (s.replies n) (s.answer_ground n) (s.answers n) w t results write.kind a
+  due_makes : (w : World) (t : Txn) (results : TxnResults) (due : Due)
+      → ((n : ℕ) → HoldsOfTxn Q n w t results) → A w
+      → Makes A Q w (give_answer w t results due)
+  due_makes w t results dues.Nothing writes a = nothing_makes w a
+  due_makes w t results (dues.Admission n) writes a = due_admits w n a
+  due_makes w t results (dues.Ending n) writes a =
+      ended_makes n Strict A Q (s.ground n) (s.replies n) w t.header.zxid (pending_close w.clients.pending n)
+      (writes n).ends a
+  due_makes w t results (dues.Reply n write) writes a =
+      write_makes n Strict A Q (s.ground n) (s.replies n) (s.answer_ground n) (s.answers n) w t results write.kind
+      (writes n) a
 
-  pub txn_makes : (w : World) (t : Txn) (results : TxnResults) → A w → Makes A Q w (answer_txn w t results)
-  txn_makes w t results a = due_makes w t results (answer_due w.clients t) a
+  pub txn_makes : (w : World) (t : Txn) (results : TxnResults) → ((n : ℕ) → HoldsOfTxn Q n w t results) → A w
+      → Makes A Q w (answer_txn w t results)
+  txn_makes w t results writes a = due_makes w t results (answer_due w.clients t) writes a
 
-  optional_makes : (w : World) (results : TxnResults) (o : Option Txn) → A w → Makes A Q w (answer_optional_txn w results o)
-  optional_makes w results None a = nothing_makes w a
-  optional_makes w results (Some t) a = txn_makes w t results a
+  optional_makes : (w : World) (results : TxnResults) (o : Option Txn)
+      → ((t : Txn) → o ≡ Some t → (n : ℕ) → HoldsOfTxn Q n w t results) → A w → Makes A Q w (answer_optional_txn w results o)
+  optional_makes w results None writes a = nothing_makes w a
+  optional_makes w results (Some t) writes a = txn_makes w t results (writes t refl) a
 
   sync_makes : (w : World) → A w → Makes A Q w (answer_sync w)
   sync_makes w a = then_makes 0 Strict A Q (s.ground 0) (s.replies 0) w (no_output v) (λ u. answer_settled u settled)
@@ -328,11 +350,31 @@ module _ (Strict : Type 0) (A : World → Type 0) (Q : Steps) (s : HoldsOfAll St
       cond_both lives _ _ (Makes A Q w) (λ _. due_admits w n a)
       (λ _. refused_makes n Strict A Q (s.ground n) (s.replies n) w (waiting_connect (queue_of w.clients.pending n)) a)
 
-  pub news_make : (o : Option LeaderNews) (w : World) → A w → Makes A Q w (answer_news o w)
-  news_make None w a = nothing_makes w a
-  news_make (Some (news.Ping ping)) w a =
+  -- Where a transaction's reply is sent, the transaction stands at the place of the log that the news name.
+  abbrev pub HoldsOfReply : Option LeaderNews → World → Type 0
+  HoldsOfReply (Some (news.Applied place results)) w =
+      (t : Txn) → slice_get w.replica.learner.log place ≡ Some t → (n : ℕ) → HoldsOfTxn Q n w t results
+  HoldsOfReply o w = Unit {0}
+
+  pub answers_make : (o : Option LeaderNews) (w : World) → HoldsOfReply o w → A w → Makes A Q w (answer_news o w)
+  answers_make None w writes a = nothing_makes w a
+  answers_make (Some (news.Ping ping)) w writes a =
       record { keeps = s.tells_ground w (timeout_in w) a; is = s.tells w ping a }
-  news_make (Some (news.Applied place results)) w a = optional_makes w results (slice_get w.replica.learner.log place) a
-  news_make (Some news.SyncSettled) w a = sync_makes w a
-  news_make (Some (news.Revalidated session lives)) w a =
+  answers_make (Some (news.Applied place results)) w writes a =
+      optional_makes w results (slice_get w.replica.learner.log place) writes a
+  answers_make (Some news.SyncSettled) w writes a = sync_makes w a
+  answers_make (Some (news.Revalidated session lives)) w writes a =
       claim_makes w (awaiting w.clients.pending session Claimed) lives a
+
+  -- The relation holds of every frame.
+  pub news_make : ((n : ℕ) (w : World) (bytes : List ℕ) → Q w (sent_bytes n bytes w)) → (o : Option LeaderNews) (w : World)
+      → A w → Makes A Q w (answer_news o w)
+  news_make sends o w a = answers_make o w (by o) a
+    where
+      by : (o : Option LeaderNews) → HoldsOfReply o w
+      by None = tt
+      by (Some (news.Ping ping)) = tt
+      by (Some (news.Applied place results)) = λ t e n.
+          record { replies = λ kind v bytes same is. sends n v bytes; ends = λ xid bytes is. sends n w bytes }
+      by (Some news.SyncSettled) = tt
+      by (Some (news.Revalidated session lives)) = tt

@@ -1,5 +1,8 @@
 -- How far the small steps of one client reach.
-use Rattle.std.proofs.Common.{◌≡◌, ◌≢◌, ◌⊎◌, inl, inr, ℕ, ℤ, Bool, true, false, cond, List, [], ◌∷◌, ◌++◌, Option, Some, None, Result, Ok, Err, refl, sym, ap, ◌∙◌}
+use Rattle.std.proofs.Common.{◌≡◌, ◌≢◌, ◌⊎◌, inl, inr, ℕ, ℤ, Bool, true, false, cond, ◌||◌, List, [], ◌∷◌, ◌++◌, Option, Some, None, Result, Ok, Err, refl, sym, ap, subst, ◌∙◌}
+use Rattle.std.specs.Ordering.{eq_by_cmp, int_cmp}
+use Rattle.std.specs.Cmp.{int_cmp_total}
+use Rattle.std.proofs.lemmas.Map.Lookups.{exact_signed}
 use Rattle.std.specs.Option.{unwrap_or}
 use Rattle.std.specs.List.{AllByRecursion}
 use Rattle.std.specs.FinMap as finmap
@@ -17,7 +20,7 @@ use Rattle.watch_manager.specs.declared.kind.WatchKind.TheVariants as kinds
 use Rattle.watch_manager.specs.declared.mode.WatchMode.TheVariants.{Persistent, Recursive}
 use Rattle.watch_manager.specs.Laws.{OthersKeepWatches}
 use Rattle.forwarding.specs.declared.request.PendingConnect.{PendingConnect}
-use Rattle.forwarding.specs.State.{PendingTable}
+use Rattle.forwarding.specs.State.{TouchedSessions, PendingTable}
 use Rattle.forwarding.specs.Pending.{is_full, push_connect, push_write, push_sync, hold_frame, touch_session, answer_write, take_ready}
 use Rattle.forwarding.specs.Laws.{Stays, OtherQueuesStay}
 use Rattle.read_processor.specs.declared.watch.Watch.{Watch}
@@ -29,10 +32,10 @@ use Rattle.world.specs.World.{OpenConnection, Clients, World}
 use Rattle.world.specs.Steps.{StepResult, no_output, and_then}
 use Rattle.world.specs.Clients.{idle_connection, is_open, with_connection, without_client}
 use Rattle.world.specs.Sending.{close_client, with_watches, with_sessions, close_client_if_some, with_pending}
-use Rattle.client_service.specs.Serve.{with_watch, touched_as, send_connect_response, ask_about_session, forward_frame, serve_as, with_waiting_bytes, wait_if_heard, address_for, open_client, end_client}
+use Rattle.client_service.specs.Serve.{with_watch, send_connect_response, ask_about_session, forward_frame, serve_as, with_waiting_bytes, wait_if_heard, address_for, open_client, end_client}
 use Rattle.observer_core.specs.Apart.{HasOrAsks, ConcernsOnly, HasSameWatches, IsUntouched, IsApart}
-use Rattle.world.proofs.NatMaps.{get-kept, get-beside}
-use Rattle.observer_core.proofs.Walking.{HoldsOfReplies, HoldsOfCalls, given, with_connect, new_connect, claiming, asked_for, serve_as_makes, greet_makes}
+use Rattle.world.proofs.NatMaps.{eq_is, get-kept, get-beside}
+use Rattle.observer_core.proofs.Walking.{sent_bytes, HoldsOfReplies, HoldsOfCalls, given, with_connect, new_connect, claiming, asked_for, serve_as_makes, greet_makes}
 use Rattle.observer_core.proofs.Answered.{unqueued, HoldsOfAnswers}
 use Rattle.observer_core.proofs.Plain.{Always, plain_ground}
 use Rattle.observer_core.proofs.Taking.{none_or_some}
@@ -72,6 +75,17 @@ untouched k c = record {
   watches = same_watches k c.watches;
   waits = waits_on k c.pending;
 }
+
+-- Another session than the one that is touched stays as it was.
+touched_beside : (touched : TouchedSessions) (session x : ℤ) → x ≢ session
+    → set.contains (set.insert touched session) x ≡ set.contains touched x
+touched_beside touched session x other =
+    set.contains-insert int_cmp_total touched session x ∙ by (eq_by_cmp int_cmp x session) refl
+  where
+    by : (b : Bool) → eq_by_cmp int_cmp x session ≡ b
+        → (b || set.contains touched x) ≡ set.contains touched x
+    by true same = absurd (other (exact_signed x session (eq_is (int_cmp x session) same)))
+    by false differ = refl
 
 untouched_on : (k : ℕ) (c d e : Clients) → IsUntouched k c d → IsUntouched k d e → IsUntouched k c e
 untouched_on k c d e first second = record {
@@ -129,18 +143,25 @@ module _ (own : ℤ → Type 0) (left : ℕ → Type 0) where
   then_apart n w h next a b = record {
     outputs = all_joined (ConcernsOnly n own left) h.outputs (next h.after).outputs a.outputs b.outputs;
     replica = b.replica ∙ a.replica;
+    touched = λ session other. b.touched session other ∙ a.touched session other;
     others = λ k other stays. untouched_on k w.clients h.after.clients (next h.after).after.clients
         (a.others k other (all_front (λ (o : Output). o ≢ CloseClient k) h.outputs (next h.after).outputs stays))
         (b.others k other (all_back (λ (o : Output). o ≢ CloseClient k) h.outputs (next h.after).outputs stays));
   }
 
-  -- The clients change, and nothing is sent.
-  pub changes : (n : ℕ) (w : World) (c : Clients) → ((k : ℕ) → k ≢ n → IsUntouched k w.clients c)
+  -- The clients change, no session is touched, and nothing is sent.
+  pub changes : (n : ℕ) (w : World) (c : Clients) → c.pending.touched ≡ w.clients.pending.touched
+      → ((k : ℕ) → k ≢ n → IsUntouched k w.clients c)
       → IsApart n own left w (no_output (record w { clients = c }))
-  changes n w c alone = record { outputs = tt; replica = refl; others = λ k other stays. alone k other }
+  changes n w c same alone = record {
+    outputs = tt;
+    replica = refl;
+    touched = λ session other. ap (λ touched. set.contains touched session) same;
+    others = λ k other stays. alone k other;
+  }
 
   pub stays_so : (n : ℕ) (w : World) → IsApart n own left w (no_output w)
-  stays_so n w = changes n w w.clients (λ k other. untouched k w.clients)
+  stays_so n w = changes n w w.clients refl (λ k other. untouched k w.clients)
 
   module _ (stay : OtherConnectionsStay) (keep_watches : OthersKeepWatches) (queues : OtherQueuesStay) where
     -- The client's own connection closes, or one in `left`.
@@ -148,6 +169,7 @@ module _ (own : ℤ → Type 0) (left : ℕ → Type 0) where
     close_apart n m w may = record {
       outputs = (may, tt);
       replica = refl;
+      touched = λ session other. refl;
       others = λ k other stays. without_alone stay keep_watches queues m w.clients k
           (λ is. stays.0 (ap (λ (x : ℕ). CloseClient x) (sym is)));
     }
@@ -231,7 +253,7 @@ module _ (own : ℤ → Type 0) (left : ℕ → Type 0) where
     watching_apart : (n : ℕ) (w : World) (watches : WatchTables)
         → ((k : ℕ) → k ≢ n → HasSameWatches k w.clients.watches watches)
         → IsApart n own left w (no_output (with_watches w watches))
-    watching_apart n w watches same = changes n w (with_watches w watches).clients (λ k other. record {
+    watching_apart n w watches same = changes n w (with_watches w watches).clients refl (λ k other. record {
       rest = refl;
       session = refl;
       watches = same k other;
@@ -243,7 +265,7 @@ module _ (own : ℤ → Type 0) (left : ℕ → Type 0) where
     pub sessions_apart : (n : ℕ) (w : World) (s : Sessions)
         → ((k : ℕ) → k ≢ n → finmap.get s.connections k ≡ finmap.get w.clients.sessions.connections k)
         → IsApart n own left w (no_output (with_sessions w s))
-    sessions_apart n w s same = changes n w (with_sessions w s).clients (λ k other. record {
+    sessions_apart n w s same = changes n w (with_sessions w s).clients refl (λ k other. record {
       rest = refl;
       session = same k other;
       watches = same_watches k w.clients.watches;
@@ -252,13 +274,15 @@ module _ (own : ℤ → Type 0) (left : ℕ → Type 0) where
 
     -- The request is of a session of the client's own.
     forward_apart : (n : ℕ) (session : ℤ) (w : World) (frame : List ℕ) (p : PendingTable) → own session
-        → ((k : ℕ) → k ≢ n → Stays k w.clients.pending p) → IsApart n own left w (forward_frame n session w frame p)
-    forward_apart n session w frame p mine same = record {
+        → p.touched ≡ w.clients.pending.touched → ((k : ℕ) → k ≢ n → Stays k w.clients.pending p)
+        → IsApart n own left w (forward_frame n session w frame p)
+    forward_apart n session w frame p mine told same = record {
       outputs = (
         (session, (mine, inl (record { frame = frame; ids = ids_of w.clients.sessions n; is = refl }))),
         tt,
       );
       replica = refl;
+      touched = λ session other. ap (λ touched. set.contains touched session) told;
       others = λ k other stays. waits_alone k w p (same k other);
     }
 
@@ -267,13 +291,20 @@ module _ (own : ℤ → Type 0) (left : ℕ → Type 0) where
     some_is : (j k : ℕ) → Some j ≡ Some k → j ≡ k
     some_is j k e = ap (λ (o : Option ℕ). unwrap_or o j) e
 
+    pub sent_apart : (n : ℕ) (w : World) (bytes : List ℕ) → IsApart n own left w (sent_bytes n bytes w)
+    sent_apart n w bytes = record {
+      outputs = (refl, tt);
+      replica = refl;
+      touched = λ session other. refl;
+      others = λ k other stays. untouched k w.clients;
+    }
+
     pub replies_apart : (n : ℕ) → HoldsOfReplies n Always (IsApart n own left)
     replies_apart n = record {
       thens = then_apart n;
       stays = stays_so n;
       closes = λ w a. close_own n w;
-      sends = λ w bytes.
-          record { outputs = (refl, tt); replica = refl; others = λ k other stays. untouched k w.clients };
+      sends = λ w bytes shows. sent_apart n w bytes;
       watches = λ w watch a.
           watching_apart n w (with_watch n w.clients.watches watch)
           (λ k other. watched_same n k other w.clients.watches watch);
@@ -285,45 +316,52 @@ module _ (own : ℤ → Type 0) (left : ℕ → Type 0) where
           (λ k other. stay.shows w.clients.sessions n id k other);
     }
 
-    -- Nothing of another connection that waits changes.
-    pub pending_apart : (n : ℕ) (w : World) (p : PendingTable) → ((k : ℕ) → k ≢ n → Stays k w.clients.pending p)
-        → IsApart n own left w (no_output (with_pending w p))
-    pending_apart n w p same =
-        changes n w (with_pending w p).clients (λ k other. waits_alone k w p (same k other))
+    -- Nothing of another connection that waits changes, and no session is touched.
+    pub pending_apart : (n : ℕ) (w : World) (p : PendingTable) → p.touched ≡ w.clients.pending.touched
+        → ((k : ℕ) → k ≢ n → Stays k w.clients.pending p) → IsApart n own left w (no_output (with_pending w p))
+    pending_apart n w p told same =
+        changes n w (with_pending w p).clients told (λ k other. waits_alone k w p (same k other))
 
-    pub touch_apart : (n : ℕ) (w : World) (session : ℤ)
+    -- A session of the client's own is touched.
+    pub touch_apart : (n : ℕ) (w : World) (session : ℤ) → own session
         → IsApart n own left w (no_output (with_pending w (touch_session w.clients.pending session)))
-    touch_apart n w session =
-        pending_apart n w (touch_session w.clients.pending session)
-        (λ k other. record { queue = refl; places = refl })
+    touch_apart n w session mine = record {
+      outputs = tt;
+      replica = refl;
+      touched = λ x other.
+          touched_beside w.clients.pending.touched session x (λ is. other (subst own (sym is) mine));
+      others = λ k other stays.
+          waits_alone k w (touch_session w.clients.pending session) (record { queue = refl; places = refl });
+    }
 
     pub hold_apart : (n : ℕ) (w : World) (frame : List ℕ)
         → IsApart n own left w (no_output (with_pending w (hold_frame w.clients.pending n frame)))
     hold_apart n w frame =
-        pending_apart n w (hold_frame w.clients.pending n frame) (queues.holds w.clients.pending n frame)
+        pending_apart n w (hold_frame w.clients.pending n frame) refl (queues.holds w.clients.pending n frame)
 
     pub calls_apart : (n : ℕ) → HoldsOfCalls n Always own (IsApart n own left)
     calls_apart n = record {
-      touches = λ w session a. touch_apart n w session;
+      touches = λ w session mine a. touch_apart n w session mine;
       leaves = λ w k there a.
-          changes n w (with_connection n (record k { is_leaving = true }) w.clients)
+          changes n w (with_connection n (record k { is_leaving = true }) w.clients) refl
           (connection_alone n w (record k { is_leaving = true }));
       writes = λ w session frame xid kind mine a.
-          forward_apart n session w frame (push_write w.clients.pending n xid kind) mine
+          forward_apart n session w frame (push_write w.clients.pending n xid kind) mine refl
           (queues.pushes_write w.clients.pending n xid kind);
       syncs = λ w session frame xid path mine a.
-          forward_apart n session w frame (push_sync w.clients.pending n xid path) mine
+          forward_apart n session w frame (push_sync w.clients.pending n xid path) mine refl
           (queues.pushes_sync w.clients.pending n xid path);
       holds = λ w frame busy a. hold_apart n w frame;
     }
 
     pub answers_apart : (n : ℕ) → HoldsOfAnswers n Always (IsApart n own left)
     answers_apart n = record {
-      takes = λ w a. pending_apart n w (take_ready w.clients.pending n).after (queues.takes w.clients.pending n);
+      takes = λ w a.
+          pending_apart n w (take_ready w.clients.pending n).after refl (queues.takes w.clients.pending n);
       answers = λ w xid txn_kind a.
-          pending_apart n w (answer_write w.clients.pending n xid txn_kind).after
+          pending_apart n w (answer_write w.clients.pending n xid txn_kind).after refl
           (queues.answers w.clients.pending n xid txn_kind);
-      drops = λ w a. changes n w (unqueued n w).clients (λ k other. record {
+      drops = λ w a. changes n w (unqueued n w).clients refl (λ k other. record {
         rest = refl;
         session = stay.closes w.clients.sessions n k other;
         watches = same_watches k w.clients.watches;
@@ -369,12 +407,13 @@ module _ (own : ℤ → Type 0) (left : ℕ → Type 0) where
         }
 
         by : (o : Option ℕ) → c.connected.older ≡ o → IsApart n own left w (close_client_if_some v o)
-        by None is = changes n w v.clients (λ k other. alone k other (λ e. none_or_some k (sym is ∙ e)))
+        by None is = changes n w v.clients refl (λ k other. alone k other (λ e. none_or_some k (sym is ∙ e)))
         by (Some j) is =
             let closed = close_apart n j v (inr (may j is)) in
             record {
               outputs = closed.outputs;
               replica = refl;
+              touched = closed.touched;
               others = λ k other stays. untouched_on k w.clients v.clients (close_client j v).after.clients
                   (alone k other (λ e. stays.0 (ap (λ (x : ℕ). CloseClient x) (some_is j k (sym is ∙ e)))))
                   (closed.others k other stays);
@@ -393,6 +432,7 @@ module _ (own : ℤ → Type 0) (left : ℕ → Type 0) where
         record {
           outputs = ((session, (mine, inr (inl (record { time_out = time_out; is = refl })))), tt);
           replica = refl;
+          touched = λ x other. refl;
           others = λ k other stays. connect_alone n w (new_connect session time_out has_byte) k other;
         }
 
@@ -403,19 +443,15 @@ module _ (own : ℤ → Type 0) (left : ℕ → Type 0) where
         record {
           outputs = ((response.session_id, (mine, inr (inr (record { time_out = response.time_out; is = refl })))), tt);
           replica = refl;
+          touched = λ x other. refl;
           others = λ k other stays.
               connect_alone n w (claiming response.session_id response.time_out has_byte) k other;
         }
 
-    -- The connection is served after its session was touched.
-    touched_apart : (n : ℕ) (w : World) (o : Option ℤ) → IsApart n own left w (no_output (touched_as w o))
-    touched_apart n w None = stays_so n w
-    touched_apart n w (Some session) = touch_apart n w session
-
     pub wait_apart : (n : ℕ) (w : World) (o : Option OpenConnection) (unread : Unread)
         → IsApart n own left w (wait_if_heard n w o unread)
     wait_apart n w None unread = stays_so n w
-    wait_apart n w (Some c) (Ok rest) = changes n w (with_waiting_bytes n w c rest).clients
+    wait_apart n w (Some c) (Ok rest) = changes n w (with_waiting_bytes n w c rest).clients refl
         (connection_alone n w (record c { rest = rest }))
     wait_apart n w (Some c) (Err e) = close_own n w
 
@@ -430,14 +466,14 @@ module _ (own : ℤ → Type 0) (left : ℕ → Type 0) where
       by : (b : Bool) → IsApart n own left w
           (no_output (cond b w (record w { clients = with_connection n opened w.clients })))
       by true = stays_so n w
-      by false = changes n w (with_connection n opened w.clients) (connection_alone n w opened)
+      by false = changes n w (with_connection n opened w.clients) refl (connection_alone n w opened)
 
   pub end_apart : (stay : OtherConnectionsStay) (keep_watches : OthersKeepWatches) (queues : OtherQueuesStay) (n : ℕ)
       (w : World) → IsApart n own left w (no_output (end_client n w))
   end_apart stay keep_watches queues n w = by (is_open n w.clients)
     where
       by : (b : Bool) → IsApart n own left w (no_output (cond b (record w { clients = without_client n w.clients }) w))
-      by true = changes n w (without_client n w.clients) (without_alone stay keep_watches queues n w.clients)
+      by true = changes n w (without_client n w.clients) refl (without_alone stay keep_watches queues n w.clients)
       by false = stays_so n w
 
 -- ---- all that a client sends
@@ -457,8 +493,12 @@ NoSession session = ⊥
 -- More sessions may be the client's own, and more connections may be closed.
 pub wider : (n : ℕ) (o u : ℤ → Type 0) (p q : ℕ → Type 0) (w : World) (h : StepResult World) → ((s : ℤ) → o s → u s)
     → ((k : ℕ) → p k → q k) → IsApart n o p w h → IsApart n u q w h
-wider n o u p q w h mine more a =
-    record { outputs = each h.outputs a.outputs; replica = a.replica; others = a.others }
+wider n o u p q w h mine more a = record {
+  outputs = each h.outputs a.outputs;
+  replica = a.replica;
+  touched = λ session other. a.touched session (λ is. other (mine session is));
+  others = a.others;
+}
   where
     of_closed : (k : ℕ) → (k ≡ n) ⊎ p k → (k ≡ n) ⊎ q k
     of_closed k (inl is) = inl is

@@ -1,5 +1,5 @@
 -- What waits of each connection is nothing, or begins with a request that only the leader can answer: after every event.
-use Rattle.std.proofs.Common.{◌≡◌, ◌≢◌, ◌⊎◌, inl, inr, ℕ, zero, suc, ◌≤◌, ℤ, Bool, true, false, cond, not, List, [], ◌∷◌, ◌++◌, length, drop, slice_get, Option, Some, None, refl, sym, ap, subst, ◌∙◌, arith}
+use Rattle.std.proofs.Common.{◌≡◌, ◌≢◌, ◌⊎◌, inl, inr, ℕ, zero, suc, ◌≤◌, Bool, true, false, cond, not, List, [], ◌∷◌, ◌++◌, length, drop, slice_get, Option, Some, None, refl, sym, ap, subst, ◌∙◌, arith}
 use Rattle.std.specs.Prelude.{is_some}
 use Rattle.std.specs.Ordering.{eq_by_cmp, nat_cmp}
 use Rattle.std.specs.Cmp.{nat_cmp_total}
@@ -90,7 +90,7 @@ replies_less n = record {
       less_on w.clients.pending h.after.clients.pending (next h.after).after.clients.pending first second;
   stays = same_less;
   closes = λ w a. dropped_less w.clients.pending n;
-  sends = λ w bytes. same_less w;
+  sends = λ w bytes shows. same_less w;
   watches = λ w watch a. same_less w;
   unwatches = λ w kind path a. same_less w;
   shows = λ w id a. same_less w;
@@ -217,7 +217,7 @@ replies_await n = record {
   thens = λ w h next first second a. second (first a);
   stays = λ w a. a;
   closes = λ w agrees a. less_awaits w (record w { clients = without_client n w.clients }) (dropped_less w.clients.pending n) a;
-  sends = λ w bytes a. a;
+  sends = λ w bytes shows a. a;
   watches = λ w watch agrees a. a;
   unwatches = λ w kind path agrees a. a;
   shows = λ w id agrees a. a;
@@ -225,7 +225,7 @@ replies_await n = record {
 
 calls_await : (n : ℕ) → HoldsOfCalls n Agreeing (λ session. Unit {0}) KeepsAwaiting
 calls_await n = record {
-  touches = λ w session agrees a. a;
+  touches = λ w session own agrees a. a;
   leaves = λ w k there agrees a. a;
   writes = λ w session frame xid kind own agrees a.
       pushed_awaits w.clients.pending n (Write (record { xid = xid; kind = kind })) a (λ _. tt);
@@ -334,7 +334,7 @@ module _ (laws : LowerLaws) (waits : (s : PendingTable) (n : ℕ) → (take_read
   due_awaits w t results (dues.Admission n) agrees a = admit_awaits n w agrees a
   due_awaits w t results (dues.Ending n) agrees a =
       (ended_makes n (Unit {0}) Agreeing KeepsAwaiting (agreeing_ground laws n) (replies_await n) w t.header.zxid
-      (pending_close w.clients.pending n) agrees).is a
+      (pending_close w.clients.pending n) (λ xid bytes is a. a) agrees).is a
   due_awaits w t results (dues.Reply n write) agrees a = write_awaits n w t results write.kind agrees a
 
   optional_awaits : (w : World) (results : TxnResults) (o : Option Txn) → Agreeing w → OnlyLeaderIsAwaited w

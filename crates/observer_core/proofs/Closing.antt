@@ -1,5 +1,5 @@
 -- The open connections after a client's step: each was open before, with the same waiting bytes.
-use Rattle.std.proofs.Common.{◌≡◌, ℕ, ℤ, Bool, true, false, cond, List, Option, Some, None, refl, sym, ap, subst, ◌∙◌}
+use Rattle.std.proofs.Common.{◌≡◌, ℕ, Bool, true, List, Option, Some, None, refl, sym, ap, ◌∙◌}
 use Rattle.std.specs.Option.{unwrap_or}
 use Rattle.std.specs.Ordering.{eq_by_cmp, nat_cmp}
 use Rattle.std.specs.Cmp.{nat_cmp_total}
@@ -68,7 +68,7 @@ replies_stay n = record {
   thens = λ w h next first second. then_stay w h.after (next h.after).after first second;
   stays = as_it_was;
   closes = λ w a. close_stay n w;
-  sends = λ w bytes. as_it_was w;
+  sends = λ w bytes shows. as_it_was w;
   watches = λ w watch a. as_it_was w;
   unwatches = λ w kind path a. as_it_was w;
   shows = λ w id a. as_it_was w;
@@ -76,7 +76,7 @@ replies_stay n = record {
 
 calls_stay : (n : ℕ) → HoldsOfCalls n Always (λ session. Unit {0}) KeepsRests
 calls_stay n = record {
-  touches = λ w session a. as_it_was w;
+  touches = λ w session own a. as_it_was w;
   leaves = λ w k there a. leave_stay n w k there;
   writes = λ w session frame xid kind own a. as_it_was w;
   syncs = λ w session frame xid path own a. as_it_was w;

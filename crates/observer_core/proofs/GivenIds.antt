@@ -1,5 +1,5 @@
 -- No event lets the counter of ids fall, and each id that is asked for is a new one.
-use Rattle.std.proofs.Common.{◌≡◌, ◌⊎◌, inl, inr, ℕ, ◌+◌, ◌^◌, ◌<◌, ◌≤◌, ◌==◌, ℤ, pos, Bool, true, false, cond, List, [], ◌∷◌, Option, Some, None, refl, sym, ap, subst, ◌∙◌, arith}
+use Rattle.std.proofs.Common.{◌≡◌, ◌⊎◌, inl, inr, ℕ, ◌+◌, ◌^◌, ◌<◌, ◌≤◌, ◌==◌, ℤ, pos, Bool, true, false, cond, List, [], ◌∷◌, Option, Some, None, Ok, Err, refl, sym, ap, subst, ◌∙◌, arith}
 use Rattle.std.specs.Prelude.{is_some, IsTrue}
 use Rattle.std.specs.List.{list_any}
 use Rattle.std.specs.Option.{unwrap_or}
@@ -21,17 +21,19 @@ use Rattle.forwarding.specs.Queue.{waiting_connect}
 use Rattle.forwarding.specs.State.{PendingTable, is_claimed}
 use Rattle.forwarding.specs.Pending.{nothing_pending, queue_in, queue_of, push_write, push_sync, unsettled_sync, hold_frame, take_ready, answer_write, settle_sync}
 use Rattle.world.specs.declared.world.Settings.{Settings}
-use Rattle.world.specs.World.{Clients, World}
+use Rattle.jute.specs.Stream.{Unread}
+use Rattle.world.specs.World.{OpenConnection, Clients, World}
+use Rattle.world.specs.Steps.{fold_steps}
 use Rattle.world.specs.Clients.{heard_connection, without_clients}
 use Rattle.world.specs.Sending.{close_client, with_sessions, with_pending, close_client_if_some}
-use Rattle.client_service.specs.Serve.{take_client_bytes}
+use Rattle.client_service.specs.Serve.{serve_frame, is_unheard, with_waiting_bytes, wait_if_heard, take_client_bytes}
 use Rattle.observer_core.specs.declared.event.Event.{Event}
 use Rattle.observer_core.specs.Machine.{Machine}
 use Rattle.observer_core.specs.Leader.{tell_effect, send_effect, disconnect_all}
 use Rattle.observer_core.specs.Play.{is_serving_clients, play}
 use Rattle.observer_core.specs.Agreement.{ClientsAgree}
 use Rattle.observer_core.specs.GivenIds.{WaitsForNew, AllAskForNew, HasGivenOut, IsGivenBetween, IdsAreGivenOnce}
-use Rattle.observer_core.proofs.Walking.{Steps, SessionsMove, with_connect, new_connect, claiming, counted, next_id, HoldsOfReplies, HoldsOfCalls, HoldsOfConnects, client_makes}
+use Rattle.observer_core.proofs.Walking.{Steps, SessionsMove, with_connect, new_connect, claiming, counted, next_id, HoldsOfReplies, HoldsOfCalls, HoldsOfConnects, frames_make, client_makes}
 use Rattle.observer_core.proofs.Answered.{unqueued, HoldsOfAnswers, HoldsOfAll, news_make}
 use Rattle.observer_core.proofs.Plain.{Always, plain_ground, plain_answer_ground}
 use Rattle.observer_core.proofs.Events.{IsKept, plays_keep}
@@ -80,7 +82,7 @@ still_given : (server_id : ℤ) (before after : ℕ) (session : ℤ) → before 
 still_given server_id before after session grows g =
     record { own = g.own; first = g.first; last = (let h = g.last in omega arith); is = g.is }
 
-given_later : (c d : Clients) (session : ℤ) → d.sessions.terms ≡ c.sessions.terms
+pub given_later : (c d : Clients) (session : ℤ) → d.sessions.terms ≡ c.sessions.terms
     → c.sessions.counter ≤ d.sessions.counter → HasGivenOut c session → HasGivenOut d session
 given_later c d session same grows g =
     subst (λ terms. IsGivenOut terms.server_id d.sessions.counter session) (sym same)
@@ -100,10 +102,10 @@ ComesToWait w v n connect =
     ⊎ ((connect.kind ≡ Claimed) × SessionsMove w))
 
 -- The settings are the same, and the counter didn't fall.
-record IdsGrow (w v : World) : Type 0 where
-  settings : v.settings ≡ w.settings
-  terms : v.clients.sessions.terms ≡ w.clients.sessions.terms
-  counter : w.clients.sessions.counter ≤ v.clients.sessions.counter
+pub record IdsGrow (w v : World) : Type 0 where
+  pub settings : v.settings ≡ w.settings
+  pub terms : v.clients.sessions.terms ≡ w.clients.sessions.terms
+  pub counter : w.clients.sessions.counter ≤ v.clients.sessions.counter
 
 -- The counter grew by the ids that were asked for.
 record AreLater (w v : World) : Type 0 where
@@ -212,7 +214,7 @@ replies_later n = record {
   thens = λ w h next first second. later_again w h.after (next h.after).after first second;
   stays = λ w. unchanged w w refl refl refl;
   closes = λ w a. closed_later n w;
-  sends = λ w bytes. unchanged w w refl refl refl;
+  sends = λ w bytes shows. unchanged w w refl refl refl;
   watches = λ w watch a. unchanged w _ refl refl refl;
   unwatches = λ w kind path a. unchanged w _ refl refl refl;
   shows = λ w id a.
@@ -222,7 +224,7 @@ replies_later n = record {
 
 calls_later : (n : ℕ) → HoldsOfCalls n Agreeing (λ session. Unit {0}) GivesIds
 calls_later n = record {
-  touches = λ w session a. unchanged w _ refl refl refl;
+  touches = λ w session own a. unchanged w _ refl refl refl;
   leaves = λ w k there a. unchanged w _ refl refl refl;
   writes = λ w session frame xid kind own a.
       let p = push_write w.clients.pending n xid kind in
@@ -277,13 +279,13 @@ all_grow = record {
     thens = λ w h next first second. grow_again w h.after (next h.after).after first second;
     stays = λ w. nothing_grows w w refl refl;
     closes = λ w a. closed_grow n w;
-    sends = λ w bytes. nothing_grows w w refl refl;
+    sends = λ w bytes shows. nothing_grows w w refl refl;
     watches = λ w watch a. nothing_grows w _ refl refl;
     unwatches = λ w kind path a. nothing_grows w _ refl refl;
     shows = λ w id a. same_grow w _ refl (shown_ids w.clients.sessions n id);
   };
   calls = λ n. record {
-    touches = λ w session a. nothing_grows w _ refl refl;
+    touches = λ w session own a. nothing_grows w _ refl refl;
     leaves = λ w k there a. nothing_grows w _ refl refl;
     writes = λ w session frame xid kind own a. nothing_grows w _ refl refl;
     syncs = λ w session frame xid path own a. nothing_grows w _ refl refl;
@@ -324,6 +326,18 @@ gone_grow w =
     let g = each_closed_grow (finmap.keys w.clients.connections) w in
     record { settings = g.settings; terms = g.terms; counter = g.counter }
 
+pub frames_grow : (serving : Bool) (n : ℕ) (w : World) (fs : List (List ℕ))
+    → IdsGrow w (fold_steps (is_unheard n) (serve_frame serving n) w fs).after
+frames_grow serving n w fs =
+    (frames_make n ⊥ Always Grows (plain_ground n) (all_grow.replies n) (λ session. Unit {0}) (all_grow.calls n)
+    (λ w session. Unit {0}) (all_grow.connects n) serving w fs tt).is
+
+pub wait_grows : (n : ℕ) (w : World) (o : Option OpenConnection) (unread : Unread)
+    → IdsGrow w (wait_if_heard n w o unread).after
+wait_grows n w None unread = nothing_grows w w refl refl
+wait_grows n w (Some c) (Ok rest) = nothing_grows w (with_waiting_bytes n w c rest) refl refl
+wait_grows n w (Some c) (Err e) = closed_grow n w
+
 bytes_grow : (n : ℕ) (w : World) (bytes : List ℕ)
     → Grows w (take_client_bytes (is_serving_clients w) n w (heard_connection n w.clients) bytes)
 bytes_grow n w bytes =
@@ -338,7 +352,7 @@ grow_kept u = record {
       let v = (tell_effect w t).after in
       grow_again u w (send_effect w t).after g
       (grow_again w v (send_effect w t).after (nothing_grows w v refl refl)
-      (news_make ⊥ Always Grows all_grow t.news v tt).is);
+      (news_make ⊥ Always Grows all_grow (λ n w bytes. nothing_grows w w refl refl) t.news v tt).is);
   gone = λ w g. grow_again u w _ g (gone_grow w);
   opens = λ n address w g. grow_again u w _ g (nothing_grows w _ refl refl);
   bytes = λ n w bytes g. grow_again u w _ g (bytes_grow n w bytes);
@@ -354,7 +368,7 @@ grown m events =
 
 module _ (new : NewIdsAreNew) where
   -- The id of the next counter is new.
-  next_is_new : (s : Sessions) → IsTrue (is_server_id s.terms.server_id) → s.counter + 1 < 2 ^ 56
+  pub next_is_new : (s : Sessions) → IsTrue (is_server_id s.terms.server_id) → s.counter + 1 < 2 ^ 56
       → IsNewId s (session_id_of s.terms.server_id (s.counter + 1))
   next_is_new s server within = record { nonzero = named.nonzero; unused = named.unused }
     where
@@ -516,7 +530,8 @@ module _ (new : NewIdsAreNew) where
                 kept.effects loading w i t e l.0,
                 later_again u w (send_effect w t).after l.1
                     (later_again w v (send_effect w t).after (unchanged w v refl refl refl)
-                    (news_make (Unit {0}) Agreeing GivesIds (holds_of_all laws GivesIds then_later) t.news v
+                    (news_make (Unit {0}) Agreeing GivesIds (holds_of_all laws GivesIds then_later)
+                    (λ n w bytes. unchanged w w refl refl refl) t.news v
                     (tell_agrees laws w t l.0)).is),
               );
           gone = λ w l. (kept.gone w l.0, later_again u w _ l.1 (gone_later w));

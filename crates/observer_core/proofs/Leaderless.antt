@@ -19,12 +19,11 @@ use Rattle.learner_sync.specs.Answers.{observer_info}
 use Rattle.learner_sync.specs.declared.phase.Phase.{Phase}
 use Rattle.learner_sync.specs.declared.phase.Phase.TheVariants.{Down}
 use Rattle.replica.specs.Replica.{Replica}
-use Rattle.replica.specs.Taking.{ItemEffect, take_item, is_serving, is_serving_in, checkpoint_if, packets_of_act}
+use Rattle.replica.specs.Taking.{ItemEffect, take_item, is_serving_in, checkpoint_if, packets_of_act}
 use Rattle.std.specs.List.{flat_map}
 use Rattle.client_frames.specs.declared.connecting.Connecting.{Connecting}
 use Rattle.client_frames.specs.Connect.{connecting_in}
 use Rattle.four_letter.specs.declared.word.Word.{Word}
-use Rattle.forwarding.specs.Queue.{RequestQueue}
 use Rattle.forwarding.specs.Pending.{is_idle, nothing_pending}
 use Rattle.sessions.specs.Sessions.{session_in, session_of_connection, connection_of, give_session}
 use Rattle.watch_manager.specs.Watches.{fire}
@@ -33,17 +32,16 @@ use Rattle.client_records.specs.declared.codes.TheConstants.{NOTIFICATION_XID}
 use Rattle.read_processor.specs.Events.{look_of_event}
 use Rattle.read_processor.specs.Reply.{reply_frame}
 use Rattle.world.specs.declared.output.Output.{Output}
-use Rattle.world.specs.declared.output.Output.TheVariants.{ToLeader, ToClient, CloseLeader, CloseClient}
 use Rattle.world.specs.World.{OpenConnection, World}
-use Rattle.world.specs.Steps.{StepResult, no_output, and_then, fold_steps}
+use Rattle.world.specs.Steps.{StepResult, no_output, fold_steps}
 use Rattle.world.specs.Clients.{idle_connection, is_open, heard_connection, with_connection, sent_to, notice_to, notices_of}
 use Rattle.world.specs.Sending.{to_leader, close_client, close_client_if_some, with_sessions}
-use Rattle.client_service.specs.Serve.{address_for, touched_as, handle_connect, serve_by, is_refused_frame, serve_frame, word_at, is_unheard, with_waiting_bytes, wait_if_heard, wait_at, frames_of_client, tell_or_serve, take_client_bytes, expire_session}
+use Rattle.client_service.specs.Serve.{address_for, touched_as, handle_connect, serve_by, is_refused_frame, serve_frame, word_at, is_unheard, with_waiting_bytes, wait_if_heard, wait_at, frames_of_client, tell_or_serve, take_client_bytes}
 use Rattle.observer_core.specs.declared.event.Event.{Event}
 use Rattle.observer_core.specs.declared.event.Event.TheVariants as event
 use Rattle.observer_core.specs.Machine.{Leader, Machine}
 use Rattle.observer_core.specs.Leader.{WorldAndLoading, step_with_loading, tell_effect, answer_news, send_effect, item_step, Delivery, delivery_of, deliver_item, is_refused, deliver_all, place_after, part_reader, leader_at, meet_leader, disconnect_all, with_leader_or_fault, take_leader_bytes, on_stream_end, end_leader}
-use Rattle.observer_core.specs.Play.{is_serving_clients, with_checkpoint, play_event, play}
+use Rattle.observer_core.specs.Play.{is_serving_clients, play_event, play}
 use Rattle.observer_core.specs.Agreement.{ClientsAgree}
 use Rattle.observer_core.specs.Leaderless.{is_for_leader, is_leader_close, NothingForLeader, is_leader_up, NoLeaderComes, IsResting, RestsWithoutLeader, SilentWithoutLeader}
 use Rattle.observer_core.proofs.Keeping.{happening_keeps}
@@ -315,7 +313,7 @@ replies_leave n = record {
   thens = λ w h next first second. all_joined IsOpenStill h.outputs (next h.after).outputs first second;
   stays = λ w. tt;
   closes = λ w a. (refl, tt);
-  sends = λ w bytes. (refl, tt);
+  sends = λ w bytes shows. (refl, tt);
   watches = λ w watch a. tt;
   unwatches = λ w kind path a. tt;
   shows = λ w id a. tt;
@@ -323,7 +321,7 @@ replies_leave n = record {
 
 calls_leave : (n : ℕ) → HoldsOfCalls n Always (λ session. Unit {0}) LeavesLeader
 calls_leave n = record {
-  touches = λ w session a. tt;
+  touches = λ w session own a. tt;
   leaves = λ w k there a. tt;
   writes = λ w session frame xid kind own a. (refl, tt);
   syncs = λ w session frame xid path own a. (refl, tt);
@@ -382,7 +380,7 @@ effect_leaves w t =
     all_joined IsOpenStill told.outputs (answer_news t.news told.after).outputs
     (all_joined IsOpenStill (map to_leader t.replies) (notices_of events) (packets_leave t.replies)
     (notices_leave events))
-    (news_make ⊥ Always LeavesLeader all_leave t.news told.after tt).is
+    (news_make ⊥ Always LeavesLeader all_leave (λ n w bytes. (refl, tt)) t.news told.after tt).is
 
 deliver_leaves : (d : Delivery WorldAndLoading) (i : Item) → AllByRecursion IsOpenStill (deliver_item item_step d i).outputs
 deliver_leaves d i = by (take_item d.left.loading d.left.world.replica i)

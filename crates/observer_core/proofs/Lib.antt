@@ -4,6 +4,8 @@ pub mod Waiting
 pub mod Playing
 pub mod Keeping
 pub mod Idle
+pub mod Stepping
+pub mod Sent
 pub mod Walking
 pub mod Answered
 pub mod Plain
@@ -35,3 +37,5 @@ pub mod GivenIds
 pub mod Living
 pub mod Awaiting
 pub mod Reaching
+pub mod Growing
+pub mod Showing

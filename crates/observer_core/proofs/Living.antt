@@ -118,19 +118,20 @@ abbrev SessionsStay : Replica → Type 0
 SessionsStay r = (reads_of r.learner.dialect).moved_sessions ≡ false
 
 -- The item leaves the tree, no transaction was applied, and where sessions stay none was confirmed.
-record LeavesTree (r : Replica) (t : ItemEffect) : Type 0 where
-  tree : t.replica.tree ≡ r.tree
+pub record LeavesTree (r : Replica) (t : ItemEffect) : Type 0 where
+  pub tree : t.replica.tree ≡ r.tree
   none : (place : ℕ) (results : TxnResults) → t.news ≢ Some (news.Applied place results)
   unclaimed : SessionsStay r → (session : ℤ) (lives : Bool) → t.news ≢ Some (news.Revalidated session lives)
 
--- A transaction of the log was applied.
-record AppliesTxn (r : Replica) (t : ItemEffect) : Type 0 where
-  txn : Txn
+-- A transaction was applied, which the log has one more of.
+pub record AppliesTxn (l : Learner) (r : Replica) (t : ItemEffect) : Type 0 where
+  pub txn : Txn
   place : ℕ
   results : TxnResults
   tree : t.replica.tree ≡ (effect_of_txn r.tree txn).state
   told : t.news ≡ Some (news.Applied place results)
   at : slice_get t.replica.learner.log place ≡ Some txn
+  pub grown : t.replica.learner.log ≡ l.log ++ txn ∷ []
 
 -- What is told, as a number.
 abbrev news_place : Option LeaderNews → ℕ
@@ -143,9 +144,9 @@ news_place (Some (news.Revalidated session lives)) = 4
 apart_news : (x y : Option LeaderNews) → (news_place x ≡ news_place y → ⊥) → x ≢ y
 apart_news x y other same = other (ap news_place same)
 
-abbrev Serves : Replica → Result ItemEffect Fault → Type 0
-Serves r (Ok t) = LeavesTree r t ⊎ AppliesTxn r t
-Serves r (Err e) = Unit {0}
+abbrev pub Serves : Learner → Replica → Result ItemEffect Fault → Type 0
+Serves l r (Ok t) = LeavesTree r t ⊎ AppliesTxn l r t
+Serves l r (Err e) = Unit {0}
 
 -- Only where sessions move a packet is taken as an answer for one.
 answers_where_moved : (reads : Reads) (kind : Option PacketKind) (p : QuorumPacket) (bytes : List ℕ)
@@ -177,36 +178,37 @@ module _ (loading : Loading) (r : Replica) where
   abbrev carried : Result LearnerStep Fault → Result ItemEffect Fault
   carried learnt = learnt >>= λ x. carry_out_all (no_effect loading (with_learner r x)) x.acts
 
-  applied : (l : Learner) (txn : Txn) → Serves r (carried (apply_txn l txn))
+  applied : (l : Learner) (txn : Txn) → Serves l r (carried (apply_txn l txn))
   applied l txn =
       cond_both (int_lt (zxid_floor l.phase l.last_zxid) txn.header.zxid) _ _
-      (λ (x : Result LearnerStep Fault). Serves r (carried x))
+      (λ (x : Result LearnerStep Fault). Serves l r (carried x))
       (λ _. by (last_txn (with_applied l txn).log) (last-push l.log txn)) (λ _. tt)
     where
       t : ItemEffect
       t = no_effect loading (with_learner r (record { acts = act.Apply ∷ []; after = with_applied l txn }))
 
-      by : (o : Option Txn) → o ≡ Some txn → Serves r (Ok (apply_to_tree t o))
-      by o e = subst (λ (o : Option Txn). Serves r (Ok (apply_to_tree t o))) (sym e) (inr (record {
+      by : (o : Option Txn) → o ≡ Some txn → Serves l r (Ok (apply_to_tree t o))
+      by o e = subst (λ (o : Option Txn). Serves l r (Ok (apply_to_tree t o))) (sym e) (inr (record {
         txn = txn;
         place = length (with_applied l txn).log - 1;
         results = (answer_of (effect_of_txn r.tree txn)).results;
         tree = refl;
         told = refl;
         at = last-push l.log txn;
+        grown = refl;
       }))
 
-  informed : (l : Learner) (bytes : List ℕ) → Serves r (carried (learn_inform l bytes))
+  informed : (l : Learner) (bytes : List ℕ) → Serves l r (carried (learn_inform l bytes))
   informed l bytes = by (carried_txn l bytes)
     where
-      by : (x : Result Txn Fault) → Serves r (carried (x >>= λ t. apply_txn l t))
+      by : (x : Result Txn Fault) → Serves l r (carried (x >>= λ t. apply_txn l t))
       by (Ok txn) = applied l txn
       by (Err e) = tt
 
-  activated : (l : Learner) (bytes : List ℕ) → Serves r (carried (learn_activation l bytes))
+  activated : (l : Learner) (bytes : List ℕ) → Serves l r (carried (learn_activation l bytes))
   activated l bytes = by (long.read bytes)
     where
-      by : (x : Result (ℤ × List ℕ) Fault) → Serves r (carried (x >>= λ named. learn_inform l named.1))
+      by : (x : Result (ℤ × List ℕ) Fault) → Serves l r (carried (x >>= λ named. learn_inform l named.1))
       by (Ok named) = informed l named.1
       by (Err e) = tt
 
@@ -218,16 +220,16 @@ module _ (loading : Loading) (r : Replica) where
     unclaimed = λ stay session lives e. true≢false (sym (ap is_some (sym is ∙ e)));
   }
 
-  nothing : (l : Learner) → Serves r (carried (Ok (record { acts = []; after = l })))
+  nothing : (l : Learner) → Serves l r (carried (Ok (record { acts = []; after = l })))
   nothing l = inl (untold (no_effect loading (with_learner r (record { acts = []; after = l }))) refl refl)
 
   -- The leader answers for a session, where sessions move.
   revalidated : (l : Learner) (bytes : List ℕ) → (reads_of r.learner.dialect).moved_sessions ≡ true
-      → Serves r (carried (learn_revalidated l bytes))
+      → Serves l r (carried (learn_revalidated l bytes))
   revalidated l bytes move = by ((pair_of long boolean).read bytes)
     where
       by : (x : Result ((ℤ × Bool) × List ℕ) Fault)
-          → Serves r (carried (x >>= λ answer. Ok (single_act (act.Revalidated answer.0.0 answer.0.1) l)))
+          → Serves l r (carried (x >>= λ answer. Ok (single_act (act.Revalidated answer.0.0 answer.0.1) l)))
       by (Ok answer) =
           let told = Some (news.Revalidated answer.0.0 answer.0.1) in
           inl (record {
@@ -240,7 +242,7 @@ module _ (loading : Loading) (r : Replica) where
   -- Only an INFORM and an INFORMANDACTIVATE bring a transaction where clients are served.
   message_serves : (l : Learner) (m : Message)
       → ((bytes : List ℕ) → m ≡ message.Revalidated bytes → (reads_of r.learner.dialect).moved_sessions ≡ true)
-      → Serves r (carried (message_in_serving l m))
+      → Serves l r (carried (message_in_serving l m))
   message_serves l (message.Ping p) move =
       let told = Some (news.Ping p) in
       inl (record {
@@ -269,36 +271,36 @@ module _ (loading : Loading) (r : Replica) where
   message_serves l message.Other move = nothing l
 
   -- An image is dropped.
-  loads : (l : Learner) (p : ImagePart) → Serves r (carried (Ok (record { acts = act.LoadPart p ∷ []; after = l })))
+  loads : (l : Learner) (p : ImagePart) → Serves l r (carried (Ok (record { acts = act.LoadPart p ∷ []; after = l })))
   loads l p = by (with_loaded loading p)
     where
       t : ItemEffect
       t = no_effect loading (with_learner r (record { acts = act.LoadPart p ∷ []; after = l }))
 
       by : (x : Result Loading Fault)
-          → Serves r ((x >>= λ loaded. Ok (record t { loading = loaded })) >>= λ u. carry_out_all u [])
+          → Serves l r ((x >>= λ loaded. Ok (record t { loading = loaded })) >>= λ u. carry_out_all u [])
       by (Ok loaded) = inl (untold (record t { loading = loaded }) refl refl)
       by (Err e) = tt
 
-  part_serves : (l : Learner) (p : ImagePart) → Serves r (carried (Ok (load_to_drop p l)))
+  part_serves : (l : Learner) (p : ImagePart) → Serves l r (carried (Ok (load_to_drop p l)))
   part_serves l (part.Session s) = loads l (part.Session s)
   part_serves l (part.Acl a) = loads l (part.Acl a)
   part_serves l (part.Node n) = loads l (part.Node n)
   part_serves l part.End =
       inl (untold (with_nothing_loaded (no_effect loading (with_learner r (load_to_drop part.End l)))) refl refl)
 
-  phase_is : (ph : Phase) → is_serving_in ph ≡ true → ph ≡ phase.Serving
+  pub phase_is : (ph : Phase) → is_serving_in ph ≡ true → ph ≡ phase.Serving
   phase_is phase.Serving s = refl
   phase_is ph s = cc
 
-  item_serves : (i : Item) → is_serving r ≡ true → Serves r (take_item loading r i)
+  pub item_serves : (i : Item) → is_serving r ≡ true → Serves r.learner r (take_item loading r i)
   item_serves (item.Packet p) s =
       let m = message_of_packet r.learner.dialect p in
-      subst (λ (ph : Phase). Serves r (carried (message_in_phase ph r.learner m)))
+      subst (λ (ph : Phase). Serves r.learner r (carried (message_in_phase ph r.learner m)))
       (sym (phase_is r.learner.phase s))
       (message_serves r.learner m (λ bytes e. answers_where_moved (reads_of r.learner.dialect) (kind_of p.kind) p bytes e))
   item_serves (item.Part p) s =
-      subst (λ (ph : Phase). Serves r (carried (part_in_phase ph r.learner p))) (sym (phase_is r.learner.phase s))
+      subst (λ (ph : Phase). Serves r.learner r (carried (part_in_phase ph r.learner p))) (sym (phase_is r.learner.phase s))
       (part_serves r.learner p)
 
 -- ---- sessions of connections
@@ -373,7 +375,7 @@ replies_live n = record {
   thens = λ w h next first second live. second (first live);
   stays = λ w live. live;
   closes = λ w a live m session e. live m session (closed_fewer w.clients.sessions n m session e);
-  sends = λ w bytes live. live;
+  sends = λ w bytes shows live. live;
   watches = λ w watch a live. live;
   unwatches = λ w kind path a live. live;
   shows = λ w id a live m session e. live m session (shown_fewer w.clients.sessions n id m session e);
@@ -381,7 +383,7 @@ replies_live n = record {
 
 calls_live : (n : ℕ) → HoldsOfCalls n Agreeing (λ session. Unit {0}) KeepsLive
 calls_live n = record {
-  touches = λ w session a live. live;
+  touches = λ w session own a live. live;
   leaves = λ w k there a live. live;
   writes = λ w session frame xid kind own a live. live;
   syncs = λ w session frame xid path own a live. live;
@@ -460,7 +462,8 @@ module _ (stays : ServingStays) (dialects : DialectStays) (laws : LowerLaws) whe
       by None = live
       by (Some write) =
           (write_makes n (Unit {0}) Agreeing KeepsLive (agreeing_ground laws n) (replies_live n)
-          (agreeing_answers laws n) (answers_live n) w t results write.kind a).is live
+          (agreeing_answers laws n) (answers_live n) w t results write.kind
+          (record { replies = λ kind v bytes same is live. live; ends = λ xid bytes is live. live }) a).is live
 
   -- Only the session that has ended doesn't live.
   abbrev OthersLive : World → ℤ → Type 0
@@ -601,7 +604,7 @@ module _ (stays : ServingStays) (dialects : DialectStays) (laws : LowerLaws) whe
       told : Agreeing v
       told = tell_agrees laws w t h.0.0
 
-      serves : LeavesTree w.replica t ⊎ AppliesTxn w.replica t → AllSessionsLive (answer_news t.news v).after
+      serves : LeavesTree w.replica t ⊎ AppliesTxn w.replica.learner w.replica t → AllSessionsLive (answer_news t.news v).after
       serves (inl leaves) =
           news_live t.news v leaves.none (leaves.unclaimed stay) told
           (λ n session has. ap (λ (s : State). finmap.contains_key s.sessions session) leaves.tree
@@ -612,7 +615,7 @@ module _ (stays : ServingStays) (dialects : DialectStays) (laws : LowerLaws) whe
           (txn_lives v w.replica.tree applies.txn applies.results applies.tree told (h.1 stay)))
 
       by : (b : Bool) → is_serving w.replica ≡ b → AllSessionsLive (send_effect w t).after
-      by true s = serves (subst (Serves w.replica) e (item_serves loading w.replica i s))
+      by true s = serves (subst (Serves w.replica.learner w.replica) e (item_serves loading w.replica i s))
       by false s =
           let q = h.0.1 s in
           quiet_live (send_effect w t).after

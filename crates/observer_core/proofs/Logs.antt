@@ -20,7 +20,7 @@ use Rattle.observer_core.specs.Logs.{MachinesFollowTheirLogs}
 use Rattle.observer_core.proofs.Keeping.{happening_keeps}
 use Rattle.observer_core.proofs.Unmoved.{client_same, open_same, end_same, expire_same, news_same}
 
-abbrev Follows : World → Type 0
+abbrev pub Follows : World → Type 0
 Follows w = FollowsItsLog w.replica
 
 -- Another world with the same replica.
@@ -28,7 +28,7 @@ still_follows : (w v : World) → v.replica ≡ w.replica → Follows w → Foll
 still_follows w v same f = subst FollowsItsLog (sym same) f
 
 module _ (law : ReplicasFollow) where
-  deliver_follows : (d : Delivery WorldAndLoading) (i : Item) → Follows d.left.world
+  pub deliver_follows : (d : Delivery WorldAndLoading) (i : Item) → Follows d.left.world
       → Follows (deliver_item item_step d i).after.left.world
   deliver_follows d i f = by (take_item d.left.loading d.left.world.replica i) refl
     where

@@ -1,5 +1,5 @@
 -- What the leader's stream answers reaches one client alone.
-use Rattle.std.proofs.Common.{◌≡◌, inl, inr, ℕ, ℤ, Bool, Option, Some, None, refl, sym, ap, subst, ◌∙◌, arith}
+use Rattle.std.proofs.Common.{◌≡◌, inl, inr, ℕ, ℤ, Bool, List, [], ◌∷◌, Option, Some, None, refl, sym, ap, subst, ◌∙◌, arith}
 use Rattle.std.specs.Option.{unwrap_or, option_or}
 use Rattle.std.proofs.lemmas.Bool.{cond_both}
 use Rattle.data_tree.specs.declared.outcome.TxnResults.{TxnResults}
@@ -13,7 +13,8 @@ use Rattle.forwarding.specs.declared.request.Settled.{Settled}
 use Rattle.forwarding.specs.declared.request.Settled.TheVariants.{NoSync, Gone, Of}
 use Rattle.forwarding.specs.declared.request.AnsweredWrite.{AnsweredWrite}
 use Rattle.forwarding.specs.Queue.{waiting_connect, found_write}
-use Rattle.forwarding.specs.Pending.{queue_of, connecting_to, awaiting, pending_close, settle_sync}
+use Rattle.forwarding.specs.Pending.{queue_of, connecting_to, awaiting, pending_close, settle_first, settle_sync}
+use Rattle.forwarding.specs.State.{PendingTable}
 use Rattle.forwarding.specs.Laws.{OtherQueuesStay}
 use Rattle.sessions.specs.Sessions.{session_of_connection, connection_of, close_connection}
 use Rattle.sessions.specs.Agreement.{AgreementIsKept, OtherConnectionsStay}
@@ -30,7 +31,7 @@ use Rattle.observer_core.proofs.Answered.{awaits_it, front_makes, write_makes, r
 use Rattle.observer_core.proofs.Plain.{Always, plain_ground, plain_answer_ground}
 use Rattle.observer_core.proofs.Agreeing.{owner_has}
 use Rattle.observer_core.proofs.Taking.{closed_fewer}
-use Rattle.observer_core.proofs.Apart.{then_apart, pending_apart, replies_apart, calls_apart, answers_apart, given_apart, NoSession, Nobody}
+use Rattle.observer_core.proofs.Apart.{then_apart, pending_apart, sent_apart, replies_apart, calls_apart, answers_apart, given_apart, NoSession, Nobody}
 
 -- ---- whom a transaction answers
 
@@ -110,6 +111,12 @@ number_in k NoSync = k
 number_in k Gone = k
 number_in k (Of n) = n
 
+-- Settling a sync touches no session.
+settled_touches : (p : PendingTable) (syncs : List (Option ℕ)) → (settle_first p syncs).after.touched ≡ p.touched
+settled_touches p [] = refl
+settled_touches p (None ∷ rest) = refl
+settled_touches p (Some n ∷ rest) = refl
+
 module _ (kept : AgreementIsKept) (stay : OtherConnectionsStay) (keep_watches : OthersKeepWatches)
     (queues : OtherQueuesStay) where
   -- The connect that waits for a session is found.
@@ -135,7 +142,11 @@ module _ (kept : AgreementIsKept) (stay : OtherConnectionsStay) (keep_watches : 
     subst (λ (due : Due). AnswersOnly n w (give_answer w t results due)) (sym is)
         (write_makes n ⊥ Always (IsApart n NoSession Nobody) (plain_ground n)
         (replies_apart NoSession Nobody stay keep_watches queues n) (plain_answer_ground n)
-        (answers_apart NoSession Nobody stay keep_watches queues n) w t results write.kind tt).is,
+        (answers_apart NoSession Nobody stay keep_watches queues n) w t results write.kind
+        (record {
+          replies = λ kind v bytes same is. sent_apart NoSession Nobody stay keep_watches queues n v bytes;
+          ends = λ xid bytes is. sent_apart NoSession Nobody stay keep_watches queues n w bytes;
+        }) tt).is,
   )
 
   endings_reach : (w : World) (t : Txn) (results : TxnResults) (n : ℕ) → ClientsAgree w.clients
@@ -146,7 +157,7 @@ module _ (kept : AgreementIsKept) (stay : OtherConnectionsStay) (keep_watches : 
     subst (λ (due : Due). AnswersOnly n w (give_answer w t results due)) (sym is)
         (ended_makes n ⊥ Always (IsApart n NoSession Nobody) (plain_ground n)
         (replies_apart NoSession Nobody stay keep_watches queues n) w t.header.zxid (pending_close w.clients.pending n)
-        tt).is,
+        (λ xid bytes is. sent_apart NoSession Nobody stay keep_watches queues n w bytes) tt).is,
   )
 
   -- The client that waits for a session is admitted. A connection that had the session before is closed.
@@ -234,7 +245,7 @@ module _ (kept : AgreementIsKept) (stay : OtherConnectionsStay) (keep_watches : 
       let v = with_pending w (settle_sync p).after in
       subst (λ (o : Settled). AnswersOnly n w (answer_settled v o)) (sym is)
       (then_apart NoSession Nobody n w (no_output v) (answer_front n)
-      (pending_apart NoSession Nobody stay keep_watches queues n w (settle_sync p).after
+      (pending_apart NoSession Nobody stay keep_watches queues n w (settle_sync p).after (settled_touches p p.syncs)
       (λ k other. queues.settles p k (λ e. other (ap (number_in k) (sym e ∙ is)))))
       (front_makes n ⊥ Always (IsApart n NoSession Nobody) (plain_ground n)
       (replies_apart NoSession Nobody stay keep_watches queues n) (plain_answer_ground n)

@@ -1,17 +1,17 @@
 -- The state that a refused item leaves.
-use Rattle.std.proofs.Common.{◌≡◌, ℕ, List, ◌∷◌, ◌++◌, Some, None, is_some, Err, refl, ap, ◌∙◌}
+use Rattle.std.proofs.Common.{◌≡◌, ℕ, List, ◌∷◌, ◌++◌, Option, Some, None, is_some, Result, Ok, Err, refl, ap, ◌∙◌}
 use Rattle.std.proofs.lemmas.List.{append-nil}
 use Rattle.values.specs.declared.fault.Fault.{Fault}
-use Rattle.jute.specs.Stream.{with_more_bytes}
+use Rattle.jute.specs.Stream.{Items, Unread}
 use Rattle.quorum_packet.specs.declared.item.Item.{Item}
-use Rattle.quorum_packet.specs.Items.{items_shown_at}
+use Rattle.quorum_packet.specs.declared.phase.Phase.{Phase}
 use Rattle.observer_core.specs.declared.event.Event.TheVariants.{LeaderBytes}
 use Rattle.world.specs.World.{World}
 use Rattle.observer_core.specs.Machine.{Leader, Machine}
 use Rattle.world.specs.Steps.{StepResult, prepend_outputs, no_output, and_then, fold_steps}
-use Rattle.observer_core.specs.Leader.{WorldAndLoading, Delivery, item_step, delivery_of, deliver_item, is_refused, place_after, leader_at, with_leader_or_fault, on_leader_fault}
+use Rattle.observer_core.specs.Leader.{WorldAndLoading, Delivery, item_step, delivery_of, deliver_item, is_refused, place_or_fault, place_after, leader_at, with_leader_or_fault, on_leader_fault, on_stream_end}
 use Rattle.observer_core.specs.Play.{play_event}
-use Rattle.observer_core.specs.Logs.{delivery_of_items, RefusalsChangeNothing}
+use Rattle.observer_core.specs.Logs.{delivery_of_items, items_of_bytes, RefusalsChangeNothing}
 use Rattle.world.proofs.Steps.{passed_over, goes_on, happening_on}
 
 abbrev refused_with : Delivery WorldAndLoading → Fault → Delivery WorldAndLoading
@@ -37,11 +37,26 @@ module _ (l : Leader) (w : World) (bytes : List ℕ) where
   abbrev finished : StepResult (Delivery WorldAndLoading) → StepResult Machine
   finished h =
       prepend_outputs h.outputs (with_leader_or_fault h.after.left.world
-      (leader_at h.after.left.loading
-      (place_after (items_shown_at (with_more_bytes l.place bytes)).left h.after.fault)))
+      (leader_at h.after.left.loading (place_after (items_of_bytes l bytes).left h.after.fault)))
+
+  abbrev shown : Items Phase Item
+  shown = items_of_bytes l bytes
+
+  -- All items are taken.
+  items_taken : (unread : Unread) → shown.left.unread ≡ unread
+      → (delivery_of_items l w shown.found).after.fault ≡ None
+      → play_event (record { leader = Some l; world = w }) (LeaderBytes bytes)
+      ≡ and_then (delivery_of_items l w shown.found)
+      (λ d. with_leader_or_fault d.left.world (leader_at d.left.loading (place_or_fault shown.left unread)))
+  items_taken unread is none =
+      let h = delivery_of_items l w shown.found in
+      ap (λ (fault : Option Fault). prepend_outputs h.outputs (with_leader_or_fault h.after.left.world
+      (leader_at h.after.left.loading (place_after shown.left fault)))) none
+      ∙ ap (λ (u : Unread). prepend_outputs h.outputs (with_leader_or_fault h.after.left.world
+      (leader_at h.after.left.loading (place_or_fault shown.left u)))) is
 
   bytes_refused : (taken others : List Item) (refused : Item) (e : Fault)
-      → (items_shown_at (with_more_bytes l.place bytes)).found ≡ taken ++ refused ∷ others
+      → shown.found ≡ taken ++ refused ∷ others
       → (delivery_of_items l w taken).after.fault ≡ None
       → item_step (delivery_of_items l w taken).after.left refused ≡ Err e
       → play_event (record { leader = Some l; world = w }) (LeaderBytes bytes)
@@ -60,6 +75,9 @@ pub refusals_change_nothing : RefusalsChangeNothing
 refusals_change_nothing = record {
   item = item_refused;
   bytes = bytes_refused;
+  fields = λ l w bytes e unread none. items_taken l w bytes (Err e) unread none;
+  waits = λ l w bytes rest unread none. items_taken l w bytes (Ok rest) unread none;
+  ends = λ l w e is. ap (λ (r : Result (Unit {0}) Fault). on_stream_end {L = Leader} r w) is;
   loss = λ w e. record {
     tree = refl;
     base = refl;

@@ -1,6 +1,7 @@
 -- The worked rows of sessions: a new one, and one whose client was heard.
 use Rattle.std.proofs.Common.{◌≡◌, ◌||◌, ◌&&◌, ℕ, ◌+◌, List, [], ◌∷◌, ◌++◌, length, map, take, drop, replicate, not, Option, Some, None, Ok, Bool, true, false, cond, refl, sym, ap, ◌∙◌, rules}
-use Rattle.std.specs.Prelude.{ℤ, pos, negsuc, codes, is_some, nat_lt}
+use Rattle.std.specs.Prelude.{ℤ, pos, negsuc, codes, is_some, nat_lt, int_lt}
+use Rattle.std.specs.Str.{bytes_eq}
 use Rattle.std.specs.FinMap as finmap
 use Rattle.std.specs.FinSet as set
 use Rattle.std.specs.Cmp.{nat_cmp_total, int_cmp_total}
@@ -13,7 +14,7 @@ use Rattle.settings.specs.Settings.{TimeoutPair, timeout_pair}
 use Rattle.jute.specs.Format.{judged_at, buffer_at, vector_at, read_n, number_bytes}
 use Rattle.jute.specs.Frame.{frame_at}
 use Rattle.jute.specs.Records.{request_header, reply_header}
-use Rattle.jute.specs.Stream.{items_within, items_in, place_at}
+use Rattle.jute.specs.Stream.{Items, items_within, items_in, place_at}
 use Rattle.client_records.specs.declared.codes.TheConstants.{OK, PING_XID}
 use Rattle.client_records.specs.declared.connect.ConnectRequest.{ConnectRequest}
 use Rattle.client_records.specs.declared.kind.RequestKind.TheVariants as kinds
@@ -65,17 +66,18 @@ use Rattle.world.specs.declared.output.Output.{Output}
 use Rattle.world.specs.declared.output.Output.TheVariants.{ToLeader, ToClient}
 use Rattle.world.specs.World.{OpenConnection, OpenConnections, World}
 use Rattle.world.specs.Steps.{StepResult, no_output}
-use Rattle.world.specs.Clients.{heard_in, address_in, with_address, passwords_of}
+use Rattle.world.specs.Clients.{idle_connection, heard_in, heard_connection, address_in, with_address, passwords_of}
 use Rattle.world.specs.Timeouts.{known_timeout}
 use Rattle.world.specs.Sending.{to_leader, close_client, send_or_close, with_sessions, with_pending}
-use Rattle.client_service.specs.Serve.{send_connect_response, claim_or_refuse, finish_connect, handle_connect, touched_as, serve_as, serve_by, is_refused_frame, serve_frame, word_without_session, with_waiting_bytes, frames_of_client, serve_all, tell_or_serve, take_client_bytes}
+use Rattle.client_service.specs.Serve.{is_live, send_connect_response, claim_or_refuse, finish_connect, handle_connect, touched_as, serve_as, serve_by, is_refused_frame, serve_frame, word_without_session, with_waiting_bytes, frames_of_client, serve_all, tell_or_serve, take_client_bytes}
 use Rattle.leader_answers.specs.Answering.{admission_of, admit_as, admit_with, give_answer, answer_applied_txn, answer_ping}
 use Rattle.world.proofs.NatMaps.{get-inserted, insert-insert}
 use Rattle.observer_core.specs.declared.event.Event.TheVariants.{LeaderBytes, ClientUp, ClientBytes}
 use Rattle.observer_core.specs.Machine.{Machine}
 use Rattle.observer_core.specs.Leader.{item_step, with_leader}
-use Rattle.observer_core.specs.Play.{play_event, play, primed_session, first_client}
-use Rattle.observer_core.specs.Rows.{client_ping, reply_of_ping, leader_ping, answer_with_first, answer_with_none, connect_frame, request_of_session, inform_of_session, response_of_session}
+use Rattle.observer_core.specs.Apart.{completed_frames, IsClaimed}
+use Rattle.observer_core.specs.Play.{is_serving_clients, play_event, play, primed_session, first_client}
+use Rattle.observer_core.specs.Rows.{claim_frame, session_of_claim, client_ping, reply_of_ping, leader_ping, answer_with_first, answer_with_none, connect_frame, request_of_session, inform_of_session, response_of_session}
 use Rattle.observer_core.proofs.Rows.{earlier_machine, ReadAgain, NobodyTold, start, one_packet, packet_of, one_frame, pending_at, idle_at, served_at, handled_at, open_with, at_first, heard, nobody_yet, first_timeout, joined_first, world_with, world_at, beginning, led, one_delivered, told, told_by, inform_comes, in_hand, with_connections, frame_served, first_open}
 use Rattle.observer_core.proofs.ForwardedRows.{first_id, IsThird, SessionsStay, id_is, waiting_world, waiting_machine, once_heard, queue_is, one_item_comes}
 
@@ -595,3 +597,47 @@ pub session_is_created : (again : ReadAgain) (nobody : NobodyTold) (settings : S
     ≡ ToLeader request_of_session ∷ ToClient 2 response_of_session ∷ []
 session_is_created again nobody settings earlier three terms secretless =
     session_played settings three terms secretless earlier again nobody
+
+-- ---- a session that is claimed
+
+abbrev claim : List ℕ
+claim = hex_bytes (codes "00000000 0000000000000000 00002710 0300000000000002"
+    ++ codes " 00000010 5c75ddec095bce05f05804d58decb4ec")
+
+abbrev claiming_request : ConnectRequest
+claiming_request = record {
+  protocol_version = pos 0;
+  last_zxid_seen = pos 0;
+  time_out = pos 10000;
+  session_id = second_session;
+  passwd = Some password;
+}
+
+claim_found : items_in frames_of_client (place_at tt claim_frame) ≡ one_frame claim
+unfolding items_within frame_at judged_at
+claim_found = refl
+
+claim_read : connecting_in claim ≡ Ok (record { request = claiming_request; has_byte = false })
+unfolding connect_request buffer_at judged_at
+claim_read = refl
+
+pub claim_names : (n : ℕ) (w : World) → heard_connection n w.clients ≡ Some (idle_connection None)
+    → w.clients.sessions.terms.passwords ≡ Keyed [] → w.replica.learner.last_zxid ≡ pos 0
+    → is_serving_clients w ≡ true → is_live session_of_claim w ≡ true → IsClaimed n w claim_frame session_of_claim
+claim_names n w there keyed zxid serving live = record {
+  frame = claim;
+  others = [];
+  first = ap (λ (o : Option OpenConnection). completed_frames o claim_frame) there
+      ∙ ap (λ (i : Items (Unit {0}) (List ℕ)). i.found) claim_found;
+  claims = record {
+    connect = record { request = claiming_request; has_byte = false };
+    reads = claim_read;
+    may = ap (λ (b : Bool). b && not (int_lt w.replica.learner.last_zxid (pos 0))) serving
+        ∙ ap (λ (z : ℤ). not (int_lt z (pos 0))) zxid;
+    names = refl;
+    nonzero = refl;
+    password = ap (λ (rule : Passwords). bytes_eq password (password_of rule second_session)) keyed
+        ∙ ap (bytes_eq password) password_is;
+    lives = λ _. live;
+  };
+}

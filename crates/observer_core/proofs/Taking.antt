@@ -114,7 +114,7 @@ replies_keep n session = record {
   thens = λ w h next first second has. second (first has);
   stays = λ w has. has;
   closes = λ w a has. closed_has n session w.clients;
-  sends = λ w bytes has. has;
+  sends = λ w bytes shows has. has;
   watches = λ w watch a has. has;
   unwatches = λ w kind path a has. has;
   shows = λ w id a has here. id_keeps w.clients.sessions n id session (has here);
@@ -122,7 +122,7 @@ replies_keep n session = record {
 
 calls_keep : (n : ℕ) (session : ℤ) → HoldsOfCalls n Always (λ own. Unit {0}) (KeepsSession n session)
 calls_keep n session = record {
-  touches = λ w touched a has. has;
+  touches = λ w touched own a has. has;
   leaves = λ w k there a has here. has (ap is_some there);
   writes = λ w own frame xid kind mine a has. has;
   syncs = λ w own frame xid path mine a has. has;

@@ -26,7 +26,7 @@ replies_same n = record {
   thens = λ w h next first second. second ∙ first;
   stays = λ w. refl;
   closes = λ w a. refl;
-  sends = λ w bytes. refl;
+  sends = λ w bytes shows. refl;
   watches = λ w watch a. refl;
   unwatches = λ w kind path a. refl;
   shows = λ w id a. refl;
@@ -34,7 +34,7 @@ replies_same n = record {
 
 calls_same : (n : ℕ) → HoldsOfCalls n Always (λ session. Unit {0}) LeavesReplica
 calls_same n = record {
-  touches = λ w session a. refl;
+  touches = λ w session own a. refl;
   leaves = λ w k there a. refl;
   writes = λ w session frame xid kind own a. refl;
   syncs = λ w session frame xid path own a. refl;
@@ -97,4 +97,4 @@ all_same = record {
 
 -- Answering clients leaves the replica.
 pub news_same : (o : Option LeaderNews) (w : World) → SameReplica w (answer_news o w).after
-news_same o w = (news_make ⊥ Always LeavesReplica all_same o w tt).is
+news_same o w = (news_make ⊥ Always LeavesReplica all_same (λ n w bytes. refl) o w tt).is

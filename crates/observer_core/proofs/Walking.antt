@@ -1,8 +1,7 @@
 -- What a connection's small steps keep, its frames keep.
-use Rattle.std.proofs.Common.{◌≡◌, ◌≢◌, ◌⊎◌, inl, inr, ℕ, ◌+◌, ◌==◌, ℤ, pos, negsuc, Bool, true, false, cond, not, ◌||◌, ◌&&◌, List, [], ◌∷◌, ◌++◌, length, Option, Some, None, Result, Ok, Err, refl, sym, ap, ◌∙◌}
+use Rattle.std.proofs.Common.{◌≡◌, ◌≢◌, inl, inr, ℕ, ◌==◌, ℤ, pos, negsuc, Bool, true, false, cond, not, ◌&&◌, List, [], ◌∷◌, ◌++◌, length, Option, Some, None, Result, Ok, Err, refl, sym, ap, ◌∙◌}
 use Rattle.std.specs.Prelude.{is_some, nat_lt}
-use Rattle.std.specs.Ordering.{eq_by_cmp, nat_cmp, int_eq}
-use Rattle.std.specs.Cmp.{nat_cmp_total}
+use Rattle.std.specs.Ordering.{int_eq}
 use Rattle.std.proofs.lemmas.Bool.{cond_both}
 use Rattle.std.specs.Option.{unwrap_or}
 use Rattle.std.specs.FinMap as finmap
@@ -11,7 +10,7 @@ use Rattle.values.specs.declared.fault.Fault.{Fault}
 use Rattle.jute.specs.Stream.{Unread, items_in, place_at}
 use Rattle.jute.specs.declared.owned.Id.{Id}
 use Rattle.jute.specs.declared.codes.TheConstants.{BAD_ARGUMENTS}
-use Rattle.client_records.specs.declared.codes.TheConstants.{OK, UNIMPLEMENTED, AUTH_FAILED, NOT_READ_ONLY, PING_XID, NOTIFICATION_XID}
+use Rattle.client_records.specs.declared.codes.TheConstants.{NO_WATCHER, OK, UNIMPLEMENTED, AUTH_FAILED, NOT_READ_ONLY, PING_XID, NOTIFICATION_XID}
 use Rattle.client_records.specs.declared.request.AuthPacket.{AuthPacket}
 use Rattle.client_frames.specs.declared.call.Call.{Call}
 use Rattle.client_frames.specs.declared.call.CallBody.{CallBody}
@@ -20,178 +19,40 @@ use Rattle.client_frames.specs.declared.call.LocalCall.{LocalCall}
 use Rattle.client_frames.specs.declared.call.LocalCall.TheVariants as locals
 use Rattle.client_frames.specs.declared.connecting.Connecting.{Connecting}
 use Rattle.client_frames.specs.Connect.{connecting_in, session_request_of, answer_to_connect}
-use Rattle.sessions.specs.State.{SessionTable as Sessions, ConnectedClient as Joined}
-use Rattle.sessions.specs.Credentials.{session_id_of, digest_id}
-use Rattle.sessions.specs.Sessions.{session_in, session_of_connection, connection_of, ids_of, greatest_counter, claimed_session, is_valid, ConnectResult, session_response, refusal_response, refused_connect, give_session, name_session, connect_session, AuthResult, add_id, super_id, is_super_digest, add_digest, digest_text, auth_by, add_auth}
+use Rattle.sessions.specs.State.{SessionTable as Sessions}
+use Rattle.sessions.specs.Credentials.{digest_id}
+use Rattle.sessions.specs.Sessions.{session_of_connection, connection_of, ids_of, greatest_counter, claimed_session, is_valid, ConnectResult, session_response, refusal_response, refused_connect, give_session, name_session, connect_session, AuthResult, add_id, super_id, is_super_digest, add_digest, digest_text, auth_by, add_auth}
 use Rattle.sessions.specs.declared.request.SessionResponse.{SessionResponse}
-use Rattle.forwarding.specs.declared.request.ConnectKind.TheVariants.{New, Claimed}
-use Rattle.forwarding.specs.declared.request.PendingConnect.{PendingConnect}
 use Rattle.forwarding.specs.declared.request.WriteKind.{WriteKind}
-use Rattle.forwarding.specs.Queue.{RequestQueue, is_close, waiting_connect}
+use Rattle.forwarding.specs.Queue.{is_close}
 use Rattle.forwarding.specs.State.{PendingTable}
-use Rattle.forwarding.specs.Pending.{queue_in, queue_of, is_idle, is_full, connecting_to, push_connect, push_write, push_sync, hold_frame, touch_session, drop_connection}
-use Rattle.learner_sync.specs.Answers.{session_request}
+use Rattle.forwarding.specs.Pending.{is_idle, is_full, connecting_to, push_write, hold_frame, touch_session}
 use Rattle.settings.specs.Dialects.{reads_of}
 use Rattle.read_processor.specs.declared.watch.Watch.{Watch}
 use Rattle.read_processor.specs.declared.renewal.Renewal.{Renewal}
-use Rattle.read_processor.specs.declared.shown.Look.{Look}
 use Rattle.read_processor.specs.Look.{look_at_state, without_body}
 use Rattle.read_processor.specs.Watch.{watch_of, watch_to_add, look_of_added, watch_sought}
 use Rattle.read_processor.specs.Renewal.{renew_watches, renew_all_watches}
-use Rattle.read_processor.specs.LaterReads.{look_at_ephemerals, look_below, look_at_ids, look_of_sasl}
-use Rattle.read_processor.specs.MultiReads.{look_at_parts}
+use Rattle.read_processor.specs.LaterReads.{look_at_ids, look_of_sasl}
 use Rattle.watch_manager.specs.Kinds.{without_watch}
-use Rattle.watch_manager.specs.declared.kind.WatchKind.{WatchKind}
 use Rattle.read_processor.specs.declared.watch.SoughtWatch.{SoughtWatch}
 use Rattle.read_processor.specs.Reply.{reply_frame}
 use Rattle.read_processor.specs.Events.{look_of_event}
 use Rattle.watch_manager.specs.declared.event.Event.{Event}
 use Rattle.four_letter.specs.Texts.{reply_text}
 use Rattle.four_letter.specs.declared.word.Word.{Word}
-use Rattle.world.specs.declared.output.Output.TheVariants.{ToClient}
 use Rattle.world.specs.World.{OpenConnection, World}
 use Rattle.world.specs.Steps.{StepResult, no_output, and_then, fold_steps}
-use Rattle.world.specs.Clients.{is_open, heard_in, heard_connection, with_connection, sent_to, notice_to, notices_to}
-use Rattle.world.specs.Sending.{to_leader, close_client, send_or_close, send_last, send_reply, with_watches, with_sessions, with_pending, close_client_if_some}
+use Rattle.world.specs.Clients.{heard_in, heard_connection, sent_to, notice_to, notices_to}
+use Rattle.world.specs.Sending.{close_client, send_or_close, send_last, send_reply, with_watches, with_sessions, with_pending, close_client_if_some}
 use Rattle.client_service.specs.LaterReads.{answer_sasl, unreadable_error, answer_unreadable, unknown_zxid}
-use Rattle.client_service.specs.Serve.{with_watch, with_watch_if, with_each_watch, answer_set_watches, answer_add_watch, has_sought_watch, look_of_sought, answer_check_watches, answer_remove_watches, answer_auth, touched_as, touch_client, send_auth_result, send_connect_response, ask_for_session, close_others, ask_about_session, claim_session, claim_or_refuse, is_claim, is_new_session, finish_connect, may_connect, is_live, connect_client, call_of, handle_connect, handle_local, forward_frame, with_leaving, handle_call, serve_as, serve_by, header_len, is_refused_frame, serve_frame, figures_of, word_at, is_unheard, with_waiting_bytes, wait_if_heard, wait_at, frames_of_client, tell_or_serve, take_client_bytes}
+use Rattle.client_service.specs.Serve.{with_watch, with_watch_if, with_each_watch, answer_set_watches, answer_add_watch, has_sought_watch, look_of_sought, answer_check_watches, answer_remove_watches, answer_auth, touched_as, touch_client, send_auth_result, send_connect_response, close_others, ask_about_session, claim_session, claim_or_refuse, is_claim, is_new_session, finish_connect, may_connect, is_live, call_of, handle_connect, handle_local, forward_frame, with_leaving, handle_call, serve_as, serve_by, header_len, is_refused_frame, serve_frame, figures_of, word_at, is_unheard, with_waiting_bytes, wait_if_heard, wait_at, frames_of_client, tell_or_serve, take_client_bytes}
 use Rattle.world.proofs.NatMaps.{get-inserted, get-kept}
 use Rattle.observer_core.proofs.Passing.{closed_none}
 pub use Rattle.observer_core.proofs.Idle.{first_false, first_true, none_is, no_session, idle_queue, idle_connect, idle_if_closed, heard_there}
-
-abbrev pub IsOpen : ℕ → World → Type 0
-IsOpen n w = is_open n w.clients ≡ true
-
--- A relation between a world and a step that is made in it.
-abbrev pub Steps : Type 1
-Steps = World → StepResult World → Type 0
-
-abbrev pub HasNone : ℕ → World → Type 0
-HasNone n w = finmap.get w.clients.sessions.connections n ≡ None
-
-abbrev pub NoConnect : ℕ → World → Type 0
-NoConnect n w = waiting_connect (queue_of w.clients.pending n) ≡ None
-
--- The connection has the session that it is given, and an older one of the session is closed.
-abbrev pub given : ℕ → World → ℤ → ℤ → StepResult World
-given n w session time_out =
-    let c = give_session w.clients.sessions n session time_out in
-    close_client_if_some (with_sessions w c.after) c.connected.older
-
--- The next counter is used, and the id that it gives.
-abbrev pub counted : World → World
-counted w = with_sessions w (record w.clients.sessions { counter = w.clients.sessions.counter + 1 })
-
-abbrev pub next_id : World → ℤ
-next_id w = session_id_of w.clients.sessions.terms.server_id (w.clients.sessions.counter + 1)
-
--- The connect waits for its session.
-abbrev pub with_connect : ℕ → World → PendingConnect → World
-with_connect n w connect = with_pending w (push_connect w.clients.pending n connect)
-
-abbrev pub new_connect : ℤ → ℤ → Bool → PendingConnect
-new_connect session time_out has_byte =
-    record { kind = New; session = session; time_out = time_out; has_read_only = has_byte }
-
-abbrev pub claiming : ℤ → ℤ → Bool → PendingConnect
-claiming session time_out has_byte =
-    record { kind = Claimed; session = session; time_out = time_out; has_read_only = has_byte }
-
--- The leader is asked for a session, and the connect waits for it.
-abbrev pub asked_for : ℕ → World → ℤ → ℤ → Bool → StepResult World
-asked_for n w session time_out has_byte = record {
-  outputs = to_leader (session_request session time_out) ∷ [];
-  after = with_connect n w (new_connect session time_out has_byte);
-}
-
--- The connection has the session, or its connect waits for it.
-abbrev pub IsWith : ℤ → ℕ → World → Type 0
-IsWith session k w =
-    (connection_of w.clients.sessions session ≡ Some k) ⊎ (connecting_to w.clients.pending session ≡ Some k)
-
--- Sessions move between servers.
-abbrev pub SessionsMove : World → Type 0
-SessionsMove w = (reads_of w.settings.dialect).moved_sessions ≡ true
-
--- Connection n's small steps keep `A`, which is known of every world on the way. Where `Strict` holds they may require
--- that the connection is open, or has no session.
-pub record IsGround (n : ℕ) (Strict : Type 0) (A : World → Type 0) : Type 0 where
-  pub closes : (k : ℕ) (w : World) → A w → A (close_client k w).after
-  pub watches : (w : World) (watch : Watch) → (Strict → IsOpen n w) → A w
-      → A (with_watches w (with_watch n w.clients.watches watch))
-  pub unwatches : (w : World) (kind : WatchKind) (path : List ℕ) → A w
-      → A (with_watches w (without_watch kind n path w.clients.watches))
-  pub shows : (w : World) (id : Id) → (Strict → IsOpen n w) → A w
-      → A (with_sessions w (add_id w.clients.sessions n id).after)
-  pub touches : (w : World) (session : ℤ) → A w → A (with_pending w (touch_session w.clients.pending session))
-  pub opens : (w : World) (k : OpenConnection) → A w → A (record w { clients = with_connection n k w.clients })
-  pub writes : (w : World) (xid : ℤ) (kind : WriteKind) → is_full w.clients.pending n ≡ false → (Strict → IsOpen n w)
-      → A w → A (with_pending w (push_write w.clients.pending n xid kind))
-  pub syncs : (w : World) (xid : ℤ) (path : List ℕ) → is_full w.clients.pending n ≡ false → (Strict → IsOpen n w)
-      → A w → A (with_pending w (push_sync w.clients.pending n xid path))
-  pub holds : (w : World) (frame : List ℕ) → is_full w.clients.pending n ≡ false
-      → is_idle w.clients.pending n ≡ false → A w → A (with_pending w (hold_frame w.clients.pending n frame))
-  pub counts : (w : World) → HasNone n w → (w.clients.sessions.counter == greatest_counter) ≡ false → A w
-      → A (with_sessions w (record w.clients.sessions { counter = w.clients.sessions.counter + 1 }))
-  pub gives : (w : World) (session time_out : ℤ) → (Strict → HasNone n w) → NoConnect n w → (Strict → IsOpen n w)
-      → A w → A (given n w session time_out).after
-  pub asks : (w : World) (connect : PendingConnect) → HasNone n w → is_idle w.clients.pending n ≡ true
-      → (Strict → connecting_to w.clients.pending connect.session ≡ None) → (Strict → IsOpen n w) → A w
-      → A (with_connect n w connect)
-  -- A connection that has a session, or waits for one, isn't one that has none and waits for nothing; and no two wait for
-  -- one session.
-  pub others : (w : World) (session : ℤ) (k : ℕ) → Strict → A w → HasNone n w → is_idle w.clients.pending n ≡ true
-      → IsWith session k w → k ≢ n
-  pub alone : (w : World) (session : ℤ) (k : ℕ) → Strict → A w → connecting_to w.clients.pending session ≡ Some k
-      → connecting_to (drop_connection w.clients.pending k) session ≡ None
-
--- The relation holds of connection n's small steps that answer, and of one step after another.
-pub record HoldsOfReplies (n : ℕ) (A : World → Type 0) (Q : Steps) : Type 0 where
-  pub thens : (w : World) (h : StepResult World) (next : World → StepResult World) → Q w h → Q h.after (next h.after)
-      → Q w (and_then h next)
-  pub stays : (w : World) → Q w (no_output w)
-  pub closes : (w : World) → A w → Q w (close_client n w)
-  pub sends : (w : World) (bytes : List ℕ) → Q w (record { outputs = ToClient n bytes ∷ []; after = w })
-  pub watches : (w : World) (watch : Watch) → A w
-      → Q w (no_output (with_watches w (with_watch n w.clients.watches watch)))
-  pub unwatches : (w : World) (kind : WatchKind) (path : List ℕ) → A w
-      → Q w (no_output (with_watches w (without_watch kind n path w.clients.watches)))
-  pub shows : (w : World) (id : Id) → A w → Q w (no_output (with_sessions w (add_id w.clients.sessions n id).after))
-
--- The same for the steps that forward a request of a session of its own, or hold one.
-pub record HoldsOfCalls (n : ℕ) (A : World → Type 0) (Own : ℤ → Type 0) (Q : Steps) : Type 0 where
-  pub touches : (w : World) (session : ℤ) → A w
-      → Q w (no_output (with_pending w (touch_session w.clients.pending session)))
-  pub leaves : (w : World) (k : OpenConnection) → finmap.get w.clients.connections n ≡ Some k → A w
-      → Q w (no_output (record w { clients = with_connection n (record k { is_leaving = true }) w.clients }))
-  pub writes : (w : World) (session : ℤ) (frame : List ℕ) (xid : ℤ) (kind : WriteKind) → Own session → A w
-      → Q w (forward_frame n session w frame (push_write w.clients.pending n xid kind))
-  pub syncs : (w : World) (session : ℤ) (frame : List ℕ) (xid : ℤ) (path : List ℕ) → Own session → A w
-      → Q w (forward_frame n session w frame (push_sync w.clients.pending n xid path))
-  pub holds : (w : World) (frame : List ℕ) → is_idle w.clients.pending n ≡ false → A w
-      → Q w (no_output (with_pending w (hold_frame w.clients.pending n frame)))
-
--- The same for the steps of a connect, which may take up a session of which `May` holds: each that lives. Every session
--- is the connection's own.
-pub record HoldsOfConnects (n : ℕ) (A : World → Type 0) (Own : ℤ → Type 0) (May : World → ℤ → Type 0) (Q : Steps) : Type 0 where
-  pub own : (session : ℤ) → Own session
-  pub counts : (w : World) → HasNone n w → A w → Q w (no_output (counted w))
-  pub gives : (w : World) (session time_out : ℤ) → NoConnect n w → May w session → A w
-      → Q w (given n w session time_out)
-  -- A counter is used, and the leader is asked for the session with its id.
-  pub asks : (w : World) (time_out : ℤ) (has_byte : Bool) → HasNone n w → is_idle w.clients.pending n ≡ true → A w
-      → A (counted w) → Q w (asked_for n (counted w) (next_id w) time_out has_byte)
-  -- Where sessions move, a client claims a session: the connections that have it, or wait for it, are closed, and the
-  -- leader is asked about it.
-  pub displaces : (w : World) (session : ℤ) (k : ℕ) → IsWith session k w → A w → Q w (close_client k w)
-  pub claims : (w : World) (has_byte : Bool) (response : SessionResponse) → SessionsMove w → HasNone n w
-      → is_idle w.clients.pending n ≡ true → A w → Q w (ask_about_session n has_byte response w)
-  pub may : (w : World) (session : ℤ) → is_live session w ≡ true → May w session
-
--- The step keeps `A`, and the relation holds of it.
-pub record Makes (A : World → Type 0) (Q : Steps) (w : World) (h : StepResult World) : Type 0 where
-  pub keeps : A h.after
-  pub is : Q w h
+use Rattle.observer_core.specs.Shown.{TreeRead, OfRequest, OfParts, OfEphemerals, OfNumber, look_in, OfError, OfAdded, OfIds, OfSasl, is_plain, IsLastOrNone}
+use Rattle.observer_core.proofs.Sent.{read_reply, plain_reply, error_reply, unknown_named, unreadable_plain, sought_plain, notice_shows, connect_shows, word_shows}
+pub use Rattle.observer_core.proofs.Stepping.{IsOpen, Steps, HasNone, NoConnect, given, counted, next_id, with_connect, new_connect, claiming, asked_for, IsWith, SessionsMove, IsGround, HoldsOfReplies, HoldsOfCalls, HoldsOfConnects, Makes, ShowsNow, MaySend, sent_bytes, HoldsOfTxn}
 
 -- ---- connections that are open
 
@@ -229,13 +90,13 @@ module _ (n : ℕ) (Strict : Type 0) (A : World → Type 0) (Q : Steps) (ground 
   pub close_makes : (w : World) → A w → Makes A Q w (close_client n w)
   close_makes w a = record { keeps = ground.closes n w a; is = r.closes w a }
 
-  pub send_makes : (w : World) (frame : Option (List ℕ)) → A w → Makes A Q w (send_or_close n w frame)
-  send_makes w None a = close_makes w a
-  send_makes w (Some bytes) a = record { keeps = a; is = r.sends w bytes }
+  pub send_makes : (w : World) (frame : Option (List ℕ)) → MaySend w frame → A w → Makes A Q w (send_or_close n w frame)
+  send_makes w None may a = close_makes w a
+  send_makes w (Some bytes) may a = record { keeps = a; is = r.sends w bytes (may bytes refl) }
 
-  pub send_last_makes : (w : World) (frame : Option (List ℕ)) → A w → Makes A Q w (send_last n w frame)
-  send_last_makes w frame a =
-      then_makes w (send_or_close n w frame) (close_client n) (send_makes w frame a)
+  pub send_last_makes : (w : World) (frame : Option (List ℕ)) → MaySend w frame → A w → Makes A Q w (send_last n w frame)
+  send_last_makes w frame may a =
+      then_makes w (send_or_close n w frame) (close_client n) (send_makes w frame may a)
       (close_makes (send_or_close n w frame).after)
 
   -- ---- watches
@@ -258,36 +119,55 @@ module _ (n : ℕ) (Strict : Type 0) (A : World → Type 0) (Q : Steps) (ground 
   watch_if_makes w None here a = stay_makes w a
   watch_if_makes w (Some watch) here a = watch_makes w watch here a
 
+  -- A reply that has only an error, or none.
+  error_makes : (w : World) (xid zxid error : ℤ) → is_plain (OfError error) ≡ true → IsLastOrNone w.replica zxid → A w
+      → Makes A Q w (send_or_close n w (reply_frame xid zxid (without_body error)))
+  error_makes w xid zxid error plain named a =
+      send_makes w (reply_frame xid zxid (without_body error)) (error_reply w xid zxid error plain named) a
+
+  last_error_makes : (w : World) (xid zxid error : ℤ) → is_plain (OfError error) ≡ true → IsLastOrNone w.replica zxid
+      → A w
+      → Makes A Q w (send_last n w (reply_frame xid zxid (without_body error)))
+  last_error_makes w xid zxid error plain named a =
+      send_last_makes w (reply_frame xid zxid (without_body error)) (error_reply w xid zxid error plain named) a
+
   -- A request whose body can't be read.
   unread_makes : (w : World) (xid : ℤ) → A w → Makes A Q w (answer_unreadable n w xid)
   unread_makes w xid a =
-      send_makes w (reply_frame xid w.replica.learner.last_zxid (without_body (unreadable_error w.settings.dialect))) a
+      error_makes w xid w.replica.learner.last_zxid (unreadable_error w.settings.dialect)
+      (unreadable_plain w.settings.dialect) (inl refl) a
 
   checked_makes : (w : World) (xid : ℤ) (o : Option SoughtWatch) → A w
       → Makes A Q w (answer_check_watches n w xid o)
   checked_makes w xid None a = unread_makes w xid a
   checked_makes w xid (Some sought) a =
-      send_makes w (reply_frame xid w.replica.learner.last_zxid (look_of_sought (has_sought_watch n w sought))) a
+      let is_there = has_sought_watch n w sought in
+      error_makes w xid w.replica.learner.last_zxid (cond is_there OK NO_WATCHER) (sought_plain is_there)
+      (inl refl) a
 
   removed_makes : (w : World) (xid : ℤ) (o : Option SoughtWatch) → A w
       → Makes A Q w (answer_remove_watches n w xid o)
   removed_makes w xid None a = unread_makes w xid a
   removed_makes w xid (Some sought) a =
-      let frame = reply_frame xid w.replica.learner.last_zxid (look_of_sought (has_sought_watch n w sought)) in
+      let is_there = has_sought_watch n w sought in
+      let zxid = w.replica.learner.last_zxid in
       let v = with_watches w (without_watch sought.kind n sought.path w.clients.watches) in
-      then_makes w (no_output v) (λ u. send_or_close n u frame)
+      then_makes w (no_output v) (λ u. send_or_close n u (reply_frame xid zxid (look_of_sought is_there)))
       (record {
         keeps = ground.unwatches w sought.kind sought.path a;
         is = r.unwatches w sought.kind sought.path a;
       })
-      (send_makes v frame)
+      (error_makes v xid zxid (cond is_there OK NO_WATCHER) (sought_plain is_there) (inl refl))
 
   notice_makes : (w : World) (event : Event) → A w → Makes A Q w (record { outputs = notice_to n event; after = w })
-  notice_makes w event a = by (reply_frame NOTIFICATION_XID (negsuc 0) (look_of_event event))
+  notice_makes w event a = by frame (notice_shows w event)
     where
-      by : (frame : Option (List ℕ)) → Makes A Q w (record { outputs = sent_to n frame; after = w })
-      by None = stay_makes w a
-      by (Some bytes) = send_makes w (Some bytes) a
+      frame : Option (List ℕ)
+      frame = reply_frame NOTIFICATION_XID (negsuc 0) (look_of_event event)
+
+      by : (frame : Option (List ℕ)) → MaySend w frame → Makes A Q w (record { outputs = sent_to n frame; after = w })
+      by None may = stay_makes w a
+      by (Some bytes) may = send_makes w (Some bytes) may a
 
   notices_make : (w : World) (events : List Event) → A w
       → Makes A Q w (record { outputs = notices_to n events; after = w })
@@ -298,31 +178,34 @@ module _ (n : ℕ) (Strict : Type 0) (A : World → Type 0) (Q : Steps) (ground 
 
   renewed_makes : (w : World) (xid : ℤ) (r : Option Renewal) → (Strict → IsOpen n w) → A w
       → Makes A Q w (answer_set_watches n w xid r)
-  renewed_makes w xid None here a =
-      send_makes w (reply_frame xid w.replica.learner.last_zxid (without_body BAD_ARGUMENTS)) a
+  renewed_makes w xid None here a = error_makes w xid w.replica.learner.last_zxid BAD_ARGUMENTS refl (inl refl) a
   renewed_makes w xid (Some r) here a =
-      let frame = reply_frame xid w.replica.learner.last_zxid (without_body OK) in
+      let zxid = w.replica.learner.last_zxid in
+      let frame = reply_frame xid zxid (without_body OK) in
       let v = with_watches w (with_each_watch n w.clients.watches r.watches) in
       then_makes w (record { outputs = notices_to n r.events; after = w })
       (λ u. and_then (no_output (with_watches u (with_each_watch n u.clients.watches r.watches)))
       (λ x. send_or_close n x frame))
       (notices_make w r.events a)
       (λ b. then_makes w (no_output v) (λ x. send_or_close n x frame) (watch_each_makes w r.watches here b)
-      (send_makes v frame))
+      (error_makes v xid zxid OK refl (inl refl)))
 
   added_makes : (w : World) (xid : ℤ) (o : Option Watch) → (Strict → IsOpen n w) → A w
       → Makes A Q w (answer_add_watch n w xid o)
   added_makes w xid None here a = unread_makes w xid a
   added_makes w xid (Some watch) here a =
-      let frame = reply_frame xid w.replica.learner.last_zxid (look_of_added w.settings.dialect) in
+      let zxid = w.replica.learner.last_zxid in
+      let frame = reply_frame xid zxid (look_of_added w.settings.dialect) in
       let v = with_watches w (with_watch n w.clients.watches watch) in
-      then_makes w (no_output v) (λ u. send_or_close n u frame) (watch_makes w watch here a) (send_makes v frame)
+      then_makes w (no_output v) (λ u. send_or_close n u frame) (watch_makes w watch here a)
+      (send_makes v frame (plain_reply v xid zxid (OfAdded w.settings.dialect) refl (inl refl)))
 
-  read_makes : (w : World) (xid : ℤ) (watch : Option Watch) (frame : Option (List ℕ)) → (Strict → IsOpen n w) → A w
-      → Makes A Q w (send_or_close n (with_watches w (with_watch_if n w.clients.watches watch)) frame)
-  read_makes w xid watch frame here a =
+  read_makes : (w : World) (watch : Option Watch) (frame : Option (List ℕ)) → MaySend w frame → (Strict → IsOpen n w)
+      → A w → Makes A Q w (send_or_close n (with_watches w (with_watch_if n w.clients.watches watch)) frame)
+  read_makes w watch frame may here a =
       let v = with_watches w (with_watch_if n w.clients.watches watch) in
-      then_makes w (no_output v) (λ u. send_or_close n u frame) (watch_if_makes w watch here a) (send_makes v frame)
+      then_makes w (no_output v) (λ u. send_or_close n u frame) (watch_if_makes w watch here a)
+      (send_makes v frame may)
 
   -- ---- ids
 
@@ -368,8 +251,8 @@ module _ (n : ℕ) (Strict : Type 0) (A : World → Type 0) (Q : Steps) (ground 
           (send_last n u (reply_frame xid (pos 0) (without_body AUTH_FAILED)))
 
       by : (b : Bool) → A v → Makes A Q v (answered v b)
-      by true b = send_makes v (reply_frame xid (pos 0) (without_body OK)) b
-      by false b = send_last_makes v (reply_frame xid (pos 0) (without_body AUTH_FAILED)) b
+      by true b = error_makes v xid (pos 0) OK refl (inr (inl refl)) b
+      by false b = last_error_makes v xid (pos 0) AUTH_FAILED refl (inr (inl refl)) b
 
   auth_makes : (w : World) (xid : ℤ) (o : Option AuthPacket) → (Strict → IsOpen n w) → A w
       → Makes A Q w (answer_auth n w xid o)
@@ -378,14 +261,18 @@ module _ (n : ℕ) (Strict : Type 0) (A : World → Type 0) (Q : Steps) (ground 
 
   -- ---- requests that are answered here
 
-  shown_look_makes : (w : World) (xid : ℤ) (seen : Look) → A w → Makes A Q w (send_reply n w xid seen)
-  shown_look_makes w xid seen a = send_makes w (reply_frame xid w.replica.learner.last_zxid seen) a
+  look_makes : (w : World) (xid : ℤ) (read : TreeRead) → A w
+      → Makes A Q w (send_reply n w xid (look_in w.replica.tree read))
+  look_makes w xid read a =
+      send_makes w (reply_frame xid w.replica.learner.last_zxid (look_in w.replica.tree read)) (read_reply w xid read) a
 
   pub local_makes : (w : World) (xid : ℤ) (c : LocalCall) → (Strict → IsOpen n w) → A w
       → Makes A Q w (handle_local n w xid c)
   local_makes w xid (locals.Read r) here a =
-      let seen = look_at_state w.replica.tree (ids_of w.clients.sessions n) r in
-      read_makes w xid (watch_of r seen.error) (reply_frame xid w.replica.learner.last_zxid seen) here a
+      let ids = ids_of w.clients.sessions n in
+      let seen = look_at_state w.replica.tree ids r in
+      read_makes w (watch_of r seen.error) (reply_frame xid w.replica.learner.last_zxid seen)
+      (read_reply w xid (OfRequest ids r)) here a
   local_makes w xid (locals.SetWatches r) here a =
       renewed_makes w xid (renew_watches w.settings.dialect w.replica.tree r) here a
   local_makes w xid (locals.SetWatches2 r) here a =
@@ -394,34 +281,40 @@ module _ (n : ℕ) (Strict : Type 0) (A : World → Type 0) (Q : Steps) (ground 
   local_makes w xid (locals.CheckWatches r) here a = checked_makes w xid (watch_sought r) a
   local_makes w xid (locals.RemoveWatches r) here a = removed_makes w xid (watch_sought r) a
   local_makes w xid (locals.MultiRead parts) here a =
-      shown_look_makes w xid (look_at_parts w.replica.tree (ids_of w.clients.sessions n) parts) a
+      look_makes w xid (OfParts (ids_of w.clients.sessions n) parts) a
   local_makes w xid (locals.GetEphemerals r) here a =
       let session = unwrap_or (session_of_connection w.clients.sessions n) (pos 0) in
-      shown_look_makes w xid (look_at_ephemerals w.replica.tree session r.path) a
+      look_makes w xid (OfEphemerals session r.path) a
   local_makes w xid (locals.GetAllChildrenNumber r) here a =
-      shown_look_makes w xid (look_below w.replica.tree (ids_of w.clients.sessions n) r.path) a
-  local_makes w xid locals.WhoAmI here a = shown_look_makes w xid (look_at_ids (ids_of w.clients.sessions n)) a
+      look_makes w xid (OfNumber (ids_of w.clients.sessions n) r.path) a
+  local_makes w xid locals.WhoAmI here a =
+      let ids = ids_of w.clients.sessions n in
+      let zxid = w.replica.learner.last_zxid in
+      send_makes w (reply_frame xid zxid (look_at_ids ids)) (plain_reply w xid zxid (OfIds ids) refl (inl refl)) a
   local_makes w xid (locals.Sasl r) here a = by r.token
     where
       by : (token : Option (List ℕ)) → Makes A Q w (answer_sasl n w xid token)
       by None = close_makes w a
-      by (Some token) = send_makes w (reply_frame xid (pos 0) look_of_sasl) a
-  local_makes w xid locals.InvalidPath here a = shown_look_makes w xid (without_body BAD_ARGUMENTS) a
+      by (Some token) =
+          send_makes w (reply_frame xid (pos 0) look_of_sasl) (plain_reply w xid (pos 0) OfSasl refl (inr (inl refl))) a
+  local_makes w xid locals.InvalidPath here a =
+      error_makes w xid w.replica.learner.last_zxid BAD_ARGUMENTS refl (inl refl) a
   local_makes w xid locals.Unreadable here a = unread_makes w xid a
   local_makes w xid locals.Ping here a =
-      send_makes w (reply_frame PING_XID w.replica.learner.last_zxid (without_body OK)) a
+      error_makes w PING_XID w.replica.learner.last_zxid OK refl (inl refl) a
   local_makes w xid locals.Refused here a =
-      send_makes w (reply_frame xid w.replica.learner.last_zxid (without_body NOT_READ_ONLY)) a
+      error_makes w xid w.replica.learner.last_zxid NOT_READ_ONLY refl (inl refl) a
   local_makes w xid locals.Unknown here a =
       let zxid = unknown_zxid w.settings.dialect w.replica.learner.last_zxid in
-      send_last_makes w (reply_frame xid zxid (without_body UNIMPLEMENTED)) a
+      last_error_makes w xid zxid UNIMPLEMENTED refl (unknown_named w w.settings.dialect) a
 
   pub greet_makes : (w : World) (has_byte : Bool) (response : SessionResponse) → A w
       → Makes A Q w (send_connect_response n has_byte response w)
   greet_makes w has_byte response a =
       let frame = Some (answer_to_connect response has_byte) in
-      cond_both (int_eq response.session_id (pos 0)) _ _ (Makes A Q w) (λ _. send_last_makes w frame a)
-      (λ _. send_makes w frame a)
+      let may = connect_shows w response has_byte in
+      cond_both (int_eq response.session_id (pos 0)) _ _ (Makes A Q w) (λ _. send_last_makes w frame may a)
+      (λ _. send_makes w frame may a)
 
   -- ---- requests for the leader
 
@@ -480,30 +373,27 @@ module _ (n : ℕ) (Strict : Type 0) (A : World → Type 0) (Q : Steps) (ground 
     serve_as_makes w session frame (Ok c) own room here a = call_makes w session frame c.xid c.body own room here a
     serve_as_makes w session frame (Err e) own room here a = close_makes w a
 
-    touch_makes : (w : World) (session : ℤ) → A w
-        → Makes A Q w (no_output (with_pending w (touch_session w.clients.pending session)))
-    touch_makes w session a = record { keeps = ground.touches w session a; is = q.touches w session a }
-
-    touched_makes : (w : World) (o : Option ℤ) → A w → Makes A Q w (no_output (touched_as w o))
-    touched_makes w None a = stay_makes w a
-    touched_makes w (Some session) a = touch_makes w session a
-
-    -- A connection is served after its session was touched.
-    pub touched_first : (w : World) (next : World → StepResult World)
-        → ((p : PendingTable) → p.queues ≡ w.clients.pending.queues → A (with_pending w p)
-        → Makes A Q (with_pending w p) (next (with_pending w p)))
-        → A w → Makes A Q w (next (touch_client n w))
-    touched_first w next then a = by (session_of_connection w.clients.sessions n)
-      where
-        by : (o : Option ℤ) → Makes A Q w (next (touched_as w o))
-        by None = then w.clients.pending refl a
-        by (Some session) =
-            let p = touch_session w.clients.pending session in
-            then_makes w (no_output (with_pending w p)) next (touch_makes w session a) (then p refl)
-
     -- ---- connects
 
     module _ (May : World → ℤ → Type 0) (c : HoldsOfConnects n A Own May Q) where
+      touch_makes : (w : World) (session : ℤ) → A w
+          → Makes A Q w (no_output (with_pending w (touch_session w.clients.pending session)))
+      touch_makes w session a =
+          record { keeps = ground.touches w session a; is = q.touches w session (c.own session) a }
+
+      -- A connection is served after its session was touched.
+      touched_first : (w : World) (next : World → StepResult World)
+          → ((p : PendingTable) → p.queues ≡ w.clients.pending.queues → A (with_pending w p)
+          → Makes A Q (with_pending w p) (next (with_pending w p)))
+          → A w → Makes A Q w (next (touch_client n w))
+      touched_first w next then a = by (session_of_connection w.clients.sessions n)
+        where
+          by : (o : Option ℤ) → Makes A Q w (next (touched_as w o))
+          by None = then w.clients.pending refl a
+          by (Some session) =
+              let p = touch_session w.clients.pending session in
+              then_makes w (no_output (with_pending w p)) next (touch_makes w session a) (then p refl)
+
       pub give_makes : (w : World) (session time_out : ℤ) → (Strict → HasNone n w) → NoConnect n w
           → (Strict → IsOpen n w) → May w session → A w → Makes A Q w (given n w session time_out)
       give_makes w session time_out none free here may a = record {
@@ -790,4 +680,6 @@ module _ (n : ℕ) (Strict : Type 0) (A : World → Type 0) (Q : Steps) (ground 
                 let h = fold_steps (is_unheard n) (serve_frame serving n) v found.found in
                 then_makes v h (wait_at n found.left.unread) (frames_make serving v found.found b)
                 (wait_makes h.after (heard_connection n h.after.clients) found.left.unread)
-            by (Some word) b = send_last_makes v (Some (reply_text word (figures_of serving v))) b
+            by (Some word) b =
+                let figures = figures_of serving v in
+                send_last_makes v (Some (reply_text word figures)) (word_shows v word figures) b

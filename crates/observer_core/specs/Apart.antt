@@ -1,17 +1,20 @@
 -- How far an event of one client reaches.
-use Rattle.std.specs.Prelude.{◌≡◌, ◌≢◌, ◌⊎◌, ℕ, ℤ, Bool, List, Option, Some, None, true}
+use Rattle.std.specs.Prelude.{◌≡◌, ◌≢◌, ◌⊎◌, ℕ, ℤ, pos, Bool, List, [], ◌∷◌, ◌++◌, Option, Some, None, Ok, true, false}
 use Rattle.std.specs.List.{AllByRecursion}
+use Rattle.std.specs.Ordering.{int_eq}
 use Rattle.std.specs.FinMap as finmap
 use Rattle.std.specs.FinSet as set
 use Rattle.observer_core.specs.declared.event.Event.TheVariants.{ClientUp, ClientBytes, ClientEnd}
 use Rattle.data_tree.specs.declared.outcome.TxnResults.{TxnResults}
 use Rattle.world.specs.declared.output.Output.{Output}
 use Rattle.world.specs.declared.output.Output.TheVariants.{ToLeader, ToClient, CloseLeader, CloseClient}
-use Rattle.world.specs.World.{Clients, World}
+use Rattle.world.specs.World.{OpenConnection, Clients, World}
 use Rattle.observer_core.specs.Machine.{Machine}
 use Rattle.watch_manager.specs.Watching.{WatchTables}
-use Rattle.sessions.specs.Sessions.{session_of_connection}
+use Rattle.settings.specs.Dialects.{reads_of}
+use Rattle.sessions.specs.Sessions.{session_of_connection, has_password}
 use Rattle.jute.specs.declared.owned.Id.{Id}
+use Rattle.jute.specs.Stream.{place_at, items_in}
 use Rattle.quorum_packet.specs.Packet.{packet_format}
 use Rattle.learner_sync.specs.Answers.{request_of, session_request, session_question}
 use Rattle.txn_codec.specs.declared.txn.Txn.{Txn}
@@ -23,11 +26,15 @@ use Rattle.forwarding.specs.declared.request.ConnectKind.TheVariants.{Claimed}
 use Rattle.forwarding.specs.Pending.{queue_of, awaiting, settle_sync}
 use Rattle.forwarding.specs.Laws.{Stays}
 use Rattle.world.specs.Steps.{StepResult, no_output}
-use Rattle.world.specs.Clients.{is_open}
+use Rattle.world.specs.Clients.{heard_connection}
+use Rattle.client_frames.specs.declared.connecting.Connecting.{Connecting}
+use Rattle.client_frames.specs.Connect.{connecting_in, session_request_of}
+use Rattle.client_service.specs.Serve.{may_connect, is_live, frames_of_client}
 use Rattle.leader_answers.specs.declared.due.Due.TheVariants as dues
 use Rattle.leader_answers.specs.Answering.{answer_due, answer_txn, answer_revalidated, answer_sync}
 use Rattle.observer_core.specs.Agreement.{ClientsAgree}
-use Rattle.observer_core.specs.Play.{play_event}
+use Rattle.observer_core.specs.GivenIds.{IsGivenBetween}
+use Rattle.observer_core.specs.Play.{is_serving_clients, play_event}
 
 -- The packet forwards a request of this session.
 pub record IsForwarded (session : ℤ) (bytes : List ℕ) : Type 0 where
@@ -66,21 +73,43 @@ ConcernsOnly n own left (CloseClient k) = (k ≡ n) ⊎ left k
 abbrev pub HasOrAsks : ℕ → Clients → ℤ → Type 0
 HasOrAsks n c session = (session_of_connection c.sessions n ≡ Some session) ⊎ WaitsForSession n c session
 
--- The session that client n had, or the one that it got or asked for: it had none before, and has this one now, or waits
--- for it, if it is still open.
-abbrev pub IsSessionOf : ℕ → Clients → Clients → ℤ → Type 0
-IsSessionOf n before after session =
-    (session_of_connection before.sessions n ≡ Some session)
-    ⊎ ((session_of_connection before.sessions n ≡ None)
-    × (is_open n after ≡ true → HasOrAsks n after session))
+-- The frames that are complete once these bytes of the connection have come.
+abbrev pub completed_frames : Option OpenConnection → List ℕ → List (List ℕ)
+completed_frames None bytes = []
+completed_frames (Some connection) bytes =
+    (items_in frames_of_client (place_at tt (connection.rest ++ bytes))).found
 
--- Client n took over the session of connection k, which had it or waited for it: n had no session before, and has this
--- one now, or waits for it, if it is still open.
-pub record IsTakenUp (n : ℕ) (before after : Clients) (k : ℕ) : Type 0 where
+-- The frame is a connect that is allowed, and names this session with its password. The session lives, unless sessions
+-- move between servers: then only the leader knows.
+pub record Claims (serving : Bool) (w : World) (frame : List ℕ) (session : ℤ) : Type 0 where
+  pub connect : Connecting
+  pub reads : connecting_in frame ≡ Ok connect
+  pub may : may_connect serving w connect.request ≡ true
+  pub names : connect.request.session_id ≡ session
+  pub nonzero : int_eq session (pos 0) ≡ false
+  pub password : has_password w.clients.sessions (session_request_of connect.request) ≡ true
+  pub lives : (reads_of w.settings.dialect).moved_sessions ≡ false → is_live session w ≡ true
+
+-- The first frame that these bytes of client n complete claims the session.
+pub record IsClaimed (n : ℕ) (w : World) (bytes : List ℕ) (session : ℤ) : Type 0 where
+  pub frame : List ℕ
+  pub others : List (List ℕ)
+  pub first : completed_frames (heard_connection n w.clients) bytes ≡ frame ∷ others
+  pub claims : Claims (is_serving_clients w) w frame session
+
+-- The session that client n had; or, if it had none, a new one, whose id was given out for it, or one that it claims.
+abbrev pub IsSessionOf : ℕ → World → List ℕ → Clients → ℤ → Type 0
+IsSessionOf n w bytes after session =
+    (session_of_connection w.clients.sessions n ≡ Some session)
+    ⊎ ((session_of_connection w.clients.sessions n ≡ None)
+    × (IsGivenBetween w.clients after session ⊎ IsClaimed n w bytes session))
+
+-- Client n had no session, and claims the one that connection k had, or waited for.
+pub record IsTakenUp (n : ℕ) (w : World) (bytes : List ℕ) (k : ℕ) : Type 0 where
   pub session : ℤ
-  pub had : HasOrAsks k before session
-  pub none : session_of_connection before.sessions n ≡ None
-  pub has : is_open n after ≡ true → HasOrAsks n after session
+  pub had : HasOrAsks k w.clients session
+  pub none : session_of_connection w.clients.sessions n ≡ None
+  pub claimed : IsClaimed n w bytes session
 
 -- No output closes connection k.
 abbrev pub IsNotClosed : ℕ → List Output → Type 0
@@ -107,27 +136,34 @@ pub record IsUntouched (k : ℕ) (before after : Clients) : Type 0 where
 pub record IsApart (n : ℕ) (own : ℤ → Type 0) (left : ℕ → Type 0) (w : World) (h : StepResult World) : Type 0 where
   pub outputs : AllByRecursion (ConcernsOnly n own left) h.outputs
   pub replica : h.after.replica ≡ w.replica
+  -- Every other session stays touched, or untouched, until the next PING is answered.
+  pub touched : (session : ℤ) → (own session → ⊥)
+      → set.contains h.after.clients.pending.touched session ≡ set.contains w.clients.pending.touched session
   -- Every other connection that isn't closed is untouched.
   pub others : (k : ℕ) → k ≢ n → IsNotClosed k h.outputs → IsUntouched k w.clients h.after.clients
 
--- The same for a machine, where a connection is in `left` if its session was taken over. The leader's stream is
--- untouched.
-pub record ReachesOnlyClient (n : ℕ) (m : Machine) (h : StepResult Machine) : Type 0 where
+-- The same for a machine. The leader's stream is untouched.
+pub record ReachesOnlyClient (n : ℕ) (own : ℤ → Type 0) (left : ℕ → Type 0) (m : Machine) (h : StepResult Machine) : Type 0 where
   pub leader : h.after.leader ≡ m.leader
-  pub world : IsApart n (IsSessionOf n m.world.clients h.after.world.clients)
-      (IsTakenUp n m.world.clients h.after.world.clients) m.world
-      (record { outputs = h.outputs; after = h.after.world })
+  pub world : IsApart n own left m.world (record { outputs = h.outputs; after = h.after.world })
 
--- A client connects, sends, or leaves.
+-- What client n sends concerns its own session, and may close the connections whose session it takes up.
+abbrev pub ServesOnlyClient : ℕ → Machine → List ℕ → StepResult Machine → Type 0
+ServesOnlyClient n m bytes h =
+    ReachesOnlyClient n (IsSessionOf n m.world bytes h.after.world.clients) (IsTakenUp n m.world bytes) m h
+
+-- A client connects, sends, or leaves. A coming or going one concerns no session.
 pub record ClientsAreApart : Type 0 where
-  pub comes : (m : Machine) (n : ℕ) (address : Option (List ℕ)) → ReachesOnlyClient n m (play_event m (ClientUp n address))
+  pub comes : (m : Machine) (n : ℕ) (address : Option (List ℕ))
+      → ReachesOnlyClient n (λ session. ⊥) (λ k. ⊥) m (play_event m (ClientUp n address))
   pub sends : (m : Machine) (n : ℕ) (bytes : List ℕ) → ClientsAgree m.world.clients
-      → ReachesOnlyClient n m (play_event m (ClientBytes n bytes))
-  pub goes : (m : Machine) (n : ℕ) → ReachesOnlyClient n m (play_event m (ClientEnd n))
+      → ServesOnlyClient n m bytes (play_event m (ClientBytes n bytes))
+  pub goes : (m : Machine) (n : ℕ) → ReachesOnlyClient n (λ session. ⊥) (λ k. ⊥) m (play_event m (ClientEnd n))
 
 -- ---- how far an answer of the leader reaches
 
--- The step sends frames to client n alone and closes no other connection. Every other connection is untouched.
+-- The step sends frames to client n alone, closes no other connection, and touches no session. Every other connection
+-- is untouched.
 abbrev pub AnswersOnly : ℕ → World → StepResult World → Type 0
 AnswersOnly n w h = IsApart n (λ session. ⊥) (λ k. ⊥) w h
 

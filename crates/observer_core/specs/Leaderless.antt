@@ -1,5 +1,5 @@
 -- An observer without a leader: it serves nobody, and sends nothing for a leader until one comes.
-use Rattle.std.specs.Prelude.{◌≡◌, ℕ, List, [], ◌∷◌, Some, None, Bool, true, false}
+use Rattle.std.specs.Prelude.{◌≡◌, ℕ, List, [], ◌∷◌, None, Bool, true, false}
 use Rattle.std.specs.List.{AllByRecursion, list_any}
 use Rattle.learner_sync.specs.Answers.{observer_info}
 use Rattle.learner_sync.specs.declared.phase.Phase.TheVariants.{Down}

@@ -11,5 +11,6 @@ pub mod Leaderless
 pub mod GivenIds
 pub mod Apart
 pub mod Soundness
+pub mod Shown
 pub mod WholeImages
 pub mod Rows

@@ -1,5 +1,5 @@
 -- Rows of bytes that were worked out by hand: events, and the outputs that they cause.
-use Rattle.std.specs.Prelude.{◌≡◌, ℕ, pos, List, [], ◌∷◌, ◌++◌, codes, None}
+use Rattle.std.specs.Prelude.{◌≡◌, ℕ, ℤ, pos, List, [], ◌∷◌, ◌++◌, codes, Some, None, true}
 use Rattle.values.specs.Hex.{hex_bytes}
 use Rattle.values.specs.declared.fault.Fault.TheVariants.{OutOfOrder}
 use Rattle.settings.specs.Settings.{timeout_pair}
@@ -9,7 +9,12 @@ use Rattle.observer_core.specs.declared.event.Event.{Event}
 use Rattle.observer_core.specs.declared.event.Event.TheVariants.{LeaderBytes, ClientUp, ClientBytes}
 use Rattle.world.specs.declared.output.Output.{Output}
 use Rattle.world.specs.declared.output.Output.TheVariants.{ToLeader, ToClient, CloseLeader, CloseClient}
-use Rattle.observer_core.specs.Play.{play, new_machine, primed_machine}
+use Rattle.sessions.specs.declared.passwords.Passwords.TheVariants.{Keyed}
+use Rattle.world.specs.World.{World}
+use Rattle.world.specs.Clients.{idle_connection, heard_connection}
+use Rattle.client_service.specs.Serve.{is_live}
+use Rattle.observer_core.specs.Play.{is_serving_clients, play, new_machine, primed_machine}
+use Rattle.observer_core.specs.Apart.{IsClaimed}
 
 -- An INFORM of a create of /a with the data "hi", zxid 0x100000001.
 abbrev pub inform_of_create : List ℕ
@@ -127,6 +132,15 @@ abbrev pub request_of_session : List ℕ
 request_of_session =
     hex_bytes (codes "00000001 ffffffffffffffff 00000014 0300000000000002 00000000 fffffff6 00002710 ffffffff")
 
+-- The connect of a client that names this session, with its password, which was made with an empty secret.
+abbrev pub claim_frame : List ℕ
+claim_frame =
+    hex_bytes (codes "0000002c 00000000 0000000000000000 00002710 0300000000000002"
+    ++ codes " 00000010 5c75ddec095bce05f05804d58decb4ec")
+
+abbrev pub session_of_claim : ℤ
+session_of_claim = pos 0x0300000000000002
+
 -- An INFORM of its createSession, zxid 0x100000001, and the response to the connect.
 abbrev pub inform_of_session : List ℕ
 inform_of_session =
@@ -212,5 +226,9 @@ pub record WorkedRows : Type 0 where
   pub isro_not_serving : (settings : Settings)
       → (play (new_machine settings) (ClientUp 2 None ∷ ClientBytes 2 (codes "isro") ∷ [])).outputs
       ≡ ToClient 2 (codes "null") ∷ CloseClient 2 ∷ []
+  -- A connect that names a living session with its password claims it.
+  pub claim : (n : ℕ) (w : World) → heard_connection n w.clients ≡ Some (idle_connection None)
+      → w.clients.sessions.terms.passwords ≡ Keyed [] → w.replica.learner.last_zxid ≡ pos 0
+      → is_serving_clients w ≡ true → is_live session_of_claim w ≡ true → IsClaimed n w claim_frame session_of_claim
   -- A client that has a session can't send a word: the letters are the length of a frame that is too long.
   pub word_with_a_session : PrimedAnswers (ClientBytes 1 (codes "ruok") ∷ []) (CloseClient 1 ∷ [])

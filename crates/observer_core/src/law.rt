@@ -12,6 +12,7 @@ ghost use Rattle.observer_core.specs.Leaderless.{SilentWithoutLeader};
 ghost use Rattle.observer_core.specs.Soundness.{MachinesAreSound};
 ghost use Rattle.observer_core.specs.GivenIds.{IdsAreGivenOnce};
 ghost use Rattle.observer_core.specs.Apart.{ClientsAreApart, AnswersReachOneClient};
+ghost use Rattle.observer_core.specs.Shown.{RepliesShowTrees};
 ghost use Rattle.observer_core.specs.WholeImages.{PartsAreWholeImages};
 ghost use Rattle.observer_core.specs.Rows.{WorkedRows};
 
@@ -50,7 +51,8 @@ pub fn parts_are_whole_images()
 }
 
 /// A packet or part that is refused changes nothing. Where bytes of the leader contain one, the outputs and the state
-/// left are those of the items before it, followed by the loss of the leader for that fault. The loss leaves the tree,
+/// left are those of the items before it, followed by the loss of the leader for that fault. The same holds of bytes
+/// that are unreadable; and a stream that ends inside a packet or an image loses the leader. The loss leaves the tree,
 /// the base, the log and the epochs.
 pub fn refusals_change_nothing()
     ensures { RefusalsChangeNothing }
@@ -145,15 +147,32 @@ pub fn ids_are_given_once()
     forwarding::requests_and_syncs_agree();
 }
 
+/// Each reply to a read shows the tree of the replica at that moment, and names its last zxid. Each reply to a write, or
+/// to a closeSession, is for the last transaction of the log, which it names, and shows the tree with it. Any other frame
+/// shows no tree and, if it is a reply, names the last zxid, 0 or -1. What is sent while bytes of the leader are taken is
+/// made after the last item so far, and then too the tree is the base with the log applied, if it was before.
+///
+/// While clients are served, the tree is changed only by transactions, one after the other, with rising zxids. So no
+/// zxid names two trees.
+pub fn replies_show_trees()
+    ensures { RepliesShowTrees }
+{
+    replica::law::logs();
+    replica::law::serving();
+    learner_sync::law::serving();
+}
+
 /// An event of a client (it connects, sends or leaves) leaves the tree and the log. It sends no frame to another
-/// client, and to the leader only requests of its own session, or for a session that it asks for. Every other
-/// connection that it doesn't close keeps its waiting bytes, its session, its ids, its watches and its waiting
-/// requests. It closes another connection only if its client takes over that connection's session, or the one that it
-/// waits for: the client had no session before, and has this one from then on, or waits for it, while it is open.
+/// client, and to the leader only requests of its own session: the one that the client had before; or, if it had none, a
+/// new one, whose id was given out for it, or one that the first frame of these bytes claims, with the session's
+/// password. No other session is touched. Every other connection that it doesn't close keeps its waiting bytes, its
+/// session, its ids, its watches and its waiting requests. It closes another connection only if that had, or waited for,
+/// the session that the client claims. What a client that connects or leaves does concerns no session.
 pub fn clients_are_apart()
     ensures { ClientsAreApart }
 {
     sessions::others_stay();
+    sessions::ended_sessions_are_refused();
     watch_manager::law::firing();
     forwarding::other_connections_stay();
 }

@@ -49,7 +49,7 @@ pub use event::Event;
 pub use law::{
     answers_reach_one_client, clients_are_apart, connected_sessions_live, connections_agree,
     cut_anywhere, ids_are_given_once, logs_are_followed, machines_are_sound, nothing_waits_in_vain,
-    parts_are_whole_images, plays_on, refusals_change_nothing, sessions_are_served,
-    silent_without_leader, worked_rows,
+    parts_are_whole_images, plays_on, refusals_change_nothing, replies_show_trees,
+    sessions_are_served, silent_without_leader, worked_rows,
 };
 pub use world::{Output, Settings};

@@ -3,8 +3,8 @@
 use observer_core::{
     answers_reach_one_client, clients_are_apart, connected_sessions_live, connections_agree,
     cut_anywhere, ids_are_given_once, logs_are_followed, machines_are_sound, nothing_waits_in_vain,
-    parts_are_whole_images, plays_on, refusals_change_nothing, sessions_are_served,
-    silent_without_leader, worked_rows,
+    parts_are_whole_images, plays_on, refusals_change_nothing, replies_show_trees,
+    sessions_are_served, silent_without_leader, worked_rows,
 };
 
 pub fn call_laws_of_leaders() {
@@ -28,6 +28,7 @@ pub fn call_laws_of_events() {
     plays_on();
     cut_anywhere();
     machines_are_sound();
+    replies_show_trees();
 }
 
 pub fn call_worked_rows() {

@@ -1,8 +1,10 @@
 //! The servers of a configuration file.
 
-ghost use Rattle.std.specs.Prelude.{◌≡◌, ◌++◌, filter, IfOk, IfSome, nat_eq, codes, option_map};
+ghost use Rattle.std.specs.Prelude.{◌≡◌, ◌++◌, ◌⊎◌, List, ℕ, Some, None, filter, IfOk, IfErr, IfSome, IfNone, nat_eq, codes, option_map};
 ghost use Rattle.std.specs.List.{ends_with};
-ghost use Rattle.zoo_config.specs.Servers.{client_part, IsWithRole, SpellsServer, IsServerOf, is_voter_beside};
+ghost use Rattle.texts.specs.Number.{number_up_to};
+ghost use Rattle.zoo_config.specs.declared.error.Reason.TheVariants as reasons;
+ghost use Rattle.zoo_config.specs.Servers.{client_part, IsWithRole, IsServerKey, IsNoServer, SpellsServer, IsServerOf, is_voter_beside};
 
 use crate::error::{BadLine, Reason};
 use crate::form::Entry;
@@ -55,7 +57,8 @@ fn without_role(front: &str) -> &str
 
 // The server of a line, or None if the line is wrong.
 fn server_of<'a>(number: &str, entry: &'a Entry) -> Option<Server<'a>>
-    ensures { IfSome result (IsServerOf number.now entry.now) }
+    ensures some { IfSome result (IsServerOf number.now entry.now) }
+    ensures none { IfNone result ((number_up_to 255 number.now ≡ None) ⊎ (number_up_to 255 number.now ≡ Some 0)) }
 {
     let id = number_up_to(MOST_ID, number.as_bytes())?;
     let (front, client) = parts_of(entry.value.as_str());
@@ -71,9 +74,12 @@ fn server_of<'a>(number: &str, entry: &'a Entry) -> Option<Server<'a>>
     })
 }
 
-/// The server of an entry whose key begins with `server.`; None of any other.
+/// The server of an entry whose key begins with `server.`; None of any other. Fails if the number after that isn't one
+/// from 1 to 255.
 pub fn server_in<'a>(entry: &'a Entry) -> Result<Option<Server<'a>>, BadLine>
-    ensures { IfOk result (λ found. IfSome found (SpellsServer entry.now)) }
+    ensures server { IfOk result (λ found. IfSome found (SpellsServer entry.now)) }
+    ensures others { IfOk result (λ found. IfNone found ((digits : List ℕ) → IsServerKey entry.now.key digits → ⊥)) }
+    ensures bad { IfErr result (λ bad. (bad.line ≡ entry.now.line) × (bad.reason ≡ reasons.Server) × IsNoServer entry.now) }
 {
     let Some(number) = entry.key.as_str().strip_prefix("server.") else {
         return Ok(None);

@@ -6,7 +6,7 @@ use Rattle.apply_workers.proofs.list.apply_list.Given as goal
 abbrev pub invariant-loop-rest : goal.invariant-loop-rest
 invariant-loop-rest g l = record {
   applied : IsOnTheWay l.fn.tree l.txns [] l.tree l.rest l.outcomes.items;
-  next : IsNextBatch l.next l.rest;
+  next : IsNextBatch l.limits l.next l.rest;
 }
 
 abbrev pub decreases-loop-rest : goal.decreases-loop-rest

@@ -1,4 +1,4 @@
-use Rattle.std.proofs.Common.{◌≡◌, ℤ, List, Option, None, sym, ap, subst, ◌∙◌, rules}
+use Rattle.std.proofs.Common.{◌≡◌, ℤ, List, None, sym, ap, subst, ◌∙◌, rules}
 use Rattle.std.specs.List.{list_any}
 use Rattle.std.specs.Ordering.{eq_by_cmp, int_cmp}
 use Rattle.data_tree.specs.Sessions.{SessionTimeouts}
