@@ -1,6 +1,10 @@
 pub mod Buffers
+pub mod Conversing
 pub mod Counting
 pub mod Fronts
 pub mod Gathering
 pub mod Ints
+pub mod Known
 pub mod LongFrames
+pub mod Passing
+pub mod Ports

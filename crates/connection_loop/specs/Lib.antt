@@ -1,6 +1,8 @@
+pub mod Conversations
 pub mod Exchanges
 pub mod Frames
 pub mod Incoming
+pub mod Inner
 pub mod Kinds
 pub mod Limits
 pub mod Outgoing

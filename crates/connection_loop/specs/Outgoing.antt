@@ -37,3 +37,16 @@ pub record HasGathered (old new : Unwritten) (counted counts : Window) (before a
   pub unwritten : new ≡ with_outputs old outputs
   pub answers : counts ≡ with_outputs_noted counted outputs
   pub some : IsTrue found ↔ (outputs ≢ [])
+  -- After an output that closes the connection no other is received.
+  pub none : old.closing ≡ true → outputs ≡ []
+
+-- Outputs were gathered, and then one received that is lost.
+pub record LosesOutput (old new : Unwritten) (counted : Window) (before after : PortEnd) : Type 0 where
+  pub came : PortEnd
+  pub counts : Window
+  pub found : Bool
+  pub gathered : HasGathered old new counted counts before came found
+  pub lost : Output
+  pub port : SamePort came after
+  pub sent : sent_through after ≡ sent_through came
+  pub received : received_through after ≡ received_through came ++ lost ∷ []

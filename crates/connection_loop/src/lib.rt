@@ -11,10 +11,9 @@
 //! it has one of a few places ([`ReadsAhead`]). So what one client is answered in a turn is bounded, however it
 //! pipelines. Who says nothing or doesn't read is closed ([`SessionLimits`]).
 //!
-//! It is proved which bytes are whole frames ([`whole_frames`]), that the bytes of a connection wait in the order in
-//! which they were read, and which of them are taken next (`incoming.rt`), how answers are counted ([`law::exchanges`]),
-//! and that the bytes of the outputs are written in their order, each once (`outgoing.rt`); the rest of the code is
-//! proved safe. What happens if a read or a write fails is tried over sockets.
+//! It is proved which bytes are whole frames ([`whole_frames`]), which of those that wait are sent on next
+//! (`incoming.rt`), how answers are counted ([`law::exchanges`]), and of both loops what goes through the port and what
+//! is written, whichever reads and writes fail (`specs/Conversations.antt`); the rest of the code is proved safe.
 #![tactic(auto)]
 
 mod ahead;
@@ -36,6 +35,6 @@ pub use bell::Bell;
 pub use frames::{frames_going, whole_frames};
 pub use kind::Gate;
 pub use limits::{AllowedWords, SessionLimits};
-pub use rest::Rest;
+pub use rest::{Close, Rest};
 pub use session::{LeaderGone, leader_loop, session_loop};
 pub use waiting::{Sides, Waiting, Writing, split};

@@ -1,9 +1,9 @@
 //! How long a client's connection may say nothing, or not read, and what it may send: which four-letter words, and the
 //! requests of which dialect.
 
-ghost use Rattle.std.specs.Prelude.{◌≡◌, ◌≢◌, Some, true, false};
+ghost use Rattle.std.specs.Prelude.{◌≡◌, ◌≢◌, Some, true, false, not};
 ghost use Rattle.four_letter.specs.declared.word.Word.{Word as TheWord};
-ghost use Rattle.four_letter.specs.Words.{word_of};
+ghost use Rattle.four_letter.specs.Words.{word_of, needs_watches};
 ghost use Rattle.settings.specs.Dialects.{default_dialect};
 ghost use Rattle.connection_loop.specs.Limits.{has_word, allows_word};
 
@@ -119,7 +119,11 @@ impl SessionLimits {
 impl Default for SessionLimits {
     /// 10 s without a session, 40 s without reading and 2 s at the end, and all words but `wchp`, whose answer is as
     /// long as all watches.
-    fn default() -> SessionLimits {
+    fn default() -> SessionLimits
+        ensures times { (result.unconnected ≡ 10000) × (result.unread ≡ 40000) × (result.closing ≡ 2000) }
+        ensures words { (word : TheWord) → has_word result.words word ≡ not (needs_watches word) }
+        ensures dialect { result.dialect ≡ default_dialect }
+    {
         SessionLimits {
             unconnected: 10_000,
             unread: 40_000,

@@ -2,7 +2,7 @@
 
 ghost use Rattle.std.specs.Prelude.{◌≡◌, ◌↔◌, ◌≤◌, ◌++◌, [], true, IfOk, OnOk, OnErr, IsTrue, drop, length};
 ghost use Rattle.std.specs.Io.KnownBytes.{WriteAppends};
-ghost use Rattle.connection_loop.specs.Outgoing.{nothing_unwritten, with_output, HasGathered};
+ghost use Rattle.connection_loop.specs.Outgoing.{nothing_unwritten, with_output, HasGathered, LosesOutput};
 
 use crate::window::Window;
 use intake::Port;
@@ -115,7 +115,8 @@ impl Outgoing {
     /// allocation is refused.
     pub fn gather(&mut self, port: &mut Port, window: &mut Window) -> Result<bool, NoMemory>
         requires { self.old.bytes ≡ [] }
-        ensures { IfOk result (HasGathered self.old self.new window.old window.new port.old port.new) }
+        ensures ok { IfOk result (HasGathered self.old self.new window.old window.new port.old port.new) }
+        ensures err { OnErr result (LosesOutput self.old self.new window.old port.old port.new) }
     {
         self.clear();
         let mut found = false;

@@ -1,6 +1,12 @@
 //! The loop of a connection's thread.
 
-ghost use Rattle.std.specs.Prelude.{◌≡◌, ◌≤◌, IfSome, length};
+ghost use Rattle.std.specs.Prelude.{◌≡◌, ◌≤◌, ◌++◌, [], ◌∷◌, true, false, None, List, ℕ, Option, IfSome, IsSome, IsTrue, OnOk, length};
+ghost use Rattle.std.specs.Io.KnownBytes.{Appends, Keeps};
+ghost use Rattle.four_letter.specs.Words.{word_of};
+ghost use Rattle.intake.specs.Ports.{SamePort};
+ghost use Rattle.connection_loop.specs.Conversations.{IsFront, SendsOn, WritesBack, IsNothing, IsRefusal, refusal_of};
+ghost use Rattle.connection_loop.specs.Inner.{talk_of, new_talk, messages_given, Gives, GivesLast, Drops, PassesOn, Runs, Ends, ClosesIfRefused};
+ghost use Rattle.connection_loop.specs.Limits.{allows_word};
 ghost use Rattle.connection_loop.specs.Windows.{room_in};
 
 use crate::ahead::{OwnReadsAhead, ReadsAhead};
@@ -10,13 +16,13 @@ use crate::kind::Gate;
 use crate::limits::SessionLimits;
 use crate::outgoing::Outgoing;
 use crate::patience::Waits;
-use crate::rest::Rest;
+use crate::rest::{Close, Rest};
 use crate::window::Window;
 use four_letter::Word;
 use intake::{Full, Message, Port, PortEnd};
 use observer_core::Output;
 use std::alloc::Global;
-use std::io::{ErrorKind, Read, Write};
+use std::io::{ErrorKind, Write};
 use std::sync::{Arc, Wait};
 use std::time::{Clock, Duration, Instant};
 use std::{io, thread};
@@ -98,7 +104,9 @@ impl Session {
         limits: SessionLimits,
         places: OwnReadsAhead,
         port: Port,
-    ) -> Session {
+    ) -> Session
+        ensures { talk_of result ≡ new_talk port limits.words }
+    {
         Session {
             alloc,
             limits,
@@ -129,35 +137,61 @@ impl Session {
     }
 
     // After a refused allocation the connection can't go on.
-    fn want_memory(&mut self) -> Step {
+    fn want_memory(&mut self) -> Step
+        ensures over { result ≡ Step.Over }
+        ensures talk { talk_of self.new ≡ talk_of self.old }
+    {
         self.wants_memory = true;
         Step::Over
     }
 
     // Sends a message, or holds it if there is no room.
-    fn send(&mut self, message: Message) {
+    fn send(&mut self, message: Message)
+        requires { self.old.held ≡ None }
+        ensures { Gives (talk_of self.old) (talk_of self.new) (message ∷ []) }
+    {
         if let Err(Full(message)) = self.port.send(message) {
             self.held = Some(message);
         }
     }
 
     // Sends the message that is held. Returns whether none is left.
-    fn send_held(&mut self) -> bool {
+    fn send_held(&mut self) -> bool
+        ensures gives { Gives (talk_of self.old) (talk_of self.new) [] }
+        ensures none { IsTrue result → self.new.held ≡ None }
+    {
         if let Some(message) = self.held.take() {
             self.send(message);
         }
         self.held.is_none()
     }
 
-    // Gathers outputs, and writes as much as the stream takes.
-    fn write<W: Write>(&mut self, writer: &mut W) -> Step {
-        if self.outgoing.is_written() {
-            match self.outgoing.gather(&mut self.port, &mut self.window) {
-                Ok(true) => self.idle_since = None,
-                Ok(false) => {}
-                Err(NoMemory) => return self.want_memory(),
-            }
+    // Gathers outputs if all before are written. It ends the connection only if an allocation is refused.
+    fn gather(&mut self) -> Step
+        requires { ClosesIfRefused (talk_of self.old) }
+        ensures { (unread written : Option (List ℕ)) → PassesOn result (talk_of self.old) (talk_of self.new)
+            unread unread written written }
+    {
+        if !self.outgoing.is_written() {
+            return Step::Idle;
         }
+        match self.outgoing.gather(&mut self.port, &mut self.window) {
+            Ok(true) => {
+                self.idle_since = None;
+                Step::Idle
+            }
+            Ok(false) => Step::Idle,
+            Err(NoMemory) => self.want_memory(),
+        }
+    }
+
+    // Writes as much of what is gathered as the stream takes.
+    fn write_gathered<W: Write>(&mut self, writer: &mut W) -> Step
+        requires { ClosesIfRefused (talk_of self.old) }
+        ensures passes { (unread : Option (List ℕ)) → PassesOn result (talk_of self.old) (talk_of self.new)
+            unread unread (W.contents writer.old) (W.contents writer.new) }
+        ensures stays { result ≡ Step.Idle → self.new.outgoing.bytes ≡ [] → self.new.outgoing.closing ≡ false }
+    {
         if self.outgoing.is_written() {
             return if self.outgoing.is_closing() {
                 Step::Over
@@ -178,8 +212,24 @@ impl Session {
         }
     }
 
+    // Gathers outputs, and writes as much as the stream takes.
+    fn write<W: Write>(&mut self, writer: &mut W) -> Step
+        requires { ClosesIfRefused (talk_of self.old) }
+        ensures passes { (unread : Option (List ℕ)) → PassesOn result (talk_of self.old) (talk_of self.new)
+            unread unread (W.contents writer.old) (W.contents writer.new) }
+        ensures stays { result ≡ Step.Idle → self.new.outgoing.bytes ≡ [] → self.new.outgoing.closing ≡ false }
+    {
+        match self.gather() {
+            Step::Idle => self.write_gathered(writer),
+            ended => ended,
+        }
+    }
+
     // The word that the connection begins with, if it isn't allowed.
-    fn refused_word(&self) -> Option<[u8; 4]> {
+    fn refused_word(&self) -> Option<[u8; 4]>
+        ensures word { IfSome result (λ word. IsSome (word_of word)) }
+        ensures refused { IfSome result (λ word. allows_word self.now.limits.words (word_of word) ≡ false) }
+    {
         if !self.window.is_new() {
             return None;
         }
@@ -191,14 +241,30 @@ impl Session {
         }
     }
 
+    // Adds the text that refuses the word, after which the connection closes. A refused allocation leaves a front of it.
+    fn put_refusal(&mut self, word: [u8; 4]) -> Result<(), NoMemory>
+        ensures text { (text : List ℕ) × IsFront text (refusal_of word)
+            × (self.new.outgoing.bytes ≡ self.old.outgoing.bytes ++ text) }
+        ensures rest { talk_of self.new ≡ record (talk_of self.old) {
+          unwritten = self.new.outgoing.bytes;
+          closing = self.new.outgoing.closing;
+        } }
+        ensures closing { OnOk result (self.new.outgoing.closing ≡ true) }
+    {
+        self.outgoing.put_last(&word)?;
+        self.outgoing.put_last(NOT_ALLOWED)
+    }
+
     // Says that the word isn't allowed, and closes the connection.
-    fn refuse(&mut self, word: [u8; 4]) -> Step {
+    fn refuse(&mut self, word: [u8; 4]) -> Step
+        requires word { IsSome (word_of word) }
+        requires refused { allows_word self.old.limits.words (word_of word) ≡ false }
+        requires new { self.old.refuses ≡ false }
+        ensures { (unread written : Option (List ℕ)) → PassesOn result (talk_of self.old) (talk_of self.new)
+            unread unread written written }
+    {
         self.refuses = true;
-        let said = self
-            .outgoing
-            .put_last(&word)
-            .and_then(|()| self.outgoing.put_last(NOT_ALLOWED));
-        match said {
+        match self.put_refusal(word) {
             Ok(()) => Step::Done,
             Err(NoMemory) => self.want_memory(),
         }
@@ -209,6 +275,7 @@ impl Session {
         ensures within { IfSome result (λ p. p.len ≤ length self.old.incoming.bytes) }
         ensures room { IfSome result (λ p. p.frames ≤ room_in self.old.window) }
         ensures kept { (self.new.incoming ≡ self.old.incoming) × (self.new.window ≡ self.old.window) }
+        ensures talk { talk_of self.new ≡ talk_of self.old }
     {
         let room = self.window.room();
         let owed = self.window.owed();
@@ -241,9 +308,25 @@ impl Session {
         }
     }
 
+    // Whether the hub hasn't taken the frames that were sent on last.
+    fn is_untaken(&mut self) -> bool
+        ensures gives { Gives (talk_of self.old) (talk_of self.new) [] }
+        ensures kept { self.new ≡ record self.old { port = self.new.port } }
+    {
+        if !self.untaken {
+            return false;
+        }
+        !self.port.is_drained()
+    }
+
     // Sends on the next piece of the waiting bytes.
-    fn send_next(&mut self) -> Step {
-        if self.untaken && !self.port.is_drained() {
+    fn send_next(&mut self) -> Step
+        requires none { self.old.held ≡ None }
+        requires new { self.old.refuses ≡ false }
+        ensures { (unread written : Option (List ℕ)) → PassesOn result (talk_of self.old) (talk_of self.new)
+            unread unread written written }
+    {
+        if self.is_untaken() {
             return Step::Idle;
         }
         self.untaken = false;
@@ -268,7 +351,10 @@ impl Session {
     }
 
     // Waits until there may be something to do, but not past the nearest limit.
-    fn rest<T: Clock, R: Rest>(&mut self, rt: &T, reader: &mut R, longest: u64) -> Step {
+    fn rest<T: Clock, R: Rest>(&mut self, rt: &T, reader: &mut R, longest: u64) -> Step
+        ensures talk { talk_of self.new ≡ talk_of self.old }
+        ensures kept { Keeps (R.remaining reader.old) (R.remaining reader.new) }
+    {
         let now = self.now(rt);
         let since = self.idle_since.unwrap_or(now);
         self.idle_since = Some(since);
@@ -292,7 +378,11 @@ impl Session {
     }
 
     // Reads, or rests if there is no room or the stream has ended.
-    fn read<T: Clock, R: Read + Rest>(&mut self, rt: &T, reader: &mut R) -> Step {
+    fn read<T: Clock, R: Rest>(&mut self, rt: &T, reader: &mut R) -> Step
+        requires { ClosesIfRefused (talk_of self.old) }
+        ensures { (written : Option (List ℕ)) → PassesOn result (talk_of self.old) (talk_of self.new)
+            (R.remaining reader.old) (R.remaining reader.new) written written }
+    {
         if self.ended && !self.untaken && self.window.owed() == 0 {
             return Step::Over;
         }
@@ -316,35 +406,40 @@ impl Session {
     }
 
     // One step: writing comes first, then sending on, then reading.
-    fn step<T: Clock, R: Read + Rest, W: Write>(
-        &mut self,
-        rt: &T,
-        reader: &mut R,
-        writer: &mut W,
-    ) -> Step {
-        let written = self.write(writer);
-        if written != Step::Idle {
-            return written;
+    fn step<T: Clock, R: Rest, W: Write>(&mut self, rt: &T, reader: &mut R, writer: &mut W) -> Step
+        requires { ClosesIfRefused (talk_of self.old) }
+        ensures { PassesOn result (talk_of self.old) (talk_of self.new) (R.remaining reader.old)
+            (R.remaining reader.new) (W.contents writer.old) (W.contents writer.new) }
+    {
+        match self.write(writer) {
+            Step::Idle => {}
+            written => return written,
         }
         // Nothing is sent on or read while a message is held, or bytes are left to write.
-        if !self.send_held() || !self.outgoing.is_written() {
+        let is_sent = self.send_held();
+        if !is_sent || !self.outgoing.is_written() {
             return self.rest(rt, reader, LONGEST_REST);
         }
-        let sent = self.send_next();
-        if sent != Step::Idle {
-            return sent;
+        match self.send_next() {
+            Step::Idle => {}
+            sent => return sent,
         }
         self.read(rt, reader)
     }
 
     // Makes steps until the connection ends.
-    fn run<T: Wait + Clock, R: Read + Rest, W: Write>(
+    fn run<T: Wait + Clock, R: Rest, W: Write>(
         &mut self,
         rt: &T,
         address: Option<Text>,
         reader: &mut R,
         writer: &mut W,
-    ) {
+    )
+        requires none { self.old.held ≡ None }
+        requires once { ClosesIfRefused (talk_of self.old) }
+        ensures { Runs address (talk_of self.old) (talk_of self.new) (R.remaining reader.old)
+            (R.remaining reader.new) (W.contents writer.old) (W.contents writer.new) }
+    {
         self.send(Message::Up(address));
         for _ in rt.forever() {
             match self.step(rt, reader, writer) {
@@ -355,46 +450,70 @@ impl Session {
         }
     }
 
-    // Takes the outputs for a connection that has ended, and drops them. A leader may end right after bytes that are
-    // refused, so the fault is kept. An end inside a packet is none: it says only that the rest is missing.
-    fn drop_outputs(&mut self) {
+    // A leader may end right after bytes that are refused, so the fault is kept. An end inside a packet is none: it says
+    // only that the rest is missing.
+    fn keep_fault(&mut self, output: Output)
+        ensures { talk_of self.new ≡ talk_of self.old }
+    {
+        match output {
+            Output::CloseLeader(Fault::Short) => {}
+            Output::CloseLeader(fault) => self.late_fault = Some(fault),
+            _ => {}
+        }
+    }
+
+    // Takes the outputs for a connection that has ended, and drops them, but for a fault.
+    fn drop_outputs(&mut self)
+        ensures { Drops (talk_of self.old) (talk_of self.new) }
+    {
         for _ in 0..u64::MAX {
             match self.port.receive() {
                 None => break,
-                Some(Output::CloseLeader(Fault::Short)) => {}
-                Some(Output::CloseLeader(fault)) => self.late_fault = Some(fault),
-                Some(_) => {}
+                Some(output) => self.keep_fault(output),
             }
         }
         self.port.written_all();
     }
 
+    // Sends what is held, and then the last message. Returns whether nothing is left to send.
+    fn send_last(&mut self, last: &mut Option<Message>) -> bool
+        ensures { GivesLast (talk_of self.old) (talk_of self.new) last.old last.new result }
+    {
+        if !self.send_held() {
+            return false;
+        }
+        let Some(message) = last.take() else {
+            return true;
+        };
+        self.send(message);
+        self.held.is_none()
+    }
+
     // Sends the `End`, and waits until it is taken. Meanwhile it takes outputs, too: while much is under way for a port,
     // none of its messages is taken.
-    fn end<T: Wait + Clock, R: Rest>(&mut self, rt: &T, reader: &mut R) {
+    fn end<T: Wait + Clock, R: Rest>(&mut self, rt: &T, reader: &mut R)
+        ensures { Ends (R.abandoned reader.new) (talk_of self.old) (talk_of self.new) }
+    {
         self.places.give_back(0);
-        let mut end = Some(Message::End);
+        let mut last = Some(Message::End);
         for _ in rt.forever() {
             self.drop_outputs();
-            if self.send_held() {
-                if let Some(message) = end.take() {
-                    self.send(message);
-                }
-                if self.held.is_none() && self.port.is_drained() {
-                    return;
-                }
+            if self.send_last(&mut last) && self.port.is_drained() {
+                return;
             }
             if let Err(error) = reader.rest(LONGEST_REST) {
-                // No thread is left that would take it.
-                if error.kind() == ErrorKind::ConnectionAborted {
-                    return;
+                match error.kind() {
+                    // No thread is left that would take it.
+                    ErrorKind::ConnectionAborted => return,
+                    _ => thread::sleep(rt, Duration::from_millis(1)),
                 }
-                thread::sleep(rt, Duration::from_millis(1));
             }
         }
     }
 
-    fn finish(self) -> LeaderGone {
+    fn finish(self) -> LeaderGone
+        ensures { result.port ≡ self.port }
+    {
         let Session {
             alloc: _,
             limits: _,
@@ -425,17 +544,30 @@ impl Session {
     }
 }
 
-// Passes on what the reader brings and writes the answers, until the connection ends. The writer is dropped before the
+// Passes on what the reader brings and writes the answers, until the connection ends. The writer is closed before the
 // `End` is sent.
-fn converse<T: Wait + Clock, R: Read + Rest + Drop, W: Write + Drop>(
+fn converse<T: Wait + Clock, R: Rest + Drop, W: Close>(
     rt: &T,
-    mut session: Session,
+    session: Session,
     address: Option<Text>,
-    mut reader: R,
-    mut writer: W,
-) -> LeaderGone {
+    reader: R,
+    writer: W,
+) -> LeaderGone
+    requires none { session.held ≡ None }
+    requires once { ClosesIfRefused (talk_of session) }
+    requires new { session.incoming.bytes ≡ [] }
+    requires unwritten { session.outgoing.bytes ≡ [] }
+    ensures port { SamePort session.port result.port }
+    ensures sent { SendsOn address (R.remaining reader) ((r : R) × R.abandoned r) session.port result.port }
+    ensures written { WritesBack (IsRefusal session.limits.words)
+        (λ bytes. (w : W) × W.closed w × Appends (W.contents writer) (W.contents w) bytes)
+        session.port result.port }
+{
+    let mut session = session;
+    let mut reader = reader;
+    let mut writer = writer;
     session.run(rt, address, &mut reader, &mut writer);
-    drop(writer);
+    writer.close();
     session.end(rt, &mut reader);
     drop(reader);
     session.finish()
@@ -443,16 +575,16 @@ fn converse<T: Wait + Clock, R: Read + Rest + Drop, W: Write + Drop>(
 
 /// Serves a client, from its connection's first byte to its end.
 ///
-/// It sends `Up` with the client's address, and then what the reader brings: at most 16 whole frames at once, and the next ones when these are
-/// taken and the answers are written. What the engine would hold until the leader answers is sent on when all frames
-/// before it are answered, or where it has a place among those that all sessions share. A four-letter word that isn't
-/// allowed is refused. It ends if a read or a write fails, if the reader is at its end, if a limit has passed, or if the
-/// engine closes the connection; then it writes nothing more, sends `End`, and finishes its port when that is taken. No
-/// message is dropped: one that finds the port full is sent again.
+/// It sends `Up` with the client's address, and then what the reader brings: at most 16 whole frames at once, and the
+/// next ones when these are taken and the answers are written. What the engine would hold until the leader answers is
+/// sent on when all frames before it are answered, or where it has a place among those that all sessions share. A
+/// four-letter word that isn't allowed is refused. It ends if a read or a write fails, if the reader is at its end, if a
+/// limit has passed, or if the engine closes the connection; then it closes the writer, sends `End`, and finishes its
+/// port when that is taken. No message is dropped: one that finds the port full is sent again.
 ///
 /// A reader that has nothing returns `WouldBlock`, and is then asked to rest until that may have changed, or there is
 /// room to write, or the hub has something.
-pub fn session_loop<T: Wait + Clock, R: Read + Rest + Drop, W: Write + Drop>(
+pub fn session_loop<T: Wait + Clock, R: Rest + Drop, W: Close>(
     rt: &T,
     alloc: Global,
     reader: R,
@@ -461,7 +593,12 @@ pub fn session_loop<T: Wait + Clock, R: Read + Rest + Drop, W: Write + Drop>(
     address: Option<Text>,
     limits: SessionLimits,
     ahead: Arc<ReadsAhead, Global>,
-) -> PortEnd {
+) -> PortEnd
+    ensures port { SamePort port result }
+    ensures sent { SendsOn address (R.remaining reader) ((r : R) × R.abandoned r) port result }
+    ensures written { WritesBack (IsRefusal limits.words)
+        (λ bytes. (w : W) × W.closed w × Appends (W.contents writer) (W.contents w) bytes) port result }
+{
     let places = OwnReadsAhead::new(Some(ahead));
     let cutting = Cutting::Frames(limits.dialect);
     let session = Session::new(rt, alloc, cutting, limits, places, port);
@@ -475,13 +612,18 @@ pub fn session_loop<T: Wait + Clock, R: Read + Rest + Drop, W: Write + Drop>(
 
 /// Follows the leader: like `session_loop`, but without limits. It sends on whatever a read brings, and gives the port
 /// back.
-pub fn leader_loop<T: Wait + Clock, R: Read + Rest + Drop, W: Write + Drop>(
+pub fn leader_loop<T: Wait + Clock, R: Rest + Drop, W: Close>(
     rt: &T,
     alloc: Global,
     reader: R,
     writer: W,
     port: Port,
-) -> LeaderGone {
+) -> LeaderGone
+    ensures port { SamePort port result.port }
+    ensures sent { SendsOn None (R.remaining reader) ((r : R) × R.abandoned r) port result.port }
+    ensures written { WritesBack IsNothing
+        (λ bytes. (w : W) × W.closed w × Appends (W.contents writer) (W.contents w) bytes) port result.port }
+{
     let places = OwnReadsAhead::new(None);
     let limits = SessionLimits::none();
     let session = Session::new(rt, alloc, Cutting::Reads, limits, places, port);

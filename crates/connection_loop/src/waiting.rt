@@ -3,7 +3,7 @@
 ghost use Rattle.std.specs.Io.{ReadsAtMost};
 
 use crate::bell::Bell;
-use crate::rest::Rest;
+use crate::rest::{Close, Rest};
 use mio::net::TcpStream;
 use mio::{Events, Interest, Poll, Token, Waker};
 use std::alloc::Global;
@@ -187,5 +187,11 @@ impl Write for Writing {
 
     fn flush(&mut self) -> io::Result<()> {
         Ok(())
+    }
+}
+
+impl Close for Writing {
+    fn close(self) {
+        drop(self);
     }
 }

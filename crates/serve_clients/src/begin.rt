@@ -125,7 +125,7 @@ fn rest<T: Clock, R: Rest>(rt: &T, reader: &mut R, since: Option<Instant>, limit
 
 /// Reads the first bytes of a connection: four at least, unless it ends, or so many milliseconds pass first (0: any
 /// number).
-pub(crate) fn read_first<T: Wait + Clock, R: Read + Rest>(
+pub(crate) fn read_first<T: Wait + Clock, R: Rest>(
     rt: &T,
     reader: &mut R,
     since: Option<Instant>,
@@ -158,7 +158,7 @@ pub(crate) fn read_first<T: Wait + Clock, R: Read + Rest>(
 }
 
 /// Writes a text, waiting for room up to so many milliseconds (0: any number) each time.
-pub(crate) fn write_text<T: Wait + Clock, R: Read + Rest, W: Write>(
+pub(crate) fn write_text<T: Wait + Clock, R: Rest, W: Write>(
     rt: &T,
     reader: &mut R,
     writer: &mut W,

@@ -2,12 +2,12 @@
 
 use crate::begin::{First, passed, read_first, write_text};
 use crate::counted::{CountedReader, CountedWriter};
-use connection_loop::{ReadsAhead, Rest, SessionLimits, session_loop};
+use connection_loop::{Close, ReadsAhead, Rest, SessionLimits, session_loop};
 use intake::{Port, PortEnd};
 use server_tally::{ClientTally, PacketCount};
 use server_words::ServerWord;
 use std::alloc::Global;
-use std::io::{Read, Write};
+use std::io::Write;
 use std::sync::{Arc, Wait};
 use std::time::{Clock, Instant};
 use values::{NoMemory, Text};
@@ -32,7 +32,7 @@ fn text_for<T: Wait + Clock>(
 }
 
 // Answers a word, as far as the peer reads that in time.
-fn tell<T: Wait + Clock, R: Read + Rest, W: Write>(
+fn tell<T: Wait + Clock, R: Rest, W: Write>(
     rt: &T,
     alloc: Global,
     reader: &mut R,
@@ -64,7 +64,7 @@ fn limits_after(limits: SessionLimits, gone: u64) -> SessionLimits {
 /// Serves a client as `session_loop` does, from its connection's first byte to its end, but for the words that the
 /// server answers by itself: these are answered here, and the engine learns only that a connection came and went. It
 /// counts the connection and its packets.
-pub fn client_loop<T: Wait + Clock + Copy, R: Read + Rest + Drop, W: Write + Drop>(
+pub fn client_loop<T: Wait + Clock + Copy, R: Rest + Drop, W: Close>(
     rt: &T,
     alloc: Global,
     reader: R,

@@ -1,7 +1,7 @@
 //! A reader and a writer that count packets.
 
 use crate::begin::First;
-use connection_loop::Rest;
+use connection_loop::{Close, Rest};
 use server_tally::{ClientTally, Found, PacketCount};
 use std::io;
 use std::io::{Read, Write};
@@ -45,7 +45,7 @@ impl<T: Clock, R: Read> Read for CountedReader<T, R> {
     }
 }
 
-impl<T: Clock, R: Read + Rest> Rest for CountedReader<T, R> {
+impl<T: Clock, R: Rest> Rest for CountedReader<T, R> {
     fn rest(&mut self, longest: u64) -> io::Result<()> {
         self.reader.rest(longest)
     }
@@ -78,5 +78,18 @@ impl<T: Clock, W: Write> Write for CountedWriter<T, W> {
 
     fn flush(&mut self) -> io::Result<()> {
         self.writer.flush()
+    }
+}
+
+impl<T: Clock + Copy, W: Close> Close for CountedWriter<T, W> {
+    fn close(self) {
+        let CountedWriter {
+            rt: _,
+            writer,
+            tally,
+            packets: _,
+        } = self;
+        drop(tally);
+        writer.close();
     }
 }
