@@ -59,7 +59,7 @@ def text_of(file):
 
 def kinds(text):
     """Returns what a value of each kind may be, by the kind's name, for the kinds without bounds."""
-    return dict(re.findall(rf"Kind::(\w+) => f\.write_str\({TEXT}\)", text))
+    return dict(re.findall(rf"Kind::(\w+) => f\.write_str\(\s*{TEXT},?\s*\)", text))
 
 
 def value_text(kind, words):

@@ -18,7 +18,9 @@ from server import (
     CONNECT, CONNECTED_LEN, GET, OBSERVERINFO, UPTODATE, Server, got, hexa, is_closed, reset, wait_until,
 )
 
-WORDS = (b"ruok", b"isro", b"srvr", b"mntr", b"wchs", b"wchp")
+WORDS = (
+    b"ruok", b"isro", b"srvr", b"stat", b"mntr", b"conf", b"envi", b"dirs", b"wchs", b"wchp", b"cons", b"crst", b"srst",
+)
 
 
 def connection_from(server, host):
@@ -66,7 +68,7 @@ def answered(server, word):
 
 def test_words_that_are_answered():
     for words, wanted in (
-        ([], WORDS[:5]),
+        ([], WORDS[:9]),
         (["--words", "all"], WORDS),
         (["--words", "none"], ()),
         (["--words", "wchp,ruok"], (b"ruok", b"wchp")),

@@ -81,7 +81,7 @@ def test_what_a_file_would_do():
             f"{name}:14: skipACL isn't heeded",
             "observer serve --servers zk1:2888,zk2:2888,zk3:2889 --client 127.0.0.1:0 --id 1 --dialect 3.8"
             " --workers 4 --batch 256 --max-per-address 7 --tick 2000 --init-limit 10 --sync-limit 5 --checkpoint 64"
-            " --max-under-way 64 --max-watches 500000 --unconnected 10 --words isro,srvr",
+            " --max-under-way 64 --max-watches 500000 --unconnected 10 --words isro,srvr,stat",
         ], out
     with file_of(text_of(*lines, "tickTimes=1")) as name:
         status, out, told = commands.run("--check-config", name)

@@ -1,10 +1,10 @@
 //! The threads of connections.
 
-use connection_loop::{
-    Bell, LeaderGone, ReadsAhead, SessionLimits, Sides, leader_loop, session_loop, split,
-};
+use connection_loop::{Bell, LeaderGone, ReadsAhead, SessionLimits, Sides, leader_loop, split};
 use intake::{Port, PortEnd};
 use mio::net::TcpStream;
+use serve_clients::client_loop;
+use server_tally::ClientTally;
 use std::alloc::Global;
 use std::net::{IpAddr, Net};
 use std::sync::{Arc, Mutex, Wait};
@@ -22,6 +22,8 @@ pub struct Client {
     pub handle: JoinHandle<Option<PortEnd>>,
     pub bell: Arc<Bell, Global>,
     pub address: IpAddr,
+    /// The watches that it had after the last turn that told it something.
+    pub watches: u64,
 }
 
 /// The thread of the leader's connection.
@@ -69,6 +71,7 @@ pub(crate) fn start_client<R: Threads + Wait + Net + Clock + Copy + Send + 'stat
     text: Text,
     limits: SessionLimits,
     ahead: Arc<ReadsAhead, Global>,
+    tally: ClientTally,
 ) -> io::Result<Client> {
     let Sides {
         reader,
@@ -80,7 +83,7 @@ pub(crate) fn start_client<R: Threads + Wait + Net + Clock + Copy + Send + 'stat
         let port = handed.lock(&mine).take();
         match port {
             Some(port) => {
-                Some(session_loop(
+                Some(client_loop(
                     &mine,
                     alloc,
                     reader,
@@ -89,6 +92,7 @@ pub(crate) fn start_client<R: Threads + Wait + Net + Clock + Copy + Send + 'stat
                     Some(text),
                     limits,
                     ahead,
+                    tally,
                 ))
             }
             None => None,
@@ -98,5 +102,6 @@ pub(crate) fn start_client<R: Threads + Wait + Net + Clock + Copy + Send + 'stat
         handle,
         bell,
         address,
+        watches: 0,
     })
 }

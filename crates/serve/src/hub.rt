@@ -4,6 +4,7 @@ use crate::bounds::Bounds;
 use crate::connections::{Client, Handed, start_client};
 use crate::leading::Leading;
 use crate::log_keeping::LogKeeper;
+use crate::telling::peer_text;
 use apply_workers::OpenGate;
 use connection_loop::{ReadsAhead, Sides, split};
 use intake::{Budget, Desk, Port, Unlimited, Waker as HubWaker};
@@ -14,11 +15,12 @@ use serve_bounds::{Accepted, Door, Pause, Stopwatch, TurnBudget, address_text};
 use serve_failures::Failure;
 use serve_journal::Journal;
 use serve_record::Record;
+use server_tally::{ClientTally, Tally};
 use std::alloc::Global;
 use std::collections::BTreeMap;
 use std::collections::btree_map::Entry;
 use std::io::Write;
-use std::net::{IpAddr, Net};
+use std::net::{Net, SocketAddr};
 use std::sync::{Arc, Mutex, Wait};
 use std::thread::Threads;
 use std::time::{Clock, Duration};
@@ -53,6 +55,9 @@ pub struct Hub<L, W> {
     pub(crate) clients: BTreeMap<usize, Client>,
     // How many connections were ended because too much waited for clients.
     pub(crate) slow_ended: u64,
+    // The watches of all clients, as far as they were counted.
+    pub(crate) watches: u64,
+    pub(crate) tally: Arc<Tally, Global>,
     // How many were ended because of their watches.
     pub(crate) watching_ended: u64,
     from_acceptor: Consumer<Accepted>,
@@ -71,6 +76,7 @@ pub struct Parts {
     pub log_keeper: LogKeeper,
     pub bounds: Bounds,
     pub ahead: Arc<ReadsAhead, Global>,
+    pub tally: Arc<Tally, Global>,
     pub from_acceptor: Consumer<Accepted>,
     pub door: Arc<Door, Global>,
 }
@@ -89,6 +95,7 @@ impl<L: Log, W: Write + Drop> Hub<L, W> {
             log_keeper,
             bounds,
             ahead,
+            tally,
             from_acceptor,
             door,
         } = parts;
@@ -106,6 +113,8 @@ impl<L: Log, W: Write + Drop> Hub<L, W> {
             is_paused: false,
             clients: BTreeMap::new(alloc),
             slow_ended: 0,
+            watches: 0,
+            tally,
             watching_ended: 0,
             from_acceptor,
             door,
@@ -135,7 +144,7 @@ impl<L: Log, W: Write + Drop> Hub<L, W> {
         };
         let number = port.number();
         *handed.lock(rt) = Some(port);
-        match self.run_client(rt, number, sides, theirs, address.ip()) {
+        match self.run_client(rt, number, sides, theirs, address) {
             Ok(()) => {
                 self.journal.client_came(number, Some(address));
                 Ok(())
@@ -157,15 +166,19 @@ impl<L: Log, W: Write + Drop> Hub<L, W> {
         number: usize,
         sides: Sides,
         handed: Handed,
-        address: IpAddr,
+        peer: SocketAddr,
     ) -> Result<(), Failure> {
         let limits = self.bounds.session;
         let ahead = Arc::try_clone(&self.ahead)?;
+        let address = peer.ip();
         let text = address_text(self.alloc, address)?;
+        let named = peer_text(self.alloc, &text, peer)?;
+        let tally = Arc::try_clone(&self.tally)?;
+        let tally = ClientTally::new(self.alloc, tally, number as u64, named)?;
         match self.clients.entry(number)? {
             Entry::Vacant(entry) => {
                 let client = start_client(
-                    rt, self.alloc, sides, handed, address, text, limits, ahead,
+                    rt, self.alloc, sides, handed, address, text, limits, ahead, tally,
                 )?;
                 entry.insert(client);
                 Ok(())
@@ -231,6 +244,7 @@ impl<L: Log, W: Write + Drop> Hub<L, W> {
         self.record.add(self.desk.fresh());
         self.journal.turned(&self.desk);
         self.relieve_of_watches();
+        self.store_figures();
         let took = now.saturating_sub(began);
         if took > SLOW_TURN {
             self.journal.slow_turn(took, self.desk.fresh().len());
@@ -258,7 +272,9 @@ impl<L: Log, W: Write + Drop> Hub<L, W> {
             handle,
             bell: _,
             address,
+            watches,
         } = client;
+        self.watches = self.watches.saturating_sub(watches);
         if let Some(end) = handle.join(rt) {
             self.desk.close(end);
         }
@@ -366,6 +382,7 @@ impl<L: Log, W: Write + Drop> Hub<L, W> {
                 handle,
                 bell: _,
                 address: _,
+                watches: _,
             } = client;
             let _ = handle.join(rt);
         }

@@ -10,6 +10,7 @@ mod log_keeping;
 mod logging;
 mod serving;
 mod silence;
+mod telling;
 
 pub use command::serve;
 pub use connection_loop::{LeaderGone, leader_loop, session_loop};

@@ -6,6 +6,7 @@ use crate::leading::{Leading, Source};
 use crate::log_keeping::LogKeeper;
 use crate::logging::{Logging, start_logging};
 use crate::silence::SilenceLimits;
+use crate::telling::tally_of;
 use batcher::SpreadThreshold;
 use connection_loop::ReadsAhead;
 use following::Finding;
@@ -199,7 +200,9 @@ fn prepare<R: Net + Clock>(
     listener: TcpListener,
 ) -> Result<Prepared, Failure> {
     let mut clock = Stopwatch::start(rt);
-    let bounds = Bounds::new(options, TimeoutBounds::default());
+    let timeouts = TimeoutBounds::default();
+    let bounds = Bounds::new(options, timeouts);
+    let port = listener.local_addr()?.port();
     let (source, beginning) = begin_at(alloc, options, origin, clock.now(rt))?;
     let Accepting {
         acceptor,
@@ -217,6 +220,7 @@ fn prepare<R: Net + Clock>(
         log_keeper: LogKeeper::new(options.checkpoint),
         bounds,
         ahead: Arc::new(alloc, ReadsAhead::new(READS_AHEAD))?,
+        tally: tally_of(rt, alloc, options, port, timeouts)?,
         from_acceptor,
         door,
     };

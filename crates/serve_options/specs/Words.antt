@@ -11,7 +11,10 @@ parts_of text = slice_split (λ letter. letter == 44) text
 abbrev pub is_four_letter_word : List ℕ → Bool
 is_four_letter_word text =
     bytes_eq text (codes "ruok") || bytes_eq text (codes "isro") || bytes_eq text (codes "srvr")
-    || bytes_eq text (codes "mntr") || bytes_eq text (codes "wchs") || bytes_eq text (codes "wchp")
+    || bytes_eq text (codes "stat") || bytes_eq text (codes "mntr") || bytes_eq text (codes "conf")
+    || bytes_eq text (codes "envi") || bytes_eq text (codes "dirs") || bytes_eq text (codes "wchs")
+    || bytes_eq text (codes "wchp") || bytes_eq text (codes "cons") || bytes_eq text (codes "crst")
+    || bytes_eq text (codes "srst")
 
 abbrev pub is_among : List ℕ → List (List ℕ) → Bool
 is_among word parts = list_any (λ part. bytes_eq part word) parts
@@ -21,9 +24,16 @@ words_among parts = record {
   ruok = is_among (codes "ruok") parts;
   isro = is_among (codes "isro") parts;
   srvr = is_among (codes "srvr") parts;
+  stat = is_among (codes "stat") parts;
   mntr = is_among (codes "mntr") parts;
+  conf = is_among (codes "conf") parts;
+  envi = is_among (codes "envi") parts;
+  dirs = is_among (codes "dirs") parts;
   wchs = is_among (codes "wchs") parts;
   wchp = is_among (codes "wchp") parts;
+  cons = is_among (codes "cons") parts;
+  crst = is_among (codes "crst") parts;
+  srst = is_among (codes "srst") parts;
 }
 
 abbrev pub all_or_none : Bool → Words
@@ -31,9 +41,16 @@ all_or_none is_there = record {
   ruok = is_there;
   isro = is_there;
   srvr = is_there;
+  stat = is_there;
   mntr = is_there;
+  conf = is_there;
+  envi = is_there;
+  dirs = is_there;
   wchs = is_there;
   wchp = is_there;
+  cons = is_there;
+  crst = is_there;
+  srst = is_there;
 }
 
 -- All of them, none of them, or those between commas, each of which has to be one.

@@ -115,7 +115,9 @@ impl fmt::Display for Kind {
                 }
                 write!(f, "{least} to {most}")
             }
-            Kind::Words => f.write_str("all, none, or some of ruok,isro,srvr,mntr,wchs,wchp"),
+            Kind::Words => f.write_str(
+                "all, none, or some of ruok,isro,srvr,stat,mntr,conf,envi,dirs,wchs,wchp,cons,crst,srst",
+            ),
             Kind::File => f.write_str("the name of a file"),
             Kind::Level => f.write_str("off, error, warn, info or debug"),
             Kind::Format => f.write_str("text or json"),
@@ -313,7 +315,7 @@ const WORDS: Row = Row {
     word: "--words",
     value: "WORD,..",
     kind: Kind::Words,
-    without: Without::Value("ruok,isro,srvr,mntr,wchs"),
+    without: Without::Value("ruok,isro,srvr,stat,mntr,conf,envi,dirs,wchs"),
     help: "the four-letter words that are answered",
 };
 

@@ -12,9 +12,16 @@ pub struct Words {
     pub ruok: bool,
     pub isro: bool,
     pub srvr: bool,
+    pub stat: bool,
     pub mntr: bool,
+    pub conf: bool,
+    pub envi: bool,
+    pub dirs: bool,
     pub wchs: bool,
     pub wchp: bool,
+    pub cons: bool,
+    pub crst: bool,
+    pub srst: bool,
 }
 
 pub(crate) fn is_word(text: &str) -> bool
@@ -23,9 +30,16 @@ pub(crate) fn is_word(text: &str) -> bool
     text == "ruok"
         || text == "isro"
         || text == "srvr"
+        || text == "stat"
         || text == "mntr"
+        || text == "conf"
+        || text == "envi"
+        || text == "dirs"
         || text == "wchs"
         || text == "wchp"
+        || text == "cons"
+        || text == "crst"
+        || text == "srst"
 }
 
 // Whether each part of a text is a word.
@@ -50,9 +64,16 @@ fn all_or_none(is_there: bool) -> Words
         ruok: is_there,
         isro: is_there,
         srvr: is_there,
+        stat: is_there,
         mntr: is_there,
+        conf: is_there,
+        envi: is_there,
+        dirs: is_there,
         wchs: is_there,
         wchp: is_there,
+        cons: is_there,
+        crst: is_there,
+        srst: is_there,
     }
 }
 
@@ -74,22 +95,36 @@ pub fn words_of(text: &str) -> Option<Words>
         ruok: has(text, "ruok"),
         isro: has(text, "isro"),
         srvr: has(text, "srvr"),
+        stat: has(text, "stat"),
         mntr: has(text, "mntr"),
+        conf: has(text, "conf"),
+        envi: has(text, "envi"),
+        dirs: has(text, "dirs"),
         wchs: has(text, "wchs"),
         wchp: has(text, "wchp"),
+        cons: has(text, "cons"),
+        crst: has(text, "crst"),
+        srst: has(text, "srst"),
     })
 }
 
 impl Words {
     /// Each word, and whether it is answered.
-    pub fn each(self) -> [(&'static str, bool); 6] {
+    pub fn each(self) -> [(&'static str, bool); 13] {
         [
             ("ruok", self.ruok),
             ("isro", self.isro),
             ("srvr", self.srvr),
+            ("stat", self.stat),
             ("mntr", self.mntr),
+            ("conf", self.conf),
+            ("envi", self.envi),
+            ("dirs", self.dirs),
             ("wchs", self.wchs),
             ("wchp", self.wchp),
+            ("cons", self.cons),
+            ("crst", self.crst),
+            ("srst", self.srst),
         ]
     }
 }

@@ -39,7 +39,7 @@ fn some_lines_are_refused(rt: HostRuntime) -> Result<(), Fail> {
         "--leader 1 --client 2 --max-under-way 0",
         "--leader 1 --client 2 --max-watches 1000000001",
         "--leader 1 --client 2 --unconnected 3601",
-        "--leader 1 --client 2 --words ruok,stat",
+        "--leader 1 --client 2 --words ruok,wchc",
         "--leader 1 --client 2 --words none,ruok",
         "--leader 1 --client 2 --record --log",
         "--leader 1 --client 2 --secret-file --log",
@@ -125,10 +125,13 @@ fn bounds_for_clients_are_read(rt: HostRuntime) -> Result<(), Fail> {
 fn words_are_shown_as_they_are_given(rt: HostRuntime) -> Result<(), Fail> {
     let alloc = rt.alloc();
     for (line, wanted) in [
-        ("--leader 1 --client 2", "ruok,isro,srvr,mntr,wchs"),
+        (
+            "--leader 1 --client 2",
+            "ruok,isro,srvr,stat,mntr,conf,envi,dirs,wchs",
+        ),
         (
             "--leader 1 --client 2 --words all",
-            "ruok,isro,srvr,mntr,wchs,wchp",
+            "ruok,isro,srvr,stat,mntr,conf,envi,dirs,wchs,wchp,cons,crst,srst",
         ),
         ("--leader 1 --client 2 --words none", "none"),
         ("--leader 1 --client 2 --words wchp,ruok,ruok", "ruok,wchp"),

@@ -125,7 +125,7 @@ fn whole_files_are_read(rt: HostRuntime) -> Result<(), Fail> {
         sets(
             alloc,
             OPERATED,
-            "--servers zk-0.zk.svc:2888,zk-1.zk.svc:2888;--client 0.0.0.0:2182;--id 101;--tick 2000;--init-limit 10;--sync-limit 2;--max-clients 500;--super-digest super:D/InIHSb7yEEbrWz8b9l71RjZJU=;--words srvr,mntr,ruok;",
+            "--servers zk-0.zk.svc:2888,zk-1.zk.svc:2888;--client 0.0.0.0:2182;--id 101;--tick 2000;--init-limit 10;--sync-limit 2;--max-clients 500;--super-digest super:D/InIHSb7yEEbrWz8b9l71RjZJU=;--words cons,envi,conf,crst,srvr,stat,mntr,ruok;",
         )?
     );
     Ok(())

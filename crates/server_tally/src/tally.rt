@@ -1,0 +1,190 @@
+//! The counts of a server.
+
+use crate::client::Passed;
+use crate::counts::Counts;
+use server_words::{AnsweredWords, Report, ServerFigures, ServerSettings, ServerWord, answer};
+use settings::Dialect;
+use std::alloc::Global;
+use std::collections::BTreeMap;
+use std::sync::atomic::{AtomicBool, AtomicI64, AtomicU64, Ordering};
+use std::sync::{Arc, Mutex, Wait};
+use std::time::{Clock, Instant};
+use values::{Listed, NoMemory, Str, Text};
+
+/// What the hub knows after a turn.
+#[derive(Clone, Copy, Debug, PartialEq, Eq)]
+pub struct EngineFigures {
+    /// Whether clients are served.
+    pub serving: bool,
+    /// The last zxid.
+    pub zxid: i64,
+    /// The paths in the tree.
+    pub paths: u64,
+    pub watches: u64,
+    /// The pairs of a session and an ephemeral node.
+    pub pairs: u64,
+    /// The connections that were closed at once, for want of a place.
+    pub rejected: u64,
+}
+
+/// What a server tells of itself at any time.
+#[derive(Drop)]
+pub struct TallySettings {
+    /// The version of ZooKeeper that it answers for, and its own.
+    pub version: Text,
+    pub dialect: Dialect,
+    pub settings: ServerSettings,
+    /// The words that are answered.
+    pub words: AnsweredWords,
+}
+
+/// What all threads of a server count.
+#[derive(Drop)]
+pub struct Tally {
+    start: Option<Instant>,
+    told: TallySettings,
+    pub(crate) counts: Counts,
+    pub(crate) connections: AtomicU64,
+    pub(crate) clients: Mutex<BTreeMap<u64, Arc<Passed, Global>>>,
+    serving: AtomicBool,
+    zxid: AtomicI64,
+    paths: AtomicU64,
+    watches: AtomicU64,
+    pairs: AtomicU64,
+    rejected: AtomicU64,
+}
+
+impl Tally {
+    /// Begins to count. Clients aren't served yet.
+    pub fn new<T: Clock>(rt: &T, alloc: Global, told: TallySettings) -> Tally {
+        Tally {
+            start: Instant::now(rt).ok(),
+            told,
+            counts: Counts::new(),
+            connections: AtomicU64::new(0),
+            clients: Mutex::new(BTreeMap::new(alloc)),
+            serving: AtomicBool::new(false),
+            zxid: AtomicI64::new(0),
+            paths: AtomicU64::new(0),
+            watches: AtomicU64::new(0),
+            pairs: AtomicU64::new(0),
+            rejected: AtomicU64::new(0),
+        }
+    }
+
+    /// Stores what the hub knows.
+    pub fn store(&self, figures: EngineFigures) {
+        self.serving.store(figures.serving, Ordering::SeqCst);
+        self.zxid.store(figures.zxid, Ordering::SeqCst);
+        self.paths.store(figures.paths, Ordering::SeqCst);
+        self.watches.store(figures.watches, Ordering::SeqCst);
+        self.pairs.store(figures.pairs, Ordering::SeqCst);
+        self.rejected.store(figures.rejected, Ordering::SeqCst);
+    }
+
+    /// The microseconds since the start. While the clock can't be read, none have passed.
+    pub(crate) fn microseconds<T: Clock>(&self, rt: &T) -> u64 {
+        match (self.start, Instant::now(rt)) {
+            (Some(start), Ok(now)) => {
+                u64::try_from(now.duration_since(start).as_micros()).unwrap_or(u64::MAX)
+            }
+            _ => 0,
+        }
+    }
+
+    fn figures<T: Clock>(&self, rt: &T) -> ServerFigures {
+        ServerFigures {
+            serving: self.serving.load(Ordering::SeqCst),
+            latency: self.counts.latency(),
+            received: self.counts.received(),
+            sent: self.counts.sent(),
+            connections: self.connections.load(Ordering::SeqCst),
+            rejected: self.rejected.load(Ordering::SeqCst),
+            outstanding: self.counts.owed(),
+            zxid: self.zxid.load(Ordering::SeqCst),
+            paths: self.paths.load(Ordering::SeqCst),
+            watches: self.watches.load(Ordering::SeqCst),
+            pairs: self.pairs.load(Ordering::SeqCst),
+            uptime: self.microseconds(rt) / 1000,
+        }
+    }
+
+    // The connections that are open. They are listed first, so that no thread waits while their texts are made.
+    fn open_clients<T: Wait>(
+        &self,
+        rt: &T,
+        alloc: Global,
+    ) -> Result<Vec<Arc<Passed, Global>>, NoMemory> {
+        let mut open = Vec::new(alloc);
+        let clients = self.clients.lock(rt);
+        for client in clients.values() {
+            open.push(Arc::try_clone(client)?)?;
+        }
+        Ok(open)
+    }
+
+    // Counts anew what goes through each connection.
+    fn reset_clients<T: Wait>(&self, rt: &T) {
+        let clients = self.clients.lock(rt);
+        for client in clients.values() {
+            client.counts.reset();
+        }
+    }
+
+    fn listed<T: Wait>(
+        &self,
+        rt: &T,
+        alloc: Global,
+        word: ServerWord,
+    ) -> Result<Vec<Arc<Passed, Global>>, NoMemory> {
+        if !word.lists_clients() {
+            return Ok(Vec::new(alloc));
+        }
+        self.open_clients(rt, alloc)
+    }
+
+    // The answer to a word, with these clients listed.
+    fn text<T: Clock>(
+        &self,
+        rt: &T,
+        alloc: Global,
+        word: ServerWord,
+        open: &[Arc<Passed, Global>],
+    ) -> Result<Vec<u8>, NoMemory> {
+        let mut clients = Vec::with_capacity(alloc, open.len())?;
+        for client in open {
+            clients.push(client.figures())?;
+        }
+        let report = Report {
+            version: Str::new(self.told.version.as_str()),
+            dialect: self.told.dialect,
+            figures: self.figures(rt),
+            settings: self.told.settings,
+            clients: Listed::from_vec(clients),
+        };
+        let mut text = Vec::new(alloc);
+        answer(word, &report, &mut text)?;
+        Ok(text)
+    }
+
+    /// The answer to a word, or None if it isn't answered. Does what the word asks for.
+    pub(crate) fn answer<T: Wait + Clock>(
+        &self,
+        rt: &T,
+        alloc: Global,
+        word: ServerWord,
+    ) -> Result<Option<Vec<u8>>, NoMemory> {
+        if !self.told.words.has(word) {
+            return Ok(None);
+        }
+        self.counts.note_word();
+        let open = self.listed(rt, alloc, word)?;
+        let text = self.text(rt, alloc, word, open.as_slice())?;
+        match word {
+            ServerWord::Crst => self.reset_clients(rt),
+            ServerWord::Srst => self.counts.reset(),
+            _ => {}
+        }
+        Ok(Some(text))
+    }
+}
