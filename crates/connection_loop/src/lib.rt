@@ -1,9 +1,8 @@
 //! The thread of a connection: it reads what the peer sends, passes it to the hub through its port, and writes the
 //! hub's outputs.
 //!
-//! [`session_loop`] serves a client and [`leader_loop`] follows the leader, over any reader and writer. The reader of a
-//! socket waits ([`split`]) until the socket can be read or written, or the hub rings the [`Bell`]. So a thread makes
-//! system calls only if there is something to do, and once in ten seconds otherwise.
+//! [`session_loop`] serves a client and [`leader_loop`] follows the leader, over any reader and writer. A reader that has
+//! nothing is asked to [`Rest`] until there may be something to do, at most for ten seconds.
 //!
 //! A session sends on at most 16 whole frames at once, and the next ones when the hub has taken these and the answers
 //! are written: a client that sends much, or doesn't read, blocks only itself. A frame that the engine would hold while
@@ -17,7 +16,6 @@
 #![tactic(auto)]
 
 mod ahead;
-mod bell;
 mod frames;
 mod incoming;
 mod kind;
@@ -27,14 +25,11 @@ mod outgoing;
 mod patience;
 mod rest;
 mod session;
-mod waiting;
 mod window;
 
 pub use ahead::ReadsAhead;
-pub use bell::Bell;
 pub use frames::{frames_going, whole_frames};
 pub use kind::Gate;
 pub use limits::{AllowedWords, SessionLimits};
 pub use rest::{Close, Rest};
 pub use session::{LeaderGone, leader_loop, session_loop};
-pub use waiting::{Sides, Waiting, Writing, split};

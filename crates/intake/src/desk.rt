@@ -13,7 +13,6 @@ ghost use Rattle.intake.specs.Links.{taken_at, waiting_at, outbox_at, IsEnd, Kee
 ghost use Rattle.intake.specs.Desk.{new_desk, AddsPort, ForgetsNone, KeepsPorts, TakesTurn, TakesNothing, AnswersTurn};
 ghost use Rattle.intake.specs.Steps.{BeginsTurn, AreOfPorts, FeedsPort, ServesPorts};
 
-use crate::budget::{Budget, Unlimited};
 use crate::events::{bytes_of, events_of};
 use crate::link::Link;
 use crate::links::Links;
@@ -21,7 +20,7 @@ use crate::message::{AddPortError, Message};
 use crate::port::{Port, PortEnd};
 use apply_workers::Gate;
 use observer_core::{Config, Engine, Output, Stop};
-use port_hints::{Marks, Notes, Round, Waker, reserve};
+use port_hints::{Budget, Marks, Notes, Round, Unlimited, Waker, reserve};
 use rtrb::RingBuffer;
 use std::alloc::Global;
 use std::marker::Model;

@@ -9,12 +9,12 @@ ghost use Rattle.intake.specs.Desk.{TakesNothing};
 ghost use Rattle.intake.specs.Steps.{BeginsTurn};
 ghost use Rattle.intake.specs.Hub.{new_hub, GainsPort, RefusesTurn, TurnsHub, without_port};
 
-use crate::budget::Unlimited;
 use crate::desk::Desk;
 use crate::message::{AddPortError, Message};
 use crate::port::{Port, PortEnd};
 use apply_workers::Gate;
 use observer_core::{Config, Stop};
+use port_hints::Unlimited;
 use std::alloc::Global;
 use std::marker::Model;
 use std::thread::Threads;

@@ -36,7 +36,6 @@
 //! ```
 #![tactic(auto)]
 
-mod budget;
 mod desk;
 mod events;
 mod hub;
@@ -46,10 +45,9 @@ mod links;
 mod message;
 mod port;
 
-pub use budget::{Budget, Unlimited};
 pub use desk::{Desk, Limits};
 pub use hub::Hub;
 pub use law::{desks_agree, ends_stay, hubs_run};
 pub use message::{AddPortError, Full, Message};
 pub use port::{Port, PortEnd};
-pub use port_hints::Waker;
+pub use port_hints::{Budget, Unlimited, Waker};

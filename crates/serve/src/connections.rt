@@ -1,10 +1,11 @@
 //! The threads of connections.
 
-use connection_loop::{Bell, LeaderGone, ReadsAhead, SessionLimits, Sides, leader_loop, split};
+use connection_loop::{LeaderGone, ReadsAhead, SessionLimits, leader_loop};
 use intake::{Port, PortEnd};
 use mio::net::TcpStream;
 use serve_clients::client_loop;
 use server_tally::ClientTally;
+use session_streams::{Bell, Sides, split};
 use std::alloc::Global;
 use std::net::{IpAddr, Net};
 use std::sync::{Arc, Mutex, Wait};
