@@ -22,6 +22,8 @@ def roff(text):
     """Returns a text of the docs for a man page: links are their texts, and code is bold."""
     text = re.sub(r"\[([^\]]*)\]\([^)]*\)", r"\1", text).replace("\\", "\\e").replace("-", "\\-")
     text = re.sub(r"`([^`]*)`", r"\\fB\1\\fR", text)
+    # A long list may be broken after a comma.
+    text = re.sub(r",(?=\w)", r",\\:", text)
     # A line that begins so would be a request.
     return re.sub(r"^([.'])", r"\\&\1", text)
 

@@ -19,7 +19,7 @@ def helped(program):
 
 def plain(text):
     """Returns a text of a man page without its marks."""
-    text = re.sub(r"\\f[BRIP]|\\&", "", text).replace("\\-", "-").replace("\\e", "\\")
+    text = re.sub(r"\\f[BRIP]|\\[&:]", "", text).replace("\\-", "-").replace("\\e", "\\")
     # A value begins with its blank, in quotes.
     return text.replace(' " ', " ").replace('"', "")
 
