@@ -1,5 +1,6 @@
 -- Pairs that are visited by path or by session.
 use Rattle.std.proofs.Common.{◌≡◌, ℤ, List, [], ◌∷◌, Bool, true, false, not, ◌||◌, ◌&&◌, refl, sym, ap, ◌∙◌}
+use mathlib.Core.Bool.{true≢false}
 use Rattle.std.proofs.Math.Bool.{and-false, or-false}
 use Rattle.std.specs.List.{list_any}
 use Rattle.std.specs.Ordering.{eq_by_cmp, int_cmp}
@@ -10,7 +11,7 @@ use Rattle.std.specs.FinSet as set
 use Rattle.ephemerals.specs.Orders.{Bytes, Names, OwnerPairs, SessionIds, path_cmp, pair_cmp, sorted_names}
 use Rattle.ephemerals.specs.Pairs.{paths_of_session, without_session, pairs_at, without_paths}
 use Rattle.ephemerals.specs.Inner.PairsView.{pairs_of}
-use Rattle.ephemerals.specs.Inner.Steps.{pairs_on, without_path, pairs_with_session, pairs_with_path, without_all, with_all, without_listed_paths, with_pairs_from, HasGainedAt, HasLostAt, HasGainedOf}
+use Rattle.ephemerals.specs.Inner.Steps.{pairs_on, without_path, pairs_with_session, pairs_with_path, without_all, with_all, without_listed_paths, with_pairs_from, HasGainedAt, HasLostAt, HasGainedOf, HasGainedSomeOf}
 use Rattle.ephemerals.proofs.Totals.{path_total, pair_total, pair_exact}
 use Rattle.ephemerals.proofs.Ties.{tied_then, same_session}
 use Rattle.ephemerals.proofs.Ascending.{any-in_order}
@@ -290,3 +291,57 @@ union-none pairs = same_pairs _ _ (λ v q.
     set.contains-union pair_total pairs (pairs_of []) (v, q)
     ∙ ap (λ b. set.contains pairs (v, q) || b) (set.contains-empty pair_cmp (v, q))
     ∙ or-false (set.contains pairs (v, q)))
+
+-- ---- some of the pairs, where an allocation was refused
+
+-- No pair was removed.
+abbrev pub HasKept : OwnerPairs → OwnerPairs → Type 0
+HasKept old new = (r : ℤ × Bytes) → set.contains old r ≡ true → set.contains new r ≡ true
+
+pub kept_inserted : (old mid new : OwnerPairs) (p : ℤ × Bytes) → new ≡ set.insert mid p → HasKept old mid
+    → HasKept old new
+kept_inserted old mid new p is kept r has =
+    ap (λ s. set.contains s r) is
+    ∙ set.contains-insert pair_total mid p r
+    ∙ ap (λ b. eq_by_cmp pair_cmp r p || b) (kept r has)
+    ∙ by (eq_by_cmp pair_cmp r p)
+  where
+    by : (b : Bool) → (b || true) ≡ true
+    by true = refl
+    by false = refl
+
+pub kept_gained : (k : ℤ) (paths : Names) (old mid new : OwnerPairs) → HasGainedOf k paths mid new
+    → HasKept old mid → HasKept old new
+kept_gained k paths old mid new gained kept r has =
+    gained r.0 r.1 ∙ ap (λ b. b || (eq_by_cmp int_cmp r.0 k && set.contains paths r.1)) (kept r has)
+
+-- The session is still to be added to the rest of the paths.
+pub gained_some_of : (k : ℤ) (paths : Names) (old mid : OwnerPairs) (rest : List Bytes)
+    → with_all (pairs_with_session k rest) mid ≡ with_all (pairs_with_session k (sorted_names paths)) old
+    → HasKept old mid → HasGainedSomeOf k paths old mid
+gained_some_of k paths old mid rest is kept v q = (
+  kept (v, q),
+  λ has. sym (has_gained_of k paths old (with_all (pairs_with_session k rest) mid) is v q)
+      ∙ contains-with_all (pairs_with_session k rest) mid (v, q)
+      ∙ ap (λ b. b || list_any (eq_by_cmp pair_cmp (v, q)) (pairs_with_session k rest)) has,
+)
+
+pub subset_of_kept : (k : ℤ) (paths : Names) (old mid new : OwnerPairs) → HasGainedSomeOf k paths mid new
+    → HasKept old mid → set.is_subset old new ≡ true
+subset_of_kept k paths old mid new some kept =
+    set.contains-is_subset pair_total old new (λ r has. (some r.0 r.1).0 (kept r has))
+
+pub subset_of_union : (mid new all : OwnerPairs) (e : ℤ × Names) (es : List (ℤ × Names))
+    → HasGainedSomeOf e.0 e.1 mid new → set.union mid (pairs_of (e ∷ es)) ≡ all → set.is_subset new all ≡ true
+subset_of_union mid new all e es some is =
+    set.contains-is_subset pair_total new all (λ r has.
+    ap (λ s. set.contains s r) (sym is)
+    ∙ set.contains-union pair_total mid (pairs_of (e ∷ es)) r
+    ∙ ap (λ b. set.contains mid r || b) (contains-pairs_of e es r.0 r.1)
+    ∙ by (set.contains mid r) (eq_by_cmp int_cmp r.0 e.0 && set.contains e.1 r.1) (set.contains (pairs_of es) r)
+    ((some r.0 r.1).1 has))
+  where
+    by : (a b c : Bool) → (a || b) ≡ true → (a || (b || c)) ≡ true
+    by true b c h = refl
+    by false true c h = refl
+    by false false c h = absurd (true≢false (sym h))

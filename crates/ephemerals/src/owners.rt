@@ -1,11 +1,11 @@
 //! The owners of the ephemeral nodes.
 
-ghost use Rattle.std.specs.Prelude.{◌≡◌, ◌≢◌, ◌&&◌, OnOk, OnErr, IfOk, IfSome, IfNone, not, pos};
+ghost use Rattle.std.specs.Prelude.{◌≡◌, ◌≢◌, ◌&&◌, OnOk, OnErr, IfOk, IfSome, IfNone, true, not, pos};
 ghost use Rattle.std.specs.Ordering.{int_eq};
 ghost use Rattle.std.specs.FinSet as set;
 ghost use Rattle.ephemerals.specs.Pairs.{with_pair, without_pair, with_other_owner, paths_of_session, without_session};
 ghost use Rattle.ephemerals.specs.Pairs.{pairs_at, without_paths};
-ghost use Rattle.ephemerals.specs.Inner.Steps.{without_path, pairs_on, HasGainedAt, HasGainedOf};
+ghost use Rattle.ephemerals.specs.Inner.Steps.{without_path, pairs_on, HasGainedAt, HasGainedOf, HasGainedSomeOf};
 
 use crate::by_path::ByPath;
 use crate::by_session::BySession;
@@ -198,7 +198,8 @@ impl Ephemerals {
 
     // Adds the session to each of the paths.
     fn add_paths(&mut self, alloc: Global, session: i64, paths: &TextSet) -> Result<(), NoMemory>
-        ensures { OnOk result (HasGainedOf session paths.now self.old self.new) }
+        ensures ok { OnOk result (HasGainedOf session paths.now self.old self.new) }
+        ensures err { OnErr result (HasGainedSomeOf session paths.now self.old self.new) }
     {
         for path in paths.iter() {
             self.insert(alloc, session, path.as_str())?;
@@ -206,9 +207,11 @@ impl Ephemerals {
         Ok(())
     }
 
-    /// Adds all of the others' pairs. After a refused allocation some may be added.
+    /// Adds all of the others' pairs. A refused allocation takes no pair away, and leaves some of the others' added.
     pub fn add_all(&mut self, alloc: Global, others: &Ephemerals) -> Result<(), NoMemory>
-        ensures { OnOk result (self.new ≡ set.union self.old others.now) }
+        ensures ok { OnOk result (self.new ≡ set.union self.old others.now) }
+        ensures err_keeps { OnErr result (set.is_subset self.old self.new ≡ true) }
+        ensures err_adds { OnErr result (set.is_subset self.new (set.union self.old others.now) ≡ true) }
     {
         for (session, paths) in others.by_session.iter() {
             self.add_paths(alloc, *session, paths)?;

@@ -1,5 +1,5 @@
 -- Nodes that are taken out of a map, and put into one.
-use Rattle.std.proofs.Common.{◌≡◌, List, [], ◌∷◌, Bool, true, false, cond, not, ◌||◌, ◌&&◌, Option, Some, None, is_some, refl, sym, ap, ◌∙◌, string_bytes}
+use Rattle.std.proofs.Common.{◌≡◌, List, [], ◌∷◌, Bool, true, false, cond, not, ◌||◌, ◌&&◌, Option, Some, None, is_some, ◌⊎◌, inl, inr, refl, sym, ap, ◌∙◌, string_bytes}
 use Rattle.std.specs.List.{list_any}
 use Rattle.std.specs.Option.{option_or}
 use Rattle.std.proofs.Math.Bool.{and-false, or-false}
@@ -19,7 +19,7 @@ use Rattle.ephemerals.proofs.Totals.{path_total}
 use Rattle.ephemerals.proofs.Ascending.{any-in_order}
 use Rattle.node_map.specs.Nodes.{Nodes}
 use Rattle.node_map.specs.Agreement.{has_node}
-use Rattle.node_map.specs.Updates.{update_found, with_entries}
+use Rattle.node_map.specs.Updates.{update_found, with_entries, IsBetween}
 use Rattle.node_map.specs.Inner.Moving.{IsRoomFor, with_replaced_node, without_nodes, with_moved_nodes}
 use Rattle.node_map.specs.declared.node.Node.{Node}
 use Rattle.values.proofs.Keyed.{text_map_of, get-text_map_of, not_found_below}
@@ -192,17 +192,20 @@ room_for_all paths nodes room all q = sym (or-false (has_node room q)) ∙ all q
 
 -- ---- nodes that are inserted one by one
 
--- The first nodes with those of the others that aren't left.
+-- The first nodes with those of the others that aren't left. At each path they are as before, or as with all others.
 pub record IsJoining {Z : Type 0} (others old : Nodes) (left : List (String Z × Node)) (nodes : Nodes) : Type 0 where
   sorted : IsStrictlySortedBy string_cmp (keys_of left)
   same : (q : Bytes) → option_or (finmap.get (text_map_of left) q) (finmap.get nodes q)
       ≡ option_or (finmap.get others q) (finmap.get old q)
+  either : (q : Bytes) → (finmap.get nodes q ≡ finmap.get old q)
+      ⊎ (finmap.get nodes q ≡ option_or (finmap.get others q) (finmap.get old q))
 
 pub joining : {Z : Type 0} (others old : Nodes) (all : List (String Z × Node))
     → IsStrictlySortedBy string_cmp (keys_of all) → text_map_of all ≡ others → IsJoining others old all old
 joining others old all sorted is = record {
   sorted = sorted;
   same = λ q. ap (λ m. option_or (finmap.get m q) (finmap.get old q)) is;
+  either = λ q. inl refl;
 }
 
 pub joined_one : {Z : Type 0} (others old nodes new : Nodes) (e : String Z × Node) (es : List (String Z × Node))
@@ -218,6 +221,10 @@ joined_one others old nodes new e es before made = record {
       ∙ ap (λ o. option_or o (finmap.get nodes q))
       (sym (finmap.get-insert path_total (text_map_of es) (string_bytes e.0) e.1 q))
       ∙ before.same q;
+  either =
+      λ q.
+      now_either q (eq_by_cmp path_cmp q (string_bytes e.0)) refl
+      (ap (λ m. finmap.get m q) made ∙ finmap.get-insert path_total nodes (string_bytes e.0) e.1 q) (before.either q);
 }
   where
     by : (q : Bytes) (b : Bool) → eq_by_cmp path_cmp q (string_bytes e.0) ≡ b
@@ -228,9 +235,32 @@ joined_one others old nodes new e es before made = record {
         ∙ get-text_map_of es (string_bytes e.0)
         ∙ not_found_below (string_bytes e.0) es (sorted_head string_cmp e.0 (keys_of es) before.sorted))
     by q false t = refl
+    now_either : (q : Bytes) (b : Bool) → eq_by_cmp path_cmp q (string_bytes e.0) ≡ b
+        → finmap.get new q ≡ cond (eq_by_cmp path_cmp q (string_bytes e.0)) (Some e.1) (finmap.get nodes q)
+        → (finmap.get nodes q ≡ finmap.get old q)
+        ⊎ (finmap.get nodes q ≡ option_or (finmap.get others q) (finmap.get old q))
+        → (finmap.get new q ≡ finmap.get old q) ⊎ (finmap.get new q ≡ option_or (finmap.get others q) (finmap.get old q))
+    now_either q true t is or =
+        inr (is ∙ ap (λ b. cond b (Some e.1) (finmap.get nodes q)) t
+        ∙ ap (λ o. option_or o (finmap.get nodes q)) (sym (finmap.get-insert path_total (text_map_of es)
+        (string_bytes e.0) e.1 q ∙ ap (λ b. cond b (Some e.1) (finmap.get (text_map_of es) q)) t))
+        ∙ before.same q)
+    now_either q false t is (inl stays) = inl (is ∙ ap (λ b. cond b (Some e.1) (finmap.get nodes q)) t ∙ stays)
+    now_either q false t is (inr joined) = inr (is ∙ ap (λ b. cond b (Some e.1) (finmap.get nodes q)) t ∙ joined)
 
 pub all_joined : {Z : Type 0} (others old nodes : Nodes) → IsJoining {Z = Z} others old [] nodes
     → nodes ≡ with_entries old (finmap.entries others)
 all_joined others old nodes joined = finmap.same_map path_total exact_bytes _ _ (λ q.
     ap (λ o. option_or o (finmap.get nodes q)) (sym (finmap.get-empty path_cmp q))
     ∙ joined.same q ∙ sym (get-with old others q))
+
+pub joined_between : {Z : Type 0} (others old nodes : Nodes) (es : List (String Z × Node)) → IsJoining others old es nodes
+    → IsBetween old (with_entries old (finmap.entries others)) nodes
+joined_between others old nodes es joined q = by (joined.either q)
+  where
+    by : (finmap.get nodes q ≡ finmap.get old q)
+        ⊎ (finmap.get nodes q ≡ option_or (finmap.get others q) (finmap.get old q))
+        → (finmap.get nodes q ≡ finmap.get old q)
+        ⊎ (finmap.get nodes q ≡ finmap.get (with_entries old (finmap.entries others)) q)
+    by (inl stays) = inl stays
+    by (inr joins) = inr (joins ∙ sym (get-with old others q))

@@ -1,5 +1,5 @@
 -- What a transaction makes of a node, and the nodes after the one at a path has changed.
-use Rattle.std.specs.Prelude.{ℤ, pos, negsuc, Bool, true, int_lt, length, ◌==◌, ◌-◌, ◌%◌, ◌^◌, ◌+ℤ◌, ◌-ℤ◌, [], if◌then◌else◌, Some, Option, None, List, ◌∷◌}
+use Rattle.std.specs.Prelude.{◌≡◌, ◌⊎◌, ℤ, pos, negsuc, Bool, true, int_lt, length, ◌==◌, ◌-◌, ◌%◌, ◌^◌, ◌+ℤ◌, ◌-ℤ◌, [], if◌then◌else◌, Some, Option, None, List, ◌∷◌}
 use Rattle.std.specs.Int.{int_wrap, cast_unsigned, w32, w64}
 use Rattle.std.specs.Ordering.{int_eq}
 use Rattle.std.specs.FinSet as set
@@ -122,3 +122,8 @@ update_node nodes path f = update_found nodes path f (finmap.get nodes path)
 abbrev pub with_entries : Nodes → List (Bytes × Node) → Nodes
 with_entries nodes [] = nodes
 with_entries nodes (e ∷ es) = finmap.insert (with_entries nodes es) e.0 e.1
+
+-- At each path the nodes are as before the change, or as after it.
+abbrev pub IsBetween : Nodes → Nodes → Nodes → Type 0
+IsBetween before after nodes =
+    (path : Bytes) → (finmap.get nodes path ≡ finmap.get before path) ⊎ (finmap.get nodes path ≡ finmap.get after path)

@@ -114,10 +114,12 @@ impl NodeMap {
         Ok(())
     }
 
-    /// Inserts all of the others' nodes; they replace those at the same paths. After a refused allocation some may be
-    /// inserted.
+    /// Inserts all of the others' nodes; they replace those at the same paths. After a refused allocation some are
+    /// inserted, and the other paths are as they were.
     pub fn append(&mut self, others: NodeMap) -> Result<(), NoMemory>
-        ensures { OnOk result (self.new ≡ with_entries self.old (finmap.entries others)) }
+        ensures ok { OnOk result (self.new ≡ with_entries self.old (finmap.entries others)) }
+        ensures err { OnErr result
+            (IsBetween self.old (with_entries self.old (finmap.entries others)) self.new) }
     {
         for (path, node) in others.map {
             self.insert(path, node)?;

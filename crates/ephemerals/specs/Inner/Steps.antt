@@ -1,5 +1,5 @@
 -- Operations on pairs, one after the other.
-use Rattle.std.specs.Prelude.{◌≡◌, ℤ, List, [], ◌∷◌, map, not, ◌&&◌, ◌||◌}
+use Rattle.std.specs.Prelude.{◌≡◌, ℤ, List, [], ◌∷◌, map, true, not, ◌&&◌, ◌||◌}
 use Rattle.std.specs.FinSet as set
 use Rattle.std.specs.Ordering.{eq_by_cmp, int_cmp}
 use Rattle.ephemerals.specs.Orders.{Bytes, Names, OwnerPairs, SessionIds, path_cmp}
@@ -55,3 +55,10 @@ abbrev pub HasGainedOf : ℤ → Names → OwnerPairs → OwnerPairs → Type 0
 HasGainedOf session paths old new =
     (v : ℤ) (q : Bytes) → set.contains new (v, q)
     ≡ (set.contains old (v, q) || (eq_by_cmp int_cmp v session && set.contains paths q))
+
+-- The session was added to some of these paths.
+abbrev pub HasGainedSomeOf : ℤ → Names → OwnerPairs → OwnerPairs → Type 0
+HasGainedSomeOf session paths old new =
+    (v : ℤ) (q : Bytes) → (set.contains old (v, q) ≡ true → set.contains new (v, q) ≡ true)
+    × (set.contains new (v, q) ≡ true
+    → (set.contains old (v, q) || (eq_by_cmp int_cmp v session && set.contains paths q)) ≡ true)
