@@ -235,6 +235,7 @@ joined_one others old nodes new e es before made = record {
         ∙ get-text_map_of es (string_bytes e.0)
         ∙ not_found_below (string_bytes e.0) es (sorted_head string_cmp e.0 (keys_of es) before.sorted))
     by q false t = refl
+
     now_either : (q : Bytes) (b : Bool) → eq_by_cmp path_cmp q (string_bytes e.0) ≡ b
         → finmap.get new q ≡ cond (eq_by_cmp path_cmp q (string_bytes e.0)) (Some e.1) (finmap.get nodes q)
         → (finmap.get nodes q ≡ finmap.get old q)

@@ -7,7 +7,7 @@ ghost use Rattle.std.specs.FinMap as finmap;
 ghost use Rattle.std.specs.Map.Iter.{ShowsInOrder, deref_pair};
 ghost use Rattle.node_map.specs.declared.node.Node.{Node as TheNode};
 ghost use Rattle.node_map.specs.Inner.NodeMapLends.{LendsNode};
-ghost use Rattle.node_map.specs.Updates.{with_entries, update_node, with_data, with_acl, with_missing_acl, with_name};
+ghost use Rattle.node_map.specs.Updates.{with_entries, IsBetween, update_node, with_data, with_acl, with_missing_acl, with_name};
 ghost use Rattle.node_map.specs.Children.{with_added_child, added_child, without_added_child, without_child, without_missing_child, without_name, with_new_node, HasItsChildren};
 ghost use Rattle.node_map.specs.Agreement.{has_node, has_parent, AreLinked, AreNamed, AreChildNames, AreOwned, is_child_name, is_listed_at};
 
