@@ -1,16 +1,19 @@
 -- Cells that are taken out of a state, and put back.
-use Rattle.std.proofs.Common.{◌≡◌, Bool, true, false, cond, not, ◌||◌, ◌&&◌, Option, Some, None, refl, ap, ◌∙◌}
+use Rattle.std.proofs.Common.{◌≡◌, Bool, true, false, cond, not, ◌||◌, ◌&&◌, Option, Some, None, refl, sym, ap, ◌∙◌}
 use Rattle.std.specs.Option.{option_or}
 use Rattle.std.proofs.Math.Bool.{and-false, or-false}
 use Rattle.std.specs.FinMap as finmap
 use Rattle.std.specs.FinSet as set
-use Rattle.ephemerals.specs.Orders.{Bytes}
+use Rattle.ephemerals.specs.Orders.{Bytes, OwnerPairs}
 use Rattle.ephemerals.proofs.Totals.{pair_total}
 use Rattle.ephemerals.proofs.Steps.{contains-pairs_at, contains-without_paths}
 use Rattle.node_map.specs.declared.node.Node.{Node}
+use Rattle.node_map.specs.Nodes.{Nodes}
+use Rattle.node_map.specs.Updates.{IsBetween}
 use Rattle.node_map.proofs.MovedNodes.{get-kept, get-with}
+use Rattle.data_tree.specs.State.{State}
 use Rattle.data_tree.specs.Footprint.{IsSameCell}
-use Rattle.data_tree.specs.Cells.{cells_at, without_cells, with_cells, TakenCellsMove, CellsComeToEmptyCells, TakenAndPutBackIsTheState}
+use Rattle.data_tree.specs.Cells.{cells_at, without_cells, with_cells, HasPartOfCells, TakenCellsMove, CellsComeToEmptyCells, TakenAndPutBackIsTheState}
 use Rattle.data_tree.proofs.SameCells.{same_state, same_cell_trans}
 
 or_none : (o : Option Node) → option_or o None ≡ o
@@ -82,3 +85,18 @@ taken_and_put_back paths s =
     ] in
     same_state (with_cells (cells_at paths s) (without_cells paths s)) s refl
     (λ q. each q (set.contains paths q) refl)
+
+-- All pairs were added, and a part of the nodes.
+pub part_put : (cells old : State) (nodes : Nodes) (pairs : OwnerPairs) → pairs ≡ set.union old.pairs cells.pairs
+    → IsBetween old.nodes (with_cells cells old).nodes nodes
+    → HasPartOfCells cells old (record { nodes = nodes; pairs = pairs; sessions = old.sessions })
+part_put cells old nodes pairs is between = record {
+  nodes = between;
+  keeps_pairs = set.contains-is_subset pair_total old.pairs pairs (λ q has.
+      ap (λ s. set.contains s q) is
+      ∙ set.contains-union pair_total old.pairs cells.pairs q
+      ∙ ap (λ b. b || set.contains cells.pairs q) has);
+  adds_pairs = set.contains-is_subset pair_total pairs (with_cells cells old).pairs (λ q has.
+      ap (λ s. set.contains s q) (sym is) ∙ has);
+  sessions = refl;
+}

@@ -5,7 +5,7 @@ use Rattle.std.specs.FinSet as set
 use Rattle.ephemerals.specs.Orders.{Bytes, Names}
 use Rattle.ephemerals.specs.Pairs.{pairs_at, without_paths}
 use Rattle.txn_codec.specs.declared.txn.Txn.{Txn}
-use Rattle.node_map.specs.Updates.{with_entries}
+use Rattle.node_map.specs.Updates.{with_entries, IsBetween}
 use Rattle.data_tree.specs.State.{State}
 use Rattle.data_tree.specs.Meaning.{TxnEffect, effect_of_txn, answer_of}
 use Rattle.data_tree.specs.Footprint.{IsSameCell}
@@ -34,6 +34,13 @@ with_cells cells s = record {
   pairs = set.union s.pairs cells.pairs;
   sessions = s.sessions;
 }
+
+-- Some of the cells' nodes and pairs were added to the state; all others are as they were.
+pub record HasPartOfCells (cells old new : State) : Type 0 where
+  pub nodes : IsBetween old.nodes (with_cells cells old).nodes new.nodes
+  pub keeps_pairs : set.is_subset old.pairs new.pairs ≡ true
+  pub adds_pairs : set.is_subset new.pairs (with_cells cells old).pairs ≡ true
+  pub sessions : new.sessions ≡ old.sessions
 
 -- The effect of the transaction, without setting a session's timeout; timeouts are set on the whole state.
 abbrev pub effect_in_cells : State → Txn → TxnEffect

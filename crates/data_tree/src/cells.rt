@@ -1,7 +1,7 @@
 //! Cells that are taken out of a tree, so that groups of transactions can be applied separately.
 
 ghost use Rattle.std.specs.Prelude.{◌≡◌, [], pos, OnOk, OnErr, IfOk};
-ghost use Rattle.data_tree.specs.Cells.{cells_at, without_cells, with_cells, effect_in_cells};
+ghost use Rattle.data_tree.specs.Cells.{cells_at, without_cells, with_cells, effect_in_cells, HasPartOfCells};
 ghost use Rattle.data_tree.specs.Meaning.{answer_of};
 ghost use Rattle.data_tree.specs.Refused.{IsLeftByRefused};
 
@@ -62,10 +62,11 @@ impl Tree {
         })
     }
 
-    /// Moves the cells into the tree, where they replace empty cells. A refused allocation leaves the tree unspecified,
-    /// and the caller drops it.
+    /// Moves the cells into the tree, where they replace empty cells. After a refused allocation the tree has a part of
+    /// them, the rest is lost, and the caller drops the tree.
     pub fn put_cells(&mut self, alloc: Global, cells: Cells) -> Result<(), NoMemory>
-        ensures { OnOk result (self.new ≡ with_cells cells self.old) }
+        ensures ok { OnOk result (self.new ≡ with_cells cells self.old) }
+        ensures err { OnErr result (HasPartOfCells cells self.old self.new) }
     {
         self.put_tree(alloc, cells.tree)
     }

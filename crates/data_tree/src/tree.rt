@@ -14,7 +14,7 @@ ghost use Rattle.data_tree.specs.Inner.Mending.{with_mended, with_missing};
 ghost use Rattle.data_tree.specs.Whole.{IsWhole};
 ghost use Rattle.txn_codec.specs.Row.{has_error};
 ghost use Rattle.data_tree.specs.Meaning.{of_operation, of_set_acl, of_create_session, of_close_session, of_parts, stat_after, of_multi, with_names, delete_of, delete_operations, effect_of_txn, answer_of, fresh_state};
-ghost use Rattle.data_tree.specs.Cells.{cells_at, without_cells, with_cells};
+ghost use Rattle.data_tree.specs.Cells.{cells_at, without_cells, with_cells, HasPartOfCells};
 ghost use Rattle.data_tree.specs.Refused.{IsAfterFront};
 ghost use Rattle.data_tree.specs.Refused.{IsPartlyDone, IsLeftByRefused};
 ghost use Rattle.data_tree.specs.Inner.Doing.{DoesEffect};
@@ -494,7 +494,8 @@ impl Tree {
 
     // Moves the nodes and the pairs of another tree into this one.
     pub(crate) fn put_tree(&mut self, alloc: Global, cells: Tree) -> Result<(), NoMemory>
-        ensures { OnOk result (self.new ≡ with_cells cells self.old) }
+        ensures ok { OnOk result (self.new ≡ with_cells cells self.old) }
+        ensures err { OnErr result (HasPartOfCells cells self.old self.new) }
     {
         self.ephemerals.add_all(alloc, &cells.ephemerals)?;
         self.nodes.append(cells.nodes)
