@@ -7,9 +7,9 @@ use crate::figures::Latency;
 use settings::Dialect;
 use std::fmt;
 
-/// The average of some latencies, in the form of a dialect.
+/// The average of some latencies in milliseconds, in the form of a dialect: whole, or with four places.
 #[derive(Clone, Copy)]
-pub(crate) struct Average {
+pub struct Average {
     pub dialect: Dialect,
     pub latency: Latency,
 }

@@ -20,6 +20,7 @@ mod texts;
 mod word;
 
 pub use answered::AnsweredWords;
+pub use average::Average;
 pub use figures::{ClientFigures, Latency, Report, ServerFigures, ServerSettings};
 pub use texts::{NOT_SERVING, answer};
 pub use word::ServerWord;
