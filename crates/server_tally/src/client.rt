@@ -135,8 +135,9 @@ impl ClientTally {
             let rest = timed.after(answered);
             self.passed.set_timed(rest);
             if rest.is_none() {
-                let now = self.tally.microseconds(rt);
-                self.tally.counts.time(now.saturating_sub(timed.since));
+                let took = self.tally.microseconds(rt).saturating_sub(timed.since);
+                self.tally.counts.time(took);
+                self.tally.answers.add(took);
             }
         }
     }

@@ -7,7 +7,9 @@
 //! unless it lists these. The counts are read one after the other, so an answer may tell of a packet that came and not
 //! yet of its connection.
 //!
-//! Which text a word has is proved in `server_words`, and here how an answer is timed (`timed.rt`); that the counts are
+//! A monitoring system is told the same by [`Tally::metrics`], [`Tally::health`] and [`Tally::is_live`].
+//!
+//! Which text a word has is proved in `server_words`, that of the metrics in `server_metrics`, and here how an answer is timed (`timed.rt`); that the counts are
 //! right is tested.
 //!
 //! ```text
@@ -23,10 +25,12 @@
 
 mod client;
 mod counts;
+mod histogram;
 mod packets;
 mod tally;
+mod telling;
 mod timed;
 
 pub use client::ClientTally;
 pub use packets::{Found, PacketCount};
-pub use tally::{EngineFigures, Tally, TallySettings};
+pub use tally::{EngineFigures, Tally, TallySettings, TurnFigures};

@@ -2,6 +2,7 @@
 
 use crate::client::Passed;
 use crate::counts::Counts;
+use crate::histogram::Histogram;
 use server_words::{AnsweredWords, Report, ServerFigures, ServerSettings, ServerWord, answer};
 use settings::Dialect;
 use std::alloc::Global;
@@ -25,6 +26,19 @@ pub struct EngineFigures {
     pub pairs: u64,
     /// The connections that were closed at once, for want of a place.
     pub rejected: u64,
+    /// The sessions of the ensemble.
+    pub sessions: u64,
+    /// The transactions that are kept since the base.
+    pub log: u64,
+}
+
+/// What a turn of the hub was.
+#[derive(Clone, Copy, Debug, PartialEq, Eq)]
+pub struct TurnFigures {
+    /// The microseconds that it took.
+    pub took: u64,
+    /// Whether the leader was heard.
+    pub heard: bool,
 }
 
 /// What a server tells of itself at any time.
@@ -52,6 +66,26 @@ pub struct Tally {
     watches: AtomicU64,
     pairs: AtomicU64,
     rejected: AtomicU64,
+    pub(crate) sessions: AtomicU64,
+    pub(crate) log: AtomicU64,
+    // The transactions that were applied while clients were served.
+    pub(crate) transactions: AtomicU64,
+    // When the leader was last heard, and when the last turn ended, in microseconds since the start.
+    pub(crate) heard: AtomicU64,
+    pub(crate) turned: AtomicU64,
+    pub(crate) answers: Histogram,
+    pub(crate) turns: Histogram,
+}
+
+// How many transactions lead from a zxid to a later one. Within an epoch each has the next zxid.
+fn transactions_between(before: i64, after: i64) -> u64 {
+    let before = before.cast_unsigned();
+    let after = after.cast_unsigned();
+    if before >> 32 == after >> 32 {
+        after.saturating_sub(before)
+    } else {
+        0
+    }
 }
 
 impl Tally {
@@ -69,17 +103,46 @@ impl Tally {
             watches: AtomicU64::new(0),
             pairs: AtomicU64::new(0),
             rejected: AtomicU64::new(0),
+            sessions: AtomicU64::new(0),
+            log: AtomicU64::new(0),
+            transactions: AtomicU64::new(0),
+            heard: AtomicU64::new(0),
+            turned: AtomicU64::new(0),
+            answers: Histogram::new(),
+            turns: Histogram::new(),
+        }
+    }
+
+    // Counts the transactions that were applied since the last figures, if clients were served then and are served now.
+    fn count_transactions(&self, figures: EngineFigures) {
+        if figures.serving && self.serving.load(Ordering::SeqCst) {
+            let before = self.zxid.load(Ordering::SeqCst);
+            self.transactions
+                .fetch_add(transactions_between(before, figures.zxid), Ordering::SeqCst);
+        }
+    }
+
+    /// Counts a turn of the hub, which has just ended.
+    pub fn turn<T: Clock>(&self, rt: &T, figures: TurnFigures) {
+        let now = self.microseconds(rt);
+        self.turned.store(now, Ordering::SeqCst);
+        self.turns.add(figures.took);
+        if figures.heard {
+            self.heard.store(now, Ordering::SeqCst);
         }
     }
 
     /// Stores what the hub knows.
     pub fn store(&self, figures: EngineFigures) {
+        self.count_transactions(figures);
         self.serving.store(figures.serving, Ordering::SeqCst);
         self.zxid.store(figures.zxid, Ordering::SeqCst);
         self.paths.store(figures.paths, Ordering::SeqCst);
         self.watches.store(figures.watches, Ordering::SeqCst);
         self.pairs.store(figures.pairs, Ordering::SeqCst);
         self.rejected.store(figures.rejected, Ordering::SeqCst);
+        self.sessions.store(figures.sessions, Ordering::SeqCst);
+        self.log.store(figures.log, Ordering::SeqCst);
     }
 
     /// The microseconds since the start. While the clock can't be read, none have passed.
@@ -92,7 +155,7 @@ impl Tally {
         }
     }
 
-    fn figures<T: Clock>(&self, rt: &T) -> ServerFigures {
+    pub(crate) fn figures<T: Clock>(&self, rt: &T) -> ServerFigures {
         ServerFigures {
             serving: self.serving.load(Ordering::SeqCst),
             latency: self.counts.latency(),

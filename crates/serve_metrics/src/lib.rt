@@ -1,0 +1,21 @@
+//! The thread that answers monitoring systems over HTTP: `/metrics`, `/health` and `/live`.
+//!
+//! It serves one connection at a time, each for two seconds at most and for one request, from the counts of the server's
+//! [`Tally`](server_tally::Tally): so a slow or hostile peer takes neither a client's place nor the engine's time. HTTP
+//! is that of the crate `http_server`, whose answers are proved to be whole.
+//!
+//! ```text
+//! let Scraping { scraper, door } = open_scraping(rt, alloc, listener, tally, limit)?;
+//! thread::spawn(rt, move || answer_scrapers(rt, scraper))?;
+//! door.stop();                              // ends the thread
+//! ```
+#![tactic(auto)]
+
+mod memory;
+mod page;
+mod service;
+mod scraping;
+mod timed;
+
+pub use page::{Page, page_at};
+pub use scraping::{ScrapeDoor, Scraper, Scraping, answer_scrapers, open_scraping};

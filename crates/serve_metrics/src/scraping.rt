@@ -1,0 +1,194 @@
+//! The thread.
+
+use crate::service::Pages;
+use crate::timed::Timed;
+use http_server::{Config, Connection, serve};
+use mio::net::TcpListener;
+use mio::{Events, Interest, Poll, Token, Waker};
+use server_tally::Tally;
+use std::alloc::Global;
+use std::hash::RandomState;
+use std::io::ErrorKind;
+use std::net::{Net, TcpStream};
+use std::random::RandomSource;
+use std::rt::Files;
+use std::sync::atomic::{AtomicBool, Ordering};
+use std::sync::{Arc, Wait};
+use std::time::{Clock, Duration, Instant};
+use std::{io, thread};
+
+const LISTENER: usize = 0;
+
+const STOP: usize = 1;
+
+// The longest wait for a connection, in milliseconds; a wake that is lost costs no more than this.
+const LONGEST_WAIT: u64 = 1000;
+
+// The pause when the system has no descriptor left, in milliseconds.
+const PAUSE: u64 = 100;
+
+// The longest head of a request, in bytes. Bodies aren't read.
+const LONGEST_HEAD: usize = 4096;
+
+/// What ends the thread.
+#[derive(Drop)]
+pub struct ScrapeDoor {
+    stopped: AtomicBool,
+    waker: Waker,
+}
+
+impl ScrapeDoor {
+    /// Ends the thread.
+    pub fn stop(&self) {
+        self.stopped.store(true, Ordering::SeqCst);
+        // If the waker fails, the thread stops after its longest wait.
+        let _ = self.waker.wake();
+    }
+
+    pub(crate) fn is_stopped(&self) -> bool {
+        self.stopped.load(Ordering::SeqCst)
+    }
+}
+
+/// The state of the thread.
+pub struct Scraper {
+    listener: TcpListener,
+    poll: Poll,
+    events: Events,
+    door: Arc<ScrapeDoor, Global>,
+    tally: Arc<Tally, Global>,
+    alloc: Global,
+    limit: u64,
+}
+
+impl Drop for Scraper {
+    fn drop(self) {
+        let Scraper {
+            listener,
+            poll,
+            events,
+            door,
+            tally,
+            alloc: _,
+            limit: _,
+        } = self;
+        drop(poll);
+        drop(listener);
+        drop(events);
+        drop(door);
+        drop(tally);
+    }
+}
+
+/// The state of the thread, and what ends it.
+pub struct Scraping {
+    pub scraper: Scraper,
+    pub door: Arc<ScrapeDoor, Global>,
+}
+
+/// Prepares to answer from this tally. The leader of a healthy server may be silent for `limit` milliseconds.
+pub fn open_scraping(
+    net: &impl Net,
+    alloc: Global,
+    listener: TcpListener,
+    tally: Arc<Tally, Global>,
+    limit: u64,
+) -> io::Result<Scraping> {
+    let mut listener = listener;
+    let poll = Poll::new(net)?;
+    poll.registry()
+        .register(&mut listener, Token(LISTENER), Interest::READABLE)?;
+    let waker = Waker::new(poll.registry(), Token(STOP))?;
+    let events = Events::with_capacity(alloc, 4)?;
+    let door = Arc::new(
+        alloc,
+        ScrapeDoor {
+            stopped: AtomicBool::new(false),
+            waker,
+        },
+    )?;
+    let scraper = Scraper {
+        listener,
+        poll,
+        events,
+        door: Arc::try_clone(&door)?,
+        tally,
+        alloc,
+        limit,
+    };
+    Ok(Scraping { scraper, door })
+}
+
+fn config() -> Config {
+    let mut config = Config::default();
+    config.limits.max_head_len = LONGEST_HEAD;
+    config.limits.max_extensions_len = LONGEST_HEAD;
+    config.limits.max_trailers_len = LONGEST_HEAD;
+    config.max_body_len = 0;
+    config
+}
+
+impl Scraper {
+    // Answers the request of a connection.
+    fn answer<T: Clock + Files + RandomSource + Wait>(&self, rt: &T, stream: &TcpStream) -> io::Result<()> {
+        stream.set_nonblocking(false)?;
+        let began = Instant::now(rt).ok();
+        let door = &*self.door;
+        let mut reader = Timed {
+            rt,
+            stream,
+            door,
+            began,
+        };
+        let mut writer = Timed {
+            rt,
+            stream,
+            door,
+            began,
+        };
+        let mut pages = Pages {
+            rt,
+            alloc: self.alloc,
+            tally: &*self.tally,
+            limit: self.limit,
+        };
+        let keys = RandomState::new(rt)?;
+        let mut connection = Connection::new(self.alloc, keys, config());
+        serve(&mut connection, &mut pages, &mut reader, &mut writer)
+    }
+
+    // Answers the next connection, or waits for one.
+    fn answer_next<T: Clock + Files + RandomSource + Wait>(&mut self, rt: &T) {
+        match self.listener.accept() {
+            Ok((stream, _)) => {
+                let stream = TcpStream::from(stream);
+                // A peer that goes away, or is too slow, gets no answer.
+                let _ = self.answer(rt, &stream);
+            }
+            Err(error) => match error.kind() {
+                ErrorKind::WouldBlock => self.wait(),
+                ErrorKind::Interrupted | ErrorKind::ConnectionAborted => {}
+                // For example, no descriptor is left.
+                _ => thread::sleep(rt, Duration::from_millis(PAUSE)),
+            },
+        }
+    }
+
+    fn wait(&mut self) {
+        // If the wait fails, the next call accepts the connections for which it would have waited.
+        let _ = self
+            .poll
+            .poll(&mut self.events, Some(Duration::from_millis(LONGEST_WAIT)));
+    }
+}
+
+/// Answers connections, one at a time, until it is told to stop.
+pub fn answer_scrapers<T: Clock + Files + RandomSource + Wait>(rt: &T, scraper: Scraper) {
+    let mut scraper = scraper;
+    for _ in rt.forever() {
+        if scraper.door.is_stopped() {
+            return;
+        }
+        scraper.answer_next(rt);
+    }
+}
