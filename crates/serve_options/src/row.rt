@@ -192,7 +192,7 @@ const SERVERS: Row = Row {
     value: "HOST:PORT,..",
     kind: Kind::Addresses,
     without: Without::Meaning("a leader is given in place of it"),
-    help: "where each server that may lead listens for its learners; the one that leads is looked for among them, again and again",
+    help: "where each server that may lead listens for its learners; the leader is looked for among them, again and again",
 };
 
 const CLIENT: Row = Row {
@@ -272,7 +272,7 @@ const MAX_PER_ADDRESS: Row = Row {
     value: "N",
     kind: from_to!(1, u64::MAX),
     without: Without::Meaning("any number"),
-    help: "how many clients of one address may be connected at a time; one more is closed at once",
+    help: "how many of them may have the same address",
 };
 
 const MAX_UNDER_WAY: Row = Row {
@@ -352,7 +352,7 @@ const METRICS: Row = Row {
     value: "[ADDRESS:]PORT",
     kind: Kind::Address,
     without: Without::Meaning("nowhere"),
-    help: "where HTTP requests for metrics are answered",
+    help: "where metrics are served over HTTP",
 };
 
 const RECORD: Row = Row {
