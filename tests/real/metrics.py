@@ -73,6 +73,10 @@ def is_read(bench):
         assert buckets[-1] == (float("inf"), values[f"{name}_count"]) and values[f"{name}_sum"] >= 0, it
 
 
+def shared(told):
+    return [told[name] for name in SHARED]
+
+
 def asks(client):
     """One client's part of the load: reads, and watches of three kinds. Returns how many requests that are."""
     for number in range(NODES):
@@ -97,9 +101,10 @@ def same_load(bench):
     clients = [Raw(port, timeout=SESSION) for port in (bench.ours.client, bench.java.client) for _ in range(CLIENTS)]
     requests = sum(map(asks, clients)) // 2 + CLIENTS
     until("all are answered", lambda: bench.told()["packets_sent"] == before["packets_sent"] + requests)
+    # A connection that asked before may not be gone yet.
+    until("both tell the same", lambda: shared(bench.told()) == shared(bench.told_by_theirs()))
     ours, theirs = bench.told(), bench.told_by_theirs()
     pairs = (ours, before), (theirs, theirs_before)
-    assert [ours[it] for it in SHARED] == [theirs[it] for it in SHARED], (ours, theirs)
     assert ours["watch_count"] == CLIENTS * (NODES + 2) and ours["num_alive_connections"] == CLIENTS, ours
     came = [now["packets_received"] - then["packets_received"] for now, then in pairs]
     assert came == [requests, requests], (came, requests)
