@@ -13,7 +13,7 @@ from attacks import watching
 from exposition import HEADERS, TYPE, asked, everything, figures, figures_of, read, said
 from leader import CREATE, buffer
 from server import CONNECT, TOP, Server, is_closed, reset, wait_until
-from several import DIFF, Following, Seat
+from several import DIFF, Following, Seat, at_once
 from silence import GRACE, LIMIT, LIMITS, Pinging
 
 # How long a scraper is waited for, and how much later the machine may see to it.
@@ -231,8 +231,8 @@ def test_health_before_a_leader_serves():
         server.ends()
 
 
-def test_health_without_a_leader():
-    """A server that nobody leads is alive, for longer than an idle thread may wait."""
+def without_a_leader():
+    """A server that nobody leads is alive, for longer than a turn may be away."""
     port = free_port()
     with Following([Seat(is_open=False)], "--metrics", f"127.0.0.1:{port}"):
         until = time.monotonic() + 11.5
@@ -260,7 +260,8 @@ def falls_silent(port):
     return reasons
 
 
-def test_health_beside_silent_leaders():
+def beside_silent_leaders():
+    """It is healthy beside a leader that PINGs, and tells of one that doesn't."""
     port, reasons = free_port(), set()
     with Following([Seat()], *LIMITS, "--metrics", f"127.0.0.1:{port}") as server:
         for epoch in range(1, 6):
@@ -294,6 +295,8 @@ def test_requests_that_are_none():
             assert answer.status == 405 and answer.headers["allow"] == "GET, HEAD", (method, answer)
         body = b"POST /metrics" + HEADERS + b"Content-Length: 3\r\n\r\nabc"
         assert read(said(server.metrics, body)).status == 405
+        # A connection is closed after its answer, whatever else was asked.
+        assert read(said(server.metrics, 2 * (b"GET /live" + HEADERS + b"\r\n"))).body == b"ok\n"
         for content in (b"hello\r\n\r\n", b"GET /metrics\r\n\r\n", CONNECT + b"\r\n\r\n", b" / HTTP/1.1\r\n\r\n"):
             assert read(said(server.metrics, content)).status == 400, content
         assert figures(server.metrics)["observer_serving"] == 1
@@ -307,6 +310,8 @@ def test_long_heads_are_refused():
             assert content.startswith(b"HTTP/1.1 200 ") == is_taken, (size, content[:100])
             # Its refusal may be lost with the rest of the head, which isn't read.
             assert is_taken or content == b"" or 400 <= read(content).status < 500, (size, content)
+        content = said(server.metrics, b"GET /" + b"x" * 5000 + HEADERS + b"\r\n")
+        assert content == b"" or 400 <= read(content).status < 500, content
         assert server.memory() < 300 and server.is_serving()
         server.ends()
 
@@ -321,19 +326,24 @@ def is_left(connection, began):
     assert PATIENCE - 0.2 < took < PATIENCE + LATE, took
 
 
-def test_a_scraper_that_says_nothing():
+def silent_scraper():
+    """One that says nothing is left; the next ones wait meanwhile, and no client does."""
     with Metered() as server:
         with server.scraper() as silent:
-            began = time.monotonic()
-            # The next one waits meanwhile, and no client does.
+            began, waiting = time.monotonic(), [server.scraper() for _ in range(5)]
             assert server.is_serving() and time.monotonic() - began < 0.5
-            figures(server.metrics)
+            for it in waiting:
+                it.sendall(b"GET /metrics" + HEADERS + b"\r\n")
+            for it in waiting:
+                assert figures_of(read(everything(it)).body.decode("utf-8"))["observer_serving"] == 1
+                it.close()
             assert time.monotonic() - began < PATIENCE + LATE
             is_left(silent, began)
         server.ends()
 
 
-def test_a_scraper_that_is_slow():
+def slow_scraper():
+    """One that goes on byte by byte is left, too, if its head takes too long."""
     with Metered() as server:
         with server.scraper() as slow:
             began = time.monotonic()
@@ -353,6 +363,15 @@ def test_a_scraper_that_is_slow():
                 time.sleep(0.1)
             assert read(everything(slow)).body == b"ok\n"
         server.ends()
+
+
+def test_health_and_slow_scrapers():
+    at_once({
+        "without a leader": without_a_leader,
+        "beside silent leaders": beside_silent_leaders,
+        "a silent scraper": silent_scraper,
+        "a slow scraper": slow_scraper,
+    })
 
 
 def placed(server):
