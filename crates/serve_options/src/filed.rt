@@ -1,5 +1,8 @@
 //! What a configuration file sets, as options that say the same.
 
+ghost use Rattle.std.specs.Prelude.{◌≡◌, IfOk, map, filter};
+ghost use Rattle.serve_options.specs.Filed.{given_spelling, filed_spelling, counts_beside};
+
 use crate::given::Given;
 use crate::row::Name;
 use crate::words::is_word;
@@ -223,7 +226,9 @@ pub fn given_by<'a>(
     alloc: Global,
     filed: &'a [Filed],
     has_leader: bool,
-) -> Result<Vec<Given<'a>>, AllocError> {
+) -> Result<Vec<Given<'a>>, AllocError>
+    ensures { IfOk result (λ given. map given_spelling given.items ≡ map filed_spelling (filter (counts_beside has_leader) filed.now)) }
+{
     let mut given = Vec::with_capacity(alloc, filed.len())?;
     for option in filed {
         if option.name != Name::Servers || !has_leader {
