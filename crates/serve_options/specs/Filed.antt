@@ -1,11 +1,21 @@
--- What a configuration file sets, as options.
-use Rattle.std.specs.Prelude.{ℕ, List, Bool, ◌&&◌, not, Option, Some, nat_eq, string_bytes}
+-- What a configuration file sets, beside the options that are given.
+use Rattle.std.specs.Prelude.{ℕ, List, [], ◌∷◌, Bool, ◌&&◌, not, Option, Some, None, nat_eq, if◌then◌else◌, string_bytes}
 use Rattle.std.specs.Option.{option_map}
+use Rattle.std.specs.Str.{bytes_eq}
 use Rattle.serve_options.specs.declared.row.Name.{Name}
 use Rattle.serve_options.specs.declared.row.Name.TheVariants as names
 use Rattle.serve_options.specs.declared.filed.Filed.{Filed}
 use Rattle.serve_options.specs.declared.given.Given.{Given}
 use Rattle.serve_options.specs.Given.{name_place}
+
+abbrev pub first_word : List (List ℕ) → Option (List ℕ)
+first_word [] = None
+first_word (word ∷ words) = Some word
+
+-- The word after the first that is the option's.
+abbrev pub word_after : List ℕ → List (List ℕ) → Option (List ℕ)
+word_after option [] = None
+word_after option (word ∷ words) = if bytes_eq word option then first_word words else word_after option words
 
 -- The name of an option, and its value as it is spelled.
 abbrev pub given_spelling : Given → Name × Option (List ℕ)
