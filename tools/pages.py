@@ -49,7 +49,7 @@ ROW = re.compile(rf"const \w+: Row = Row \{{\s*word: {TEXT},\s*value: {TEXT},\s*
 BY_DIALECT = re.compile(
     rf"Fault::(\w+) => match dialect \{{\s*Dialect::Zk34 =>\s*{TEXT},\s*Dialect::Zk38 =>\s*{TEXT},\s*\}}"
 )
-NUMBER = re.compile(r"Kind::Number\(Bounds \{\s*least: ([\w:]+),\s*most: ([\w:]+),?\s*\}\)")
+NUMBER = re.compile(r"from_to!\(([\w:]+), ([\w:]+)\)")
 
 
 def text_of(file):
@@ -93,7 +93,7 @@ def rows():
     for word, value, kind, without, purpose in ROW.findall(text):
         may = "" if kind == "Kind::Nothing" else value_text(kind, words)
         told = re.search(TEXT, without)
-        name = re.match(r"Kind::(\w+)", kind)[1]
+        name = "Number" if NUMBER.fullmatch(kind) else kind.split("::")[1]
         found.append(Option(word, value, purpose, name, may, told[1] if told else "", "::Value" in without))
     if len(found) != text.count(": Row = Row {"):
         raise ValueError(f"{ROWS}: a row that isn't understood")

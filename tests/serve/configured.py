@@ -89,6 +89,22 @@ def test_what_a_file_would_do():
         assert told.splitlines() == [f"observer: {name}:15: unknown key", "usage"], told
 
 
+def test_metrics():
+    lines = [
+        "server.7=zk1:2888:3888",
+        "metricsProvider.className=org.apache.zookeeper.metrics.prometheus.PrometheusMetricsProvider",
+        "metricsProvider.httpHost=127.0.0.1",
+        "metricsProvider.exportJvmInfo=true",
+    ]
+    with file_of(text_of(*lines)) as name:
+        for words, address in (([], "127.0.0.1:7000"), (["--metrics", "[::1]:0"], "[::1]:0")):
+            status, out, told = commands.run("--check-config", name, *words)
+            assert (status, told) == (0, ""), (status, told)
+            first, last = out.splitlines()
+            assert first == f"{name}:14: metricsProvider.exportJvmInfo isn't heeded", out
+            assert last.endswith(f" --words isro,srvr,stat --metrics {address}"), out
+
+
 def test_a_dynamic_file():
     with file_of("server.7=zk1:2888:3888:participant;2181\nserver.1=here:2888:3888:observer;2182\n") as other:
         text = "dataDir={folder}\ntickTime=2000\ndynamicConfigFile=" + other + "\n"
@@ -109,6 +125,10 @@ BAD = [
     ("server.9=zk1", "11: server.N="),
     ("tickTime=0", " --tick 0: 1 to 3600000"),
     ("clientPort=x", " --client 127.0.0.1:x: PORT or HOST:PORT"),
+    (
+        "metricsProvider.httpPort=x\nmetricsProvider.className=org.apache.zookeeper.metrics.prometheus.PrometheusMetricsProvider",
+        " --metrics 0.0.0.0:x: PORT or HOST:PORT",
+    ),
 ]
 
 

@@ -76,6 +76,9 @@ impl<'a> SettingsLine<'a> {
         if let Some(seconds) = self.options.give_up {
             write!(f, " --give-up {seconds}")?;
         }
+        if let Some(address) = self.options.metrics {
+            write!(f, " --metrics {address}")?;
+        }
         if let Some(counter) = self.options.first_counter {
             let counter = counter.number();
             write!(f, " --counter {counter}")?;

@@ -3,7 +3,7 @@ use Rattle.std.proofs.Common.{◌≡◌, ◌≢◌, ◌<◌, ◌+◌, ℕ, List,
 use Rattle.std.specs.Prelude.{slice_index_or}
 use Rattle.std.proofs.Math.Nat.{eq-or-lt_of_le}
 use Rattle.serve_options.specs.declared.row.Name.{Name}
-use Rattle.serve_options.specs.declared.row.Name.TheVariants.{Config, CheckConfig, Leader, Servers, Client, Id, Dialect, Counter, SecretFile, SuperDigest, Workers, Batch, MaxClients, MaxPerAddress, MaxUnderWay, MaxWatches, Unconnected, Words, Tick, InitLimit, SyncLimit, Checkpoint, GiveUp, Record, Log, LogFormat, Help, Version}
+use Rattle.serve_options.specs.declared.row.Name.TheVariants.{Config, CheckConfig, Leader, Servers, Client, Id, Dialect, Counter, SecretFile, SuperDigest, Workers, Batch, MaxClients, MaxPerAddress, MaxUnderWay, MaxWatches, Unconnected, Words, Tick, InitLimit, SyncLimit, Checkpoint, GiveUp, Metrics, Record, Log, LogFormat, Help, Version}
 use Rattle.serve_options.specs.declared.row.TheConstants.{NAMES}
 use Rattle.serve_options.specs.Given.{name_place}
 use Rattle.serve_options.specs.Rows.{option_word}
@@ -32,13 +32,14 @@ name_at InitLimit = refl
 name_at SyncLimit = refl
 name_at Checkpoint = refl
 name_at GiveUp = refl
+name_at Metrics = refl
 name_at Record = refl
 name_at Log = refl
 name_at LogFormat = refl
 name_at Help = refl
 name_at Version = refl
 
-pub place_below : (name : Name) → name_place name < 28
+pub place_below : (name : Name) → name_place name < 29
 place_below Config = lit< tt
 place_below CheckConfig = lit< tt
 place_below Leader = lit< tt
@@ -62,6 +63,7 @@ place_below InitLimit = lit< tt
 place_below SyncLimit = lit< tt
 place_below Checkpoint = lit< tt
 place_below GiveUp = lit< tt
+place_below Metrics = lit< tt
 place_below Record = lit< tt
 place_below Log = lit< tt
 place_below LogFormat = lit< tt

@@ -11,15 +11,16 @@ use Rattle.serve_options.specs.declared.command.Options.{Options}
 use Rattle.serve_options.specs.declared.command.ConfigFile.{ConfigFile}
 use Rattle.serve_options.specs.declared.command.Servers.{Servers}
 use Rattle.serve_options.specs.declared.command.Servers.TheVariants as followed
+use Rattle.serve_options.specs.declared.value.Address.{Address}
 use Rattle.serve_options.specs.declared.value.LogFormat.{LogFormat}
 use Rattle.serve_options.specs.declared.value.LogFormat.TheVariants.{Text}
 use Rattle.serve_options.specs.declared.words.Words.{Words}
 use Rattle.serve_options.specs.declared.command.Command.{Command}
 use Rattle.serve_options.specs.declared.command.Command.TheVariants as commands
 use Rattle.serve_options.specs.Given.{given_of, value_of, number_given, IsGivenBy}
-use Rattle.serve_options.specs.Rows.{option_bounds, IsWithin}
+use Rattle.serve_options.specs.Rows.{option_bounds, option_word, IsWithin}
 use Rattle.serve_options.specs.Values.{SpellsAddress, level_of, format_of, dialect_of}
-use Rattle.serve_options.specs.Words.{named_words}
+use Rattle.serve_options.specs.Words.{is_among, named_words}
 
 -- Each number is within the bounds of its option. Those of the server's id and of the limits are kept by their types.
 pub record IsWithinBounds (options : Options) : Type 0 where
@@ -35,11 +36,16 @@ pub record IsWithinBounds (options : Options) : Type 0 where
   pub checkpoint : IsWithin (option_bounds names.Checkpoint) options.checkpoint
   pub give_up : IfSome options.give_up (IsWithin (option_bounds names.GiveUp))
 
+-- The address that a value spells, if there is a value.
+abbrev pub IsAddressOf : Option (List ℕ) → Option Address → Type 0
+IsAddressOf value None = value ≡ None
+IsAddressOf value (Some address) =
+    (text : List ℕ) × (value ≡ Some text) × SpellsAddress text address.host.now address.port
+
 -- The leader's address, or between 1 and 64 servers; and only one of the two is given.
 abbrev pub AreServersOf : List Given → Servers → Type 0
 AreServersOf given (followed.Leader address) =
-    (text : List ℕ) × (value_of names.Leader given ≡ Some text) × SpellsAddress text address.host.now address.port
-    × (value_of names.Servers given ≡ None)
+    IsAddressOf (value_of names.Leader given) (Some address) × (value_of names.Servers given ≡ None)
 AreServersOf given (followed.Any addresses) =
     (text : List ℕ) × (value_of names.Servers given ≡ Some text) × (1 ≤ vec_len addresses) × (vec_len addresses ≤ 64)
     × (value_of names.Leader given ≡ None)
@@ -69,8 +75,7 @@ pub record IsSetBy (given : List Given) (options : Options) : Type 0 where
   pub server_id : options.server_id ≡ pos (id_given given)
   pub log : level_given given ≡ Some options.log
   pub log_format : format_given given ≡ Some options.log_format
-  pub client : (text : List ℕ) × (value_of names.Client given ≡ Some text)
-      × SpellsAddress text options.client.host.now options.client.port
+  pub client : IsAddressOf (value_of names.Client given) (Some options.client)
   pub default_id : IsTrue options.default_id ↔ (given_of names.Id given ≡ None)
   pub dialect : dialect_given given ≡ Some options.dialect
   pub counter : options.first_counter ≡ number_given names.Counter given
@@ -89,22 +94,31 @@ pub record IsSetBy (given : List Given) (options : Options) : Type 0 where
   pub sync_limit : number_given names.SyncLimit given ≡ Some options.sync_limit
   pub checkpoint : number_given names.Checkpoint given ≡ Some options.checkpoint
   pub give_up : options.give_up ≡ number_given names.GiveUp given
+  pub metrics : IsAddressOf (value_of names.Metrics given) options.metrics
   pub file : option_map (λ name. name.now) options.«record» ≡ value_of names.Record given
 
--- The file that is given, to be followed or to be told of.
-abbrev pub IsFileOf : List Given → ConfigFile → Type 0
-IsFileOf given file =
-    value_of (if file.is_check then names.CheckConfig else names.Config) given ≡ Some file.name.now
+-- The file that is given, to be followed or to be told of, and not both.
+abbrev pub IsFileOf : List Given → Option ConfigFile → Type 0
+IsFileOf given None = (value_of names.Config given ≡ None) × (value_of names.CheckConfig given ≡ None)
+IsFileOf given (Some file) =
+    (value_of (if file.is_check then names.CheckConfig else names.Config) given ≡ Some file.name.now)
+    × (value_of (if file.is_check then names.Config else names.CheckConfig) given ≡ None)
 
 -- What a file sets counts where no option of that name is given.
 abbrev pub AreOptionsOver : List (List ℕ) → List Given → Options → Type 0
 AreOptionsOver words filed options =
     (given : List Given) × IsGivenBy given words × IsSetBy (given ++ filed) options × IsWithinBounds options
 
+-- What is asked for by a word that may stand anywhere, whatever the others are: help goes before the version.
+abbrev pub command_asked : List (List ℕ) → Option Command
+command_asked words =
+    if is_among (option_word names.Help) words then Some commands.Help
+    else (if is_among (option_word names.Version) words then Some commands.Version else None)
+
 -- The words of a command line that serves spell the options that it sets, each within its bounds.
 abbrev pub AreWordsOf : Command → List (List ℕ) → Type 0
 AreWordsOf (commands.Serve options) words =
-    (given : List Given) × IsGivenBy given words × IsSetBy given options × IsWithinBounds options
-AreWordsOf (commands.Configured file) words = (given : List Given) × IsGivenBy given words × IsFileOf given file
-AreWordsOf commands.Help words = Unit {0}
-AreWordsOf commands.Version words = Unit {0}
+    (given : List Given) × IsGivenBy given words × IsFileOf given None × IsSetBy given options × IsWithinBounds options
+AreWordsOf (commands.Configured file) words =
+    (given : List Given) × IsGivenBy given words × IsFileOf given (Some file)
+AreWordsOf command words = command_asked words ≡ Some command

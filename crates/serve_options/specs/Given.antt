@@ -5,7 +5,7 @@ use Rattle.std.specs.List.{find, starts_with}
 use Rattle.std.specs.Option.{option_map}
 use Rattle.values.specs.Maybe.{◌>>=◌}
 use Rattle.serve_options.specs.declared.row.Name.{Name}
-use Rattle.serve_options.specs.declared.row.Name.TheVariants.{Config, CheckConfig, Leader, Servers, Client, Id, Dialect, Counter, SecretFile, SuperDigest, Workers, Batch, MaxClients, MaxPerAddress, MaxUnderWay, MaxWatches, Unconnected, Words, Tick, InitLimit, SyncLimit, Checkpoint, GiveUp, Record, Log, LogFormat, Help, Version}
+use Rattle.serve_options.specs.declared.row.Name.TheVariants.{Config, CheckConfig, Leader, Servers, Client, Id, Dialect, Counter, SecretFile, SuperDigest, Workers, Batch, MaxClients, MaxPerAddress, MaxUnderWay, MaxWatches, Unconnected, Words, Tick, InitLimit, SyncLimit, Checkpoint, GiveUp, Metrics, Record, Log, LogFormat, Help, Version}
 use Rattle.serve_options.specs.declared.row.Kind.{Kind}
 use Rattle.serve_options.specs.declared.row.Kind.TheVariants.{Nothing, Level}
 use Rattle.serve_options.specs.declared.error.OptionError.{OptionError}
@@ -38,11 +38,12 @@ name_place InitLimit = 19
 name_place SyncLimit = 20
 name_place Checkpoint = 21
 name_place GiveUp = 22
-name_place Record = 23
-name_place Log = 24
-name_place LogFormat = 25
-name_place Help = 26
-name_place Version = 27
+name_place Metrics = 23
+name_place Record = 24
+name_place Log = 25
+name_place LogFormat = 26
+name_place Help = 27
+name_place Version = 28
 
 abbrev pub is_named : Name → Given → Bool
 is_named name option = nat_eq (name_place option.name) (name_place name)

@@ -1,7 +1,7 @@
 -- The options: the word of each, and what its value may be.
 use Rattle.std.specs.Prelude.{ℕ, ◌-◌, ◌^◌, ◌≤◌, List, codes}
 use Rattle.serve_options.specs.declared.row.Name.{Name}
-use Rattle.serve_options.specs.declared.row.Name.TheVariants.{Config, CheckConfig, Leader, Servers, Client, Id, Dialect, Counter, SecretFile, SuperDigest, Workers, Batch, MaxClients, MaxPerAddress, MaxUnderWay, MaxWatches, Unconnected, Words, Tick, InitLimit, SyncLimit, Checkpoint, GiveUp, Record, Log, LogFormat, Help, Version}
+use Rattle.serve_options.specs.declared.row.Name.TheVariants.{Config, CheckConfig, Leader, Servers, Client, Id, Dialect, Counter, SecretFile, SuperDigest, Workers, Batch, MaxClients, MaxPerAddress, MaxUnderWay, MaxWatches, Unconnected, Words, Tick, InitLimit, SyncLimit, Checkpoint, GiveUp, Metrics, Record, Log, LogFormat, Help, Version}
 use Rattle.serve_options.specs.declared.row.Bounds.{Bounds}
 use Rattle.serve_options.specs.declared.row.Kind.{Kind}
 use Rattle.serve_options.specs.declared.row.Kind.TheVariants as kinds
@@ -30,6 +30,7 @@ option_word InitLimit = codes "--init-limit"
 option_word SyncLimit = codes "--sync-limit"
 option_word Checkpoint = codes "--checkpoint"
 option_word GiveUp = codes "--give-up"
+option_word Metrics = codes "--metrics"
 option_word Record = codes "--record"
 option_word Log = codes "--log"
 option_word LogFormat = codes "--log-format"
@@ -64,6 +65,7 @@ option_kind InitLimit = from_to 0 1000000
 option_kind SyncLimit = from_to 0 1000000
 option_kind Checkpoint = from_to 0 1048576
 option_kind GiveUp = from_to 1 31536000
+option_kind Metrics = kinds.Address
 option_kind Record = kinds.File
 option_kind Log = kinds.Level
 option_kind LogFormat = kinds.Format

@@ -1,10 +1,11 @@
 //! The commands of `serve`.
 
-ghost use Rattle.std.specs.Prelude.{◌≡◌, ◌++◌, ℕ, pos, List, map, string_bytes, true, None, Some, IfSome, IfNone, IfOk, option_map};
+ghost use Rattle.std.specs.Prelude.{◌≡◌, ◌++◌, ℕ, pos, List, map, string_bytes, true, None, Some, Ok, IfSome, IfOk, option_map};
 ghost use Rattle.serve_options.specs.Rows.{option_bounds, IsWithin};
-ghost use Rattle.serve_options.specs.Values.{number_within, SpellsAddress, is_digest_text};
+ghost use Rattle.serve_options.specs.Values.{number_within, is_digest_text};
+ghost use Rattle.serve_options.specs.Words.{is_among};
 ghost use Rattle.serve_options.specs.Given.{value_of, number_given, number_answer};
-ghost use Rattle.serve_options.specs.Commands.{IsWithinBounds, IsSetBy, IsFileOf, AreOptionsOver, AreWordsOf, AreServersOf, id_given, words_given, level_given, format_given, dialect_given};
+ghost use Rattle.serve_options.specs.Commands.{IsWithinBounds, IsSetBy, IsAddressOf, IsFileOf, AreOptionsOver, AreWordsOf, command_asked, AreServersOf, id_given, words_given, level_given, format_given, dialect_given};
 
 use crate::error::OptionError;
 use crate::given::{Given, find_given, given_in, spelled};
@@ -71,6 +72,8 @@ pub struct Options<'a> {
     pub checkpoint: u64,
     /// For how many seconds a leader is looked for, from 1 to 31,536,000; None: without end.
     pub give_up: Option<u64>,
+    /// The address at which HTTP requests for metrics are answered.
+    pub metrics: Option<Address<'a>>,
 }
 
 /// A configuration file.
@@ -151,8 +154,7 @@ fn number<'a>(given: &[Given<'a>], name: Name) -> Result<u64, OptionError<'a>>
 }
 
 fn address_in<'a>(given: &[Given<'a>], name: Name) -> Result<Option<Address<'a>>, OptionError<'a>>
-    ensures some { IfOk result (λ found. IfSome found (λ address. (text : List ℕ) × (value_of name given.now ≡ Some text) × SpellsAddress text address.host.now address.port)) }
-    ensures none { IfOk result (λ found. IfNone found (value_of name given.now ≡ None)) }
+    ensures { IfOk result (IsAddressOf (value_of name given.now)) }
 {
     let Some(value) = spelled(given, name) else {
         return Ok(None);
@@ -179,7 +181,7 @@ fn servers_in<'a>(alloc: Global, given: &[Given<'a>]) -> Result<Servers<'a>, Opt
 }
 
 fn client_in<'a>(given: &[Given<'a>]) -> Result<Address<'a>, OptionError<'a>>
-    ensures { IfOk result (λ client. (text : List ℕ) × (value_of Name.Client given.now ≡ Some text) × SpellsAddress text client.host.now client.port) }
+    ensures { IfOk result (λ client. IsAddressOf (value_of Name.Client given.now) (Some client)) }
 {
     match address_in(given, Name::Client)? {
         Some(client) => Ok(client),
@@ -321,12 +323,13 @@ fn options_in<'a>(alloc: Global, given: &[Given<'a>]) -> Result<Options<'a>, Opt
         sync_limit: number(given, Name::SyncLimit)?,
         checkpoint: number(given, Name::Checkpoint)?,
         give_up: number_in(given, Name::GiveUp)?,
+        metrics: address_in(given, Name::Metrics)?,
     })
 }
 
 // The configuration file, if one is given.
 fn file_in<'a>(given: &[Given<'a>]) -> Result<Option<ConfigFile<'a>>, OptionError<'a>>
-    ensures { IfOk result (λ found. IfSome found (IsFileOf given.now)) }
+    ensures { IfOk result (IsFileOf given.now) }
 {
     match (
         spelled(given, Name::Config),
@@ -345,14 +348,17 @@ fn file_in<'a>(given: &[Given<'a>]) -> Result<Option<ConfigFile<'a>>, OptionErro
     }
 }
 
-fn has(words: &[String], option: &str) -> bool {
+fn has(words: &[String], option: &str) -> bool
+    ensures { result ≡ is_among option.now (map string_bytes words.now) }
+{
     words.iter().any(|word| word.as_str() == option)
 }
 
 /// Reads the words after `serve`. Where `--help` is among them, or else `--version`, nothing else counts. Fails with
 /// the first thing that is wrong, or if an allocation is refused.
 pub fn command_of<'a>(alloc: Global, words: &'a [String]) -> Result<Command<'a>, OptionError<'a>>
-    ensures { IfOk result (λ command. AreWordsOf command (map string_bytes words.now)) }
+    ensures asked { IfSome (command_asked (map string_bytes words.now)) (λ command. result ≡ Ok command) }
+    ensures words { IfOk result (λ command. AreWordsOf command (map string_bytes words.now)) }
 {
     if has(words, "--help") {
         return Ok(Command::Help);

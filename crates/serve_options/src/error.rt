@@ -1,5 +1,8 @@
 //! What is wrong with a command line.
 
+ghost use Rattle.std.specs.Prelude.{◌≡◌};
+ghost use Rattle.serve_options.specs.declared.error.OptionError.TheVariants as errors;
+
 use crate::row::{Kind, Name};
 use std::alloc::{AllocError, AllocFailed};
 use std::fmt;
@@ -44,12 +47,16 @@ pub enum OptionError<'a> {
 }
 
 impl<'a> From<AllocError> for OptionError<'a> {
+    ghost from_gives = { λ _ e. e ≡ errors.NoMemory };
+
     fn from(_error: AllocError) -> OptionError<'a> {
         OptionError::NoMemory
     }
 }
 
 impl<'a, T: Drop> From<AllocFailed<T>> for OptionError<'a> {
+    ghost from_gives = { λ _ e. e ≡ errors.NoMemory };
+
     fn from(_error: AllocFailed<T>) -> OptionError<'a> {
         OptionError::NoMemory
     }

@@ -6,7 +6,8 @@ use crate::words::is_word;
 use std::alloc::{AllocError, Global};
 use texts::number_up_to;
 use zoo_config::{
-    BadLine, ConfigError, Entry, Reason, Server, server_in, setting_in, value_in, voters_beside,
+    BadLine, ConfigError, Entry, Reason, Server, server_in, serves_metrics, setting_in, value_in,
+    voters_beside,
 };
 
 /// An option that a file sets, and its value as it would be spelled.
@@ -132,7 +133,7 @@ fn own_server<'a>(servers: &[Server<'a>], id: u64) -> Result<Option<Server<'a>>,
 }
 
 // An address and a port; all addresses where none is named, as ZooKeeper does.
-fn client_text(alloc: Global, address: Option<&str>, port: &str) -> Result<String, AllocError> {
+fn address_text(alloc: Global, address: Option<&str>, port: &str) -> Result<String, AllocError> {
     match address {
         None => format!(in alloc; "0.0.0.0:{port}"),
         Some(address) if address.contains(":") => format!(in alloc; "[{address}]:{port}"),
@@ -148,7 +149,7 @@ fn client_of(
 ) -> Result<Option<String>, AllocError> {
     if let Some(port) = value_in(entries, "clientPort") {
         let address = value_in(entries, "clientPortAddress");
-        return Ok(Some(client_text(alloc, address, port)?));
+        return Ok(Some(address_text(alloc, address, port)?));
     }
     let client = match own {
         Some(server) => server.client,
@@ -157,7 +158,19 @@ fn client_of(
     match client {
         None => Ok(None),
         Some(client) if client.contains(":") => Ok(Some(String::from_str(alloc, client)?)),
-        Some(port) => Ok(Some(client_text(alloc, None, port)?)),
+        Some(port) => Ok(Some(address_text(alloc, None, port)?)),
+    }
+}
+
+// Where metrics are served, if the file asks for it.
+fn metrics_of(alloc: Global, entries: &[Entry]) -> Result<Option<String>, AllocError> {
+    if !serves_metrics(entries) {
+        return Ok(None);
+    }
+    let host = setting_in(entries, "metricsProvider.httpHost");
+    match setting_in(entries, "metricsProvider.httpPort") {
+        Some(port) => Ok(Some(address_text(alloc, host, port)?)),
+        None => Ok(None),
     }
 }
 
@@ -190,6 +203,9 @@ pub fn filed_by(
     put_keys(alloc, &mut filed, entries)?;
     if let Some(list) = setting_in(entries, "4lw.commands.whitelist") {
         put(&mut filed, Name::Words, whitelisted(alloc, list)?)?;
+    }
+    if let Some(metrics) = metrics_of(alloc, entries)? {
+        put(&mut filed, Name::Metrics, metrics)?;
     }
     Ok(filed)
 }

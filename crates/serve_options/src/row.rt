@@ -32,6 +32,7 @@ pub enum Name {
     SyncLimit,
     Checkpoint,
     GiveUp,
+    Metrics,
     Record,
     Log,
     LogFormat,
@@ -40,7 +41,7 @@ pub enum Name {
 }
 
 /// The options, in the order in which help lists them.
-pub const NAMES: [Name; 28] = [
+pub const NAMES: [Name; 29] = [
     Name::Config,
     Name::CheckConfig,
     Name::Leader,
@@ -64,6 +65,7 @@ pub const NAMES: [Name; 28] = [
     Name::SyncLimit,
     Name::Checkpoint,
     Name::GiveUp,
+    Name::Metrics,
     Name::Record,
     Name::Log,
     Name::LogFormat,
@@ -101,6 +103,16 @@ pub enum Kind {
     Release,
     /// A user and the hash of its password.
     Digest,
+}
+
+// A number from the one to the other, both allowed.
+macro_rules! from_to {
+    ($least:expr, $most:expr) => {
+        Kind::Number(Bounds {
+            least: $least,
+            most: $most,
+        })
+    };
 }
 
 impl fmt::Display for Kind {
@@ -180,7 +192,7 @@ const SERVERS: Row = Row {
     value: "HOST:PORT,..",
     kind: Kind::Addresses,
     without: Without::Meaning("a leader is given in place of it"),
-    help: "where each server that may lead listens for its learners; the one that leads is looked for among them, again and again",
+    help: "where each server that may lead listens for its learners; the leader is looked for among them, again and again",
 };
 
 const CLIENT: Row = Row {
@@ -194,10 +206,7 @@ const CLIENT: Row = Row {
 const ID: Row = Row {
     word: "--id",
     value: "N",
-    kind: Kind::Number(Bounds {
-        least: 1,
-        most: 255,
-    }),
+    kind: from_to!(1, 255),
     without: Without::Meaning("it has to be there; beside a leader that is a port alone it is 1"),
     help: "the id of this server, which no other server of the ensemble has",
 };
@@ -213,10 +222,7 @@ const DIALECT: Row = Row {
 const COUNTER: Row = Row {
     word: "--counter",
     value: "N",
-    kind: Kind::Number(Bounds {
-        least: 0,
-        most: 72_057_594_037_927_934,
-    }),
+    kind: from_to!(0, 72_057_594_037_927_934),
     without: Without::Meaning("the clock, so that no id is given out again"),
     help: "the ids of sessions begin after this number",
 };
@@ -240,7 +246,7 @@ const SUPER_DIGEST: Row = Row {
 const WORKERS: Row = Row {
     word: "--workers",
     value: "N",
-    kind: Kind::Number(Bounds { least: 1, most: 64 }),
+    kind: from_to!(1, 64),
     without: Without::Value("4"),
     help: "the threads that apply transactions and answer reads",
 };
@@ -248,10 +254,7 @@ const WORKERS: Row = Row {
 const BATCH: Row = Row {
     word: "--batch",
     value: "N",
-    kind: Kind::Number(Bounds {
-        least: 1,
-        most: 4096,
-    }),
+    kind: from_to!(1, 4096),
     without: Without::Value("256"),
     help: "the most transactions that are applied together",
 };
@@ -259,10 +262,7 @@ const BATCH: Row = Row {
 const MAX_CLIENTS: Row = Row {
     word: "--max-clients",
     value: "N",
-    kind: Kind::Number(Bounds {
-        least: 1,
-        most: u64::MAX,
-    }),
+    kind: from_to!(1, u64::MAX),
     without: Without::Meaning("any number"),
     help: "how many clients may be connected at a time; one more is closed at once",
 };
@@ -270,21 +270,15 @@ const MAX_CLIENTS: Row = Row {
 const MAX_PER_ADDRESS: Row = Row {
     word: "--max-per-address",
     value: "N",
-    kind: Kind::Number(Bounds {
-        least: 1,
-        most: u64::MAX,
-    }),
+    kind: from_to!(1, u64::MAX),
     without: Without::Meaning("any number"),
-    help: "how many clients of one address may be connected at a time; one more is closed at once",
+    help: "how many of them may have the same address",
 };
 
 const MAX_UNDER_WAY: Row = Row {
     word: "--max-under-way",
     value: "MIB",
-    kind: Kind::Number(Bounds {
-        least: 1,
-        most: 1_048_576,
-    }),
+    kind: from_to!(1, 1_048_576),
     without: Without::Value("64"),
     help: "the MiB of answers that may wait until clients read them, of all clients together; beyond it the slowest is closed",
 };
@@ -292,10 +286,7 @@ const MAX_UNDER_WAY: Row = Row {
 const MAX_WATCHES: Row = Row {
     word: "--max-watches",
     value: "N",
-    kind: Kind::Number(Bounds {
-        least: 0,
-        most: 1_000_000_000,
-    }),
+    kind: from_to!(0, 1_000_000_000),
     without: Without::Value("500000"),
     help: "the watches that a connection may leave; one with more is closed; 0: any number",
 };
@@ -303,10 +294,7 @@ const MAX_WATCHES: Row = Row {
 const UNCONNECTED: Row = Row {
     word: "--unconnected",
     value: "SECONDS",
-    kind: Kind::Number(Bounds {
-        least: 0,
-        most: 3600,
-    }),
+    kind: from_to!(0, 3600),
     without: Without::Value("10"),
     help: "how long a connection may be without a session before it is closed; 0: as long as it likes",
 };
@@ -322,10 +310,7 @@ const WORDS: Row = Row {
 const TICK: Row = Row {
     word: "--tick",
     value: "MS",
-    kind: Kind::Number(Bounds {
-        least: 1,
-        most: 3_600_000,
-    }),
+    kind: from_to!(1, 3_600_000),
     without: Without::Value("2000"),
     help: "the milliseconds of a tick, as `tickTime` of the ensemble",
 };
@@ -333,10 +318,7 @@ const TICK: Row = Row {
 const INIT_LIMIT: Row = Row {
     word: "--init-limit",
     value: "N",
-    kind: Kind::Number(Bounds {
-        least: 0,
-        most: 1_000_000,
-    }),
+    kind: from_to!(0, 1_000_000),
     without: Without::Value("10"),
     help: "the ticks that a leader may be silent until it has brought this server up to date; 0: as long as it likes",
 };
@@ -344,10 +326,7 @@ const INIT_LIMIT: Row = Row {
 const SYNC_LIMIT: Row = Row {
     word: "--sync-limit",
     value: "N",
-    kind: Kind::Number(Bounds {
-        least: 0,
-        most: 1_000_000,
-    }),
+    kind: from_to!(0, 1_000_000),
     without: Without::Value("5"),
     help: "the ticks that it may be silent afterwards; 0: as long as it likes",
 };
@@ -355,10 +334,7 @@ const SYNC_LIMIT: Row = Row {
 const CHECKPOINT: Row = Row {
     word: "--checkpoint",
     value: "MIB",
-    kind: Kind::Number(Bounds {
-        least: 0,
-        most: 1_048_576,
-    }),
+    kind: from_to!(0, 1_048_576),
     without: Without::Value("64"),
     help: "the least MiB of the leader's bytes between two checkpoints, which empty the log in memory; 0: none is taken",
 };
@@ -366,12 +342,17 @@ const CHECKPOINT: Row = Row {
 const GIVE_UP: Row = Row {
     word: "--give-up",
     value: "SECONDS",
-    kind: Kind::Number(Bounds {
-        least: 1,
-        most: 31_536_000,
-    }),
+    kind: from_to!(1, 31_536_000),
     without: Without::Meaning("a leader is looked for without end"),
     help: "how long a leader is looked for before the server ends",
+};
+
+const METRICS: Row = Row {
+    word: "--metrics",
+    value: "[ADDRESS:]PORT",
+    kind: Kind::Address,
+    without: Without::Meaning("nowhere"),
+    help: "where metrics are served over HTTP",
 };
 
 const RECORD: Row = Row {
@@ -445,6 +426,7 @@ impl Name {
             Name::SyncLimit => SYNC_LIMIT,
             Name::Checkpoint => CHECKPOINT,
             Name::GiveUp => GIVE_UP,
+            Name::Metrics => METRICS,
             Name::Record => RECORD,
             Name::Log => LOG,
             Name::LogFormat => LOG_FORMAT,

@@ -44,6 +44,11 @@ fn some_lines_are_refused(rt: HostRuntime) -> Result<(), Fail> {
         "--leader 1 --client 2 --record --log",
         "--leader 1 --client 2 --secret-file --log",
         "--leader 1 --client 2 --log --log",
+        "--leader 1 --client 2 --metrics",
+        "--leader 1 --client 2 --metrics localhost",
+        "--leader 1 --client 2 --metrics localhost:",
+        "--leader 1 --client 2 --metrics [::1]",
+        "--leader 1 --client 2 --metrics 7000 --metrics 7001",
         "--leader 1 --client 2 --quiet",
         "--leader 1 --client 2 --super-digest super:test",
         "--leader 1 --client 2 --super-digest D/InIHSb7yEEbrWz8b9l71RjZJU=",
@@ -89,6 +94,62 @@ fn each_option_is_read(rt: HostRuntime) -> Result<(), Fail> {
     assert!(rt;
         options.record == Some("f") && options.tick == 2000 && options.max_watches == 500_000
     );
+    Ok(())
+}
+
+#[test]
+fn an_address_for_metrics_is_read(rt: HostRuntime) -> Result<(), Fail> {
+    let alloc = rt.alloc();
+    for (line, wanted) in [
+        ("--leader 1 --client 2", None),
+        (
+            "--leader 1 --client 2 --metrics 7000",
+            Some(("127.0.0.1", 7000)),
+        ),
+        (
+            "--metrics 0.0.0.0:0 --leader 1 --client 2",
+            Some(("0.0.0.0", 0)),
+        ),
+        (
+            "--leader 1 --client 2 --metrics [::1]:65535",
+            Some(("::1", 65_535)),
+        ),
+        (
+            "--leader 1 --client 2 --metrics localhost:7000",
+            Some(("localhost", 7000)),
+        ),
+    ] {
+        let words = words(alloc, line)?;
+        let Ok(Command::Serve(options)) = command_of(alloc, words.as_slice()) else {
+            return Err(Fail::from("refused"));
+        };
+        let found = match options.metrics {
+            Some(address) => Some((address.host, address.port)),
+            None => None,
+        };
+        assert!(rt; found == wanted, "{line}");
+    }
+    Ok(())
+}
+
+#[test]
+fn help_and_the_version_come_before_all_else(rt: HostRuntime) -> Result<(), Fail> {
+    let alloc = rt.alloc();
+    for line in [
+        "--help",
+        "--version --help",
+        "--quiet --help",
+        "--leader --help",
+    ] {
+        let words = words(alloc, line)?;
+        let is_help = matches!(command_of(alloc, words.as_slice()), Ok(Command::Help));
+        assert!(rt; is_help, "{line}");
+    }
+    for line in ["--version", "--id 0 --version", "--client --version"] {
+        let words = words(alloc, line)?;
+        let is_version = matches!(command_of(alloc, words.as_slice()), Ok(Command::Version));
+        assert!(rt; is_version, "{line}");
+    }
     Ok(())
 }
 

@@ -1,6 +1,7 @@
 -- What a key means to an observer.
-use Rattle.std.specs.Prelude.{ℕ, ◌==◌, ◌||◌, ◌&&◌, not, List, [], ◌∷◌, Bool, Option, Some, None, is_some, position, nat_eq, if◌then◌else◌, codes}
+use Rattle.std.specs.Prelude.{ℕ, ◌==◌, ◌||◌, ◌&&◌, not, List, [], ◌∷◌, Bool, false, Option, Some, None, is_some, position, nat_eq, if◌then◌else◌, codes}
 use Rattle.std.specs.List.{starts_with}
+use Rattle.std.specs.Option.{option_map, unwrap_or}
 use Rattle.std.specs.Str.{bytes_eq}
 use Rattle.zoo_config.specs.declared.form.Entry.{Entry}
 use Rattle.zoo_config.specs.declared.error.BadLine.{BadLine}
@@ -53,6 +54,24 @@ is_taken key =
     || bytes_eq key (codes "4lw.commands.whitelist")
     || bytes_eq key (codes "DigestAuthenticationProvider.superDigest")
 
+-- The class that serves metrics over HTTP.
+abbrev pub is_prometheus : List ℕ → Bool
+is_prometheus class =
+    bytes_eq class (codes "org.apache.zookeeper.metrics.prometheus.PrometheusMetricsProvider")
+
+-- The classes that are followed: that one, and those that serve nothing.
+abbrev pub is_provider : List ℕ → Bool
+is_provider class =
+    is_prometheus class
+    || bytes_eq class (codes "org.apache.zookeeper.metrics.impl.DefaultMetricsProvider")
+    || bytes_eq class (codes "org.apache.zookeeper.metrics.impl.NullMetricsProvider")
+
+-- It says where metrics are served, or whether they are.
+abbrev pub sets_metrics : List ℕ → List ℕ → Bool
+sets_metrics key value =
+    bytes_eq key (codes "metricsProvider.httpPort") || bytes_eq key (codes "metricsProvider.httpHost")
+    || (bytes_eq key (codes "metricsProvider.className") && is_provider value)
+
 -- It has a meaning for an observer, but none here.
 abbrev pub is_unheeded : List ℕ → Bool
 is_unheeded key =
@@ -88,7 +107,7 @@ is_switched_off key =
 
 abbrev pub meaning_of : List ℕ → List ℕ → Meaning
 meaning_of key value =
-    if is_taken key then Taken
+    if is_taken key || sets_metrics key value then Taken
     else (if is_unheeded key || asks_for_reconfiguration key value then Unheeded
     else (if is_of_servers key || is_of_files key || is_switched_off key then Idle
     else Unknown))
@@ -129,11 +148,18 @@ key_default key =
     else (if bytes_eq key (codes "maxClientCnxns") then Some (codes "60")
     else (if bytes_eq key (codes "maxCnxns") then Some (codes "0")
     else (if bytes_eq key (codes "4lw.commands.whitelist") then Some (codes "srvr")
-    else None)))
+    else (if bytes_eq key (codes "metricsProvider.httpPort") then Some (codes "7000")
+    else (if bytes_eq key (codes "metricsProvider.httpHost") then Some (codes "0.0.0.0")
+    else None)))))
 
 abbrev pub or_default : List ℕ → Option (List ℕ) → Option (List ℕ)
 or_default key None = key_default key
 or_default key (Some value) = Some value
+
+-- Metrics are served over HTTP where the file names the class for it.
+abbrev pub serves_metrics : List Entry → Bool
+serves_metrics entries =
+    unwrap_or (option_map is_prometheus (value_in (codes "metricsProvider.className") entries)) false
 
 abbrev pub setting_in : List ℕ → List Entry → Option (List ℕ)
 setting_in key entries = or_default key (value_in key entries)

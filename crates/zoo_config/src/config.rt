@@ -2,11 +2,11 @@
 
 ghost use Rattle.std.specs.Prelude.{◌≡◌, IfOk, None, Some, Err, option_map};
 ghost use Rattle.zoo_config.specs.Form.{entries_of};
-ghost use Rattle.zoo_config.specs.Keys.{first_refused, value_in, key_default, setting_in};
+ghost use Rattle.zoo_config.specs.Keys.{first_refused, value_in, key_default, setting_in, serves_metrics};
 
 use crate::error::{BadLine, ConfigError};
 use crate::form::{Entry, entries_of};
-use crate::key::reason_of;
+use crate::key::{is_prometheus, reason_of};
 use std::alloc::Global;
 
 // The first entry that is refused.
@@ -66,6 +66,12 @@ fn key_default(key: &str) -> Option<&'static str>
     if key == "4lw.commands.whitelist" {
         return Some("srvr");
     }
+    if key == "metricsProvider.httpPort" {
+        return Some("7000");
+    }
+    if key == "metricsProvider.httpHost" {
+        return Some("0.0.0.0");
+    }
     None
 }
 
@@ -76,5 +82,15 @@ pub fn setting_in<'a>(entries: &'a [Entry], key: &str) -> Option<&'a str>
     match value_in(entries, key) {
         Some(value) => Some(value),
         None => key_default(key),
+    }
+}
+
+/// Whether entries ask for metrics over HTTP.
+pub fn serves_metrics(entries: &[Entry]) -> bool
+    ensures { result ≡ serves_metrics entries.now }
+{
+    match value_in(entries, "metricsProvider.className") {
+        Some(class) => is_prometheus(class),
+        None => false,
     }
 }

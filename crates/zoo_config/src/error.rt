@@ -67,12 +67,16 @@ pub enum ConfigError {
 }
 
 impl From<AllocError> for ConfigError {
+    ghost from_gives = { λ _ e. e ≡ errors.NoMemory };
+
     fn from(_error: AllocError) -> ConfigError {
         ConfigError::NoMemory
     }
 }
 
 impl<T: Drop> From<AllocFailed<T>> for ConfigError {
+    ghost from_gives = { λ _ e. e ≡ errors.NoMemory };
+
     fn from(_error: AllocFailed<T>) -> ConfigError {
         ConfigError::NoMemory
     }

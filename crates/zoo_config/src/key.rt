@@ -2,7 +2,7 @@
 
 ghost use Rattle.std.specs.Prelude.{◌≡◌, ◌==◌, nat_eq, position};
 ghost use Rattle.std.specs.List.{starts_with};
-ghost use Rattle.zoo_config.specs.Keys.{is_off, has_escape, asks_for_tls, is_sasl_switch, asks_for_sasl, reason_of, is_taken, is_unheeded, asks_for_reconfiguration, is_of_servers, is_of_files, is_switched_off, meaning_of, meaning_with};
+ghost use Rattle.zoo_config.specs.Keys.{is_off, has_escape, asks_for_tls, is_sasl_switch, asks_for_sasl, reason_of, is_taken, is_prometheus, is_provider, sets_metrics, is_unheeded, asks_for_reconfiguration, is_of_servers, is_of_files, is_switched_off, meaning_of, meaning_with};
 
 use crate::error::Reason;
 use std::fmt;
@@ -123,6 +123,30 @@ fn is_taken(key: &str) -> bool
         || key == "DigestAuthenticationProvider.superDigest"
 }
 
+/// Whether a class is the one of ZooKeeper that serves metrics over HTTP.
+pub(crate) fn is_prometheus(class: &str) -> bool
+    ensures { result ≡ is_prometheus class.now }
+{
+    class == "org.apache.zookeeper.metrics.prometheus.PrometheusMetricsProvider"
+}
+
+// Whether a class is followed: that one, and those of ZooKeeper that serve nothing.
+fn is_provider(class: &str) -> bool
+    ensures { result ≡ is_provider class.now }
+{
+    is_prometheus(class)
+        || class == "org.apache.zookeeper.metrics.impl.DefaultMetricsProvider"
+        || class == "org.apache.zookeeper.metrics.impl.NullMetricsProvider"
+}
+
+fn sets_metrics(key: &str, value: &str) -> bool
+    ensures { result ≡ sets_metrics key.now value.now }
+{
+    key == "metricsProvider.httpPort"
+        || key == "metricsProvider.httpHost"
+        || (key == "metricsProvider.className" && is_provider(value))
+}
+
 fn is_unheeded(key: &str) -> bool
     ensures { result ≡ is_unheeded key.now }
 {
@@ -186,7 +210,7 @@ pub fn meaning_of(key: &str, value: &str) -> Meaning
     if let Some(reason) = reason_of(key, value) {
         return Meaning::Refused(reason);
     }
-    if is_taken(key) {
+    if is_taken(key) || sets_metrics(key, value) {
         return Meaning::Taken;
     }
     if is_unheeded(key) || asks_for_reconfiguration(key, value) {

@@ -20,7 +20,7 @@ mod joined;
 mod key;
 mod server;
 
-pub use config::{parse, setting_in, value_in};
+pub use config::{parse, serves_metrics, setting_in, value_in};
 pub use error::{BadLine, ConfigError, Reason};
 pub use form::{Entry, entries_of};
 pub use key::{Meaning, meaning_of};

@@ -125,7 +125,7 @@ fn whole_files_are_read(rt: HostRuntime) -> Result<(), Fail> {
         sets(
             alloc,
             OPERATED,
-            "--servers zk-0.zk.svc:2888,zk-1.zk.svc:2888;--client 0.0.0.0:2182;--id 101;--tick 2000;--init-limit 10;--sync-limit 2;--max-clients 500;--super-digest super:D/InIHSb7yEEbrWz8b9l71RjZJU=;--words cons,envi,conf,crst,srvr,stat,mntr,ruok;",
+            "--servers zk-0.zk.svc:2888,zk-1.zk.svc:2888;--client 0.0.0.0:2182;--id 101;--tick 2000;--init-limit 10;--sync-limit 2;--max-clients 500;--super-digest super:D/InIHSb7yEEbrWz8b9l71RjZJU=;--words cons,envi,conf,crst,srvr,stat,mntr,ruok;--metrics 0.0.0.0:7000;",
         )?
     );
     Ok(())
@@ -148,6 +148,37 @@ fn defaults_are_those_of_zookeeper(rt: HostRuntime) -> Result<(), Fail> {
             "--servers a:2888,b:2889;--client [::1]:1;--id 101;--tick 3000;--max-per-address 60;--words all;",
         )?
     );
+    Ok(())
+}
+
+#[test]
+fn metrics_are_served_where_the_class_for_it_is_named(rt: HostRuntime) -> Result<(), Fail> {
+    let alloc = rt.alloc();
+    let served =
+        "metricsProvider.className=org.apache.zookeeper.metrics.prometheus.PrometheusMetricsProvider";
+    let unserved =
+        "metricsProvider.className=org.apache.zookeeper.metrics.impl.DefaultMetricsProvider";
+    for (class, keys, wanted) in [
+        (served, "", "--metrics 0.0.0.0:7000;"),
+        (
+            served,
+            "metricsProvider.httpPort=7001",
+            "--metrics 0.0.0.0:7001;",
+        ),
+        (
+            served,
+            "metricsProvider.httpHost=::1",
+            "--metrics [::1]:7000;",
+        ),
+        (unserved, "metricsProvider.httpPort=7001", ""),
+        ("", "metricsProvider.httpHost=::1", ""),
+    ] {
+        let text = format!(in alloc; "{keys}\n{class}\n")?;
+        let wanted = format!(in alloc;
+            "--id 101;--tick 3000;--max-per-address 60;--words srvr;{wanted}"
+        )?;
+        assert!(rt; sets(alloc, text.as_str(), wanted.as_str())?, "{text}");
+    }
     Ok(())
 }
 
