@@ -1,15 +1,16 @@
 //! The command `serve`.
 
 use crate::logging::tell;
+use crate::scraping::{listen, listen_for_scrapers};
 use crate::serving::{Origin, Startup, try_serve_on};
 use following::Finding;
-use mio::net::TcpListener;
 use serve_config::{FileLines, ReadFile, read_file, read_secret};
 use serve_failures::{Failure, Step};
 use serve_journal::print_check;
 use serve_options::{Address, Command, Options, Servers, VERSION_LINES, command_of, help};
 use std::alloc::Global;
 use std::net::{Net, SocketAddr, TcpStream, ToSocketAddrs};
+use std::random::RandomSource;
 use std::rt::{Env, Files};
 use std::sync::Wait;
 use std::thread::Threads;
@@ -44,22 +45,6 @@ fn reach<R: Net<Stream = TcpStream>>(
     Err(Failure::system(alloc, Step::Connect, leader, last))
 }
 
-// Listens for clients, at the first address of the name.
-fn listen<R: Net>(rt: &R, alloc: Global, client: &Address<'_>) -> Result<TcpListener, Failure> {
-    let mut found = match (client.host, client.port).to_socket_addrs(rt) {
-        Ok(found) => found,
-        Err(error) => return Err(Failure::system(alloc, Step::Resolve, &client.host, error)),
-    };
-    let bound = match found.next() {
-        Some(address) => TcpListener::bind(rt, address),
-        None => Err(io::Error::from(io::ErrorKind::NotFound)),
-    };
-    match bound {
-        Ok(listener) => Ok(listener),
-        Err(error) => Err(Failure::system(alloc, Step::Bind, client, error)),
-    }
-}
-
 // Connects to the leader, or finds whom to search; opens the sockets, prints the port for clients, and serves.
 fn run<
     R: Threads
@@ -67,6 +52,7 @@ fn run<
         + Net<Stream = TcpStream, Listener = net::TcpListener>
         + Clock
         + Files
+        + RandomSource
         + Env
         + Print
         + Eprint
@@ -84,12 +70,14 @@ fn run<
         },
     };
     let listener = listen(rt, alloc, &options.client)?;
+    let scraped = listen_for_scrapers(rt, alloc, options)?;
     let port = listener.local_addr()?.port();
     println!(rt; "serving {port}")?;
     let start = Startup {
         options,
         lines,
         secret,
+        scraped,
     };
     try_serve_on(rt, alloc, start, origin, listener)
 }
@@ -102,6 +90,7 @@ fn run_configured<
         + Net<Stream = TcpStream, Listener = net::TcpListener>
         + Clock
         + Files
+        + RandomSource
         + Env
         + Print
         + Eprint
@@ -134,6 +123,7 @@ fn obey<
         + Net<Stream = TcpStream, Listener = net::TcpListener>
         + Clock
         + Files
+        + RandomSource
         + Env
         + Print
         + Eprint
@@ -167,6 +157,7 @@ pub fn serve<
         + Net<Stream = TcpStream, Listener = net::TcpListener>
         + Clock
         + Files
+        + RandomSource
         + Env
         + Print
         + Eprint

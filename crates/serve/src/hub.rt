@@ -15,7 +15,7 @@ use serve_bounds::{Accepted, Door, Pause, Stopwatch, TurnBudget, address_text};
 use serve_failures::Failure;
 use serve_journal::Journal;
 use serve_record::Record;
-use server_tally::{ClientTally, Tally};
+use server_tally::{ClientTally, Tally, TurnFigures};
 use session_streams::{Sides, split};
 use std::alloc::Global;
 use std::collections::BTreeMap;
@@ -237,21 +237,22 @@ impl<L: Log, W: Write + Drop> Hub<L, W> {
         rt: &R,
         budget: &mut B,
     ) -> Result<usize, NoMemory> {
-        let began = self.clock.now(rt);
+        let began = self.clock.microseconds(rt);
         let turned = self.desk.turn_within(rt, &OpenGate, budget);
         self.ring_each(self.desk.told());
         self.hurry_each(self.desk.closing());
-        let now = self.clock.now(rt);
+        let took = self.clock.microseconds(rt).saturating_sub(began);
         self.record.add(self.desk.fresh());
         self.journal.turned(&self.desk);
         self.relieve_of_watches();
         self.store_figures();
-        let took = now.saturating_sub(began);
-        if took > SLOW_TURN {
-            self.journal.slow_turn(took, self.desk.fresh().len());
+        if took / 1000 > SLOW_TURN {
+            self.journal.slow_turn(took / 1000, self.desk.fresh().len());
         }
-        self.note_leader(now);
-        self.note_checkpoint(began, now);
+        let now = self.clock.last();
+        let heard = self.note_leader(now);
+        self.tally.turn(rt, TurnFigures { took, heard });
+        self.note_checkpoint(began / 1000, now);
         turned.map_err(|_| NoMemory)
     }
 

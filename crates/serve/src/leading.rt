@@ -212,8 +212,8 @@ fn leader_bytes(messages: &[(usize, Message)]) -> Option<u64> {
 }
 
 impl<L: Log, W: Write + Drop> Hub<L, W> {
-    // Notes what the last turn, which ended at this time, tells of the leader.
-    pub(crate) fn note_leader(&mut self, now: u64) {
+    // Notes what the last turn, which ended at this time, tells of the leader. Returns whether the leader was heard.
+    pub(crate) fn note_leader(&mut self, now: u64) -> bool {
         let heard = leader_bytes(self.desk.fresh());
         if heard.is_some() {
             self.leading.silence.heard(now);
@@ -228,6 +228,7 @@ impl<L: Log, W: Write + Drop> Hub<L, W> {
             }
             _ => self.leading.is_greeted = true,
         }
+        heard.is_some()
     }
 
     fn note_serving(&mut self, now: u64) {

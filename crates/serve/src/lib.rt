@@ -8,6 +8,7 @@ mod hub;
 mod leading;
 mod log_keeping;
 mod logging;
+mod scraping;
 mod serving;
 mod silence;
 mod telling;

@@ -5,6 +5,7 @@ use crate::hub::{Hub, Parts};
 use crate::leading::{Leading, Source};
 use crate::log_keeping::LogKeeper;
 use crate::logging::{Logging, start_logging};
+use crate::scraping::{listen_for_scrapers, start_scraping};
 use crate::silence::SilenceLimits;
 use crate::telling::tally_of;
 use batcher::SpreadThreshold;
@@ -25,6 +26,7 @@ use settings::{Epochs, FirstCounter, Secret, TimeoutBounds};
 use std::alloc::Global;
 use std::io::Write;
 use std::net::{Net, TcpStream};
+use std::random::RandomSource;
 use std::rt::{Env, Files};
 use std::sync::{Arc, Wait};
 use std::thread::{JoinHandle, Threads};
@@ -270,6 +272,8 @@ pub(crate) struct Startup<'a> {
     pub lines: FileLines<'a>,
     /// The secret that the passwords of sessions are made of.
     pub secret: Secret,
+    /// Where monitoring systems connect, if they may.
+    pub scraped: Option<TcpListener>,
 }
 
 /// The same as `serve_on`, with the reason why it ended.
@@ -279,6 +283,7 @@ pub(crate) fn try_serve_on<
         + Net<Stream = TcpStream, Listener = net::TcpListener>
         + Clock
         + Files
+        + RandomSource
         + Env
         + Eprint
         + Copy
@@ -296,6 +301,7 @@ pub(crate) fn try_serve_on<
         options,
         lines,
         secret,
+        scraped,
     } = start;
     let first_counter = first_counter(rt, options)?;
     let file = create_record(rt, alloc, options)?;
@@ -311,9 +317,31 @@ pub(crate) fn try_serve_on<
     } = start_logging(rt, alloc, options)?;
     journal.started(options, port);
     journal.started_by(lines);
-    let served = serve_with(rt, alloc, config, prepared, journal, record);
+    let silence = options.tick.saturating_mul(options.sync_limit);
+    let served = match start_scraping(rt, alloc, scraped, &prepared.parts.tally, silence) {
+        Ok(scraping) => {
+            let served = serve_with(rt, alloc, config, prepared, journal, record);
+            scraping.end(rt);
+            served
+        }
+        Err(failure) => Err(failure),
+    };
     end.finish(rt, thread);
     served
+}
+
+// What a server is started with that has no configuration file.
+fn opened<'a, R: Net + Files + Env>(
+    rt: &R,
+    alloc: Global,
+    options: &'a Options<'a>,
+) -> Result<Startup<'a>, Failure> {
+    Ok(Startup {
+        options,
+        lines: FileLines::none(),
+        secret: read_secret(rt, alloc, options)?,
+        scraped: listen_for_scrapers(rt, alloc, options)?,
+    })
 }
 
 /// Follows the leader and serves clients until the leader's connection ends. Returns the exit status: 0 then, 2 if the
@@ -326,6 +354,7 @@ pub fn serve_on<
         + Net<Stream = TcpStream, Listener = net::TcpListener>
         + Clock
         + Files
+        + RandomSource
         + Env
         + Eprint
         + Copy
@@ -333,17 +362,8 @@ pub fn serve_on<
         + Sync
         + 'static,
 >(rt: &R, alloc: Global, options: &Options<'_>, leader: TcpStream, listener: TcpListener) -> u8 {
-    let origin = Origin::Stream(leader);
-    let served = match read_secret(rt, alloc, options) {
-        Ok(secret) => {
-            let lines = FileLines::none();
-            let start = Startup {
-                options,
-                lines,
-                secret,
-            };
-            try_serve_on(rt, alloc, start, origin, listener)
-        }
+    let served = match opened(rt, alloc, options) {
+        Ok(start) => try_serve_on(rt, alloc, start, Origin::Stream(leader), listener),
         Err(failure) => Err(failure),
     };
     match served {

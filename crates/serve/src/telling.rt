@@ -111,6 +111,8 @@ impl<L: Log, W: Write + Drop> Hub<L, W> {
             watches: self.watches,
             pairs: number_of(tree.ephemerals().count()),
             rejected: self.door.refused(),
+            sessions: number_of(tree.sessions().iter().len()),
+            log: number_of(learner.since_base().len()),
         });
     }
 }
