@@ -2,7 +2,7 @@
 //!
 //! The law that goes over this: `OneTransaction`.
 
-ghost use Rattle.std.specs.Prelude.{◌≡◌, ◌≤◌, true, length, drop, OnOk, IfOk};
+ghost use Rattle.std.specs.Prelude.{◌≡◌, ◌≤◌, true, length, drop, OnOk, OnErr, IfOk};
 ghost use Rattle.data_tree.specs.Meaning.{state_after, outcomes_of_txns};
 ghost use Rattle.quorum_packet.specs.Lending.{owned_item};
 ghost use Rattle.replica.specs.Gathering.{brings_txns, Gathers, AppliesTxns};
@@ -44,7 +44,7 @@ impl Replica {
     /// Applies the log's transactions after the first `done` by the closure, and returns their outcomes. Each outcome
     /// has what taking the transaction's item would have brought: its triggers, and the results of `LeaderNews::Applied`.
     ///
-    /// Fails if the closure does. Then the tree is unspecified, and the caller drops the replica.
+    /// Fails if the closure does. Then the tree is what the closure left, and the caller drops the replica.
     pub fn apply_gathered<D: Fn(&mut Tree, &[Txn]) -> Result<Vec<Outcome>, NoMemory>>(
         &mut self,
         done: usize,
@@ -56,6 +56,7 @@ impl Replica {
             (self.new ≡ record self.old { tree = state_after self.old.tree (drop done self.old.learner.log) }) }
         ensures outcomes { IfOk result (λ v. v.items
             ≡ outcomes_of_txns self.old.tree (drop done self.old.learner.log)) }
+        ensures err { OnErr result (self.new ≡ record self.old { tree = self.new.tree }) }
     {
         doer(&mut self.tree, &self.learner.since_base()[done..])
     }

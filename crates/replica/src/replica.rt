@@ -1,9 +1,10 @@
 //! The replica: a tree that follows a leader.
 
-ghost use Rattle.std.specs.Prelude.{◌≡◌, IfOk, OnOk};
+ghost use Rattle.std.specs.Prelude.{◌≡◌, ◌⊎◌, IfOk, OnOk, OnErr};
 ghost use Rattle.std.specs.List.{AllByRecursion};
 ghost use Rattle.quorum_packet.specs.Packet.{packet_format};
 ghost use Rattle.data_tree.specs.Meaning.{fresh_state};
+ghost use Rattle.data_tree.specs.Making.{empty_state};
 ghost use Rattle.replica.specs.Replica.{replica_at, new_replica, primed_replica};
 ghost use Rattle.replica.specs.Taking.{follow_leader, without_leader, checkpoint_replica, is_serving};
 
@@ -101,7 +102,7 @@ impl Replica {
     }
 
     /// A leader has connected. Returns the packet by which the replica introduces itself, or none while it has a
-    /// leader.
+    /// leader. A refused allocation leaves the replica as it was, or as if the packet had been returned.
     pub fn start(
         &mut self,
         alloc: Global,
@@ -109,6 +110,8 @@ impl Replica {
     ) -> Result<Listed<QuorumPacket>, NoMemory>
         ensures replies { IfOk result (λ replies. replies ≡ (follow_leader self.old server_id).replies) }
         ensures after { OnOk result (self.new ≡ (follow_leader self.old server_id).replica) }
+        ensures err { OnErr result
+            ((self.new ≡ self.old) ⊎ (self.new ≡ (follow_leader self.old server_id).replica)) }
         ensures writable { IfOk result (λ replies. AllByRecursion packet_format.Writable replies) }
     {
         learner_sync::law::acts();
@@ -130,9 +133,10 @@ impl Replica {
     }
 
     /// Makes the tree the new base and empties the log, while clients are served; otherwise does nothing. Fails only if
-    /// an allocation is refused.
+    /// an allocation is refused: then the base is empty, so that the caller drops the replica.
     pub fn checkpoint(&mut self, alloc: Global) -> Result<(), NoMemory>
-        ensures { OnOk result (self.new ≡ checkpoint_replica self.old) }
+        ensures ok { OnOk result (self.new ≡ checkpoint_replica self.old) }
+        ensures err { OnErr result (self.new ≡ record self.old { base = empty_state }) }
     {
         if !self.is_serving() {
             return Ok(());
