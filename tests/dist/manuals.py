@@ -81,7 +81,7 @@ def test_the_completion(pack):
     assert completed(pack, "observer", "serve", "--max-w") == ["--max-watches"]
     assert completed(pack, "observer", "serve", "--log-format", "") == ["text", "json"]
     assert completed(pack, "observer", "serve", "--log", "") == ["off", "error", "warn", "info", "debug", *options]
-    assert completed(pack, "observer", "serve", "--words", "w") == ["wchs", "wchp"]
+    assert completed(pack, "observer", "serve", "--words", "w") == ["wchs", "wchp", "wchc"]
     assert completed(pack, "observer", "serve", "--id", "") == []
     assert completed(pack, "observer", "re") == ["replay"]
     for words in (["serve", "--record"], ["replay"], ["audit"]):

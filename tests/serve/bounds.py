@@ -19,7 +19,8 @@ from server import (
 )
 
 WORDS = (
-    b"ruok", b"isro", b"srvr", b"stat", b"mntr", b"conf", b"envi", b"dirs", b"wchs", b"wchp", b"cons", b"crst", b"srst",
+    b"ruok", b"isro", b"srvr", b"stat", b"mntr", b"conf", b"envi", b"dirs", b"wchs", b"wchp", b"wchc", b"dump", b"cons",
+    b"crst", b"srst",
 )
 
 

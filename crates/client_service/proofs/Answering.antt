@@ -6,7 +6,7 @@ use Rattle.four_letter.specs.Texts.{reply_text}
 use Rattle.four_letter.specs.declared.figures.Figures.{Figures}
 use Rattle.four_letter.specs.declared.figures.WatchRow.{WatchRow}
 use Rattle.four_letter.specs.declared.word.Word.{Word}
-use Rattle.four_letter.specs.declared.word.Word.TheVariants.{Ruok, Isro, Srvr, Mntr, Wchs, Wchp}
+use Rattle.four_letter.specs.declared.word.Word.TheVariants.{Ruok, Isro, Srvr, Mntr, Wchs, Wchp, Wchc, Dump}
 
 pub same_text : (word : Word) (f : Figures) (counts : WatchCounts) (rows : List WatchRow)
     → counts.watches ≡ f.watched.watches → (needs_counts word ≡ true → counts ≡ f.watched)
@@ -21,3 +21,6 @@ same_text Wchs f counts rows number all listed =
     ap (λ (c : WatchCounts). reply_text Wchs (record f { watched = c })) (all refl)
 same_text Wchp f counts rows number all listed =
     ap (λ (r : List WatchRow). reply_text Wchp (record f { watches = r })) (listed refl)
+same_text Wchc f counts rows number all listed =
+    ap (λ (r : List WatchRow). reply_text Wchc (record f { watches = r })) (listed refl)
+same_text Dump f counts rows number all listed = refl

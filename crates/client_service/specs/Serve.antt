@@ -376,6 +376,8 @@ figures_with serving w watched watches = record {
   pairs = set.len w.replica.tree.pairs;
   watched = watched;
   watches = watches;
+  timeouts = w.replica.tree.sessions;
+  ephemerals = w.replica.tree.pairs;
 }
 
 abbrev pub figures_of : Bool → World → Figures

@@ -7,7 +7,7 @@ ghost use Rattle.four_letter.specs.Texts.{reply_text};
 ghost use Rattle.client_service.specs.Serve.{watch_row_of, watch_rows, figures_with, figures_of, tell_word, word_at};
 ghost use Rattle.world.specs.Results.{MakesStep};
 
-use four_letter::{Figures, WatchRow, Word, answer};
+use four_letter::{Figures, Lent, WatchRow, Word, answer};
 use sessions::Sessions;
 use std::alloc::Global;
 use values::{Blob, Listed, NoMemory};
@@ -100,7 +100,7 @@ fn counts_for(word: Word, world: &World) -> WatchCounts
 // The figures that the answers to words are made of, with these counts, and these watches listed.
 fn figures_with<'a>(
     serving: bool,
-    world: &World,
+    world: &'a World,
     watched: WatchCounts,
     watches: Vec<WatchRow<'a>>,
 ) -> Figures<'a>
@@ -115,6 +115,8 @@ fn figures_with<'a>(
         pairs: tree.ephemerals().count(),
         watched,
         watches: Listed::from_vec(watches),
+        timeouts: Lent::new(tree.sessions()),
+        ephemerals: Lent::new(tree.ephemerals()),
     }
 }
 

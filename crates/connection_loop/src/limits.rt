@@ -3,9 +3,9 @@
 
 ghost use Rattle.std.specs.Prelude.{◌≡◌, ◌≢◌, Some, true, false, not};
 ghost use Rattle.four_letter.specs.declared.word.Word.{Word as TheWord};
-ghost use Rattle.four_letter.specs.Words.{word_of, needs_watches};
+ghost use Rattle.four_letter.specs.Words.{word_of};
 ghost use Rattle.settings.specs.Dialects.{default_dialect};
-ghost use Rattle.connection_loop.specs.Limits.{has_word, allows_word};
+ghost use Rattle.connection_loop.specs.Limits.{has_word, allows_word, names_sessions};
 
 use four_letter::Word;
 use settings::Dialect;
@@ -19,6 +19,8 @@ pub struct AllowedWords {
     mntr: bool,
     wchs: bool,
     wchp: bool,
+    wchc: bool,
+    dump: bool,
 }
 
 impl AllowedWords {
@@ -33,6 +35,8 @@ impl AllowedWords {
             mntr: true,
             wchs: true,
             wchp: true,
+            wchc: true,
+            dump: true,
         }
     }
 
@@ -46,6 +50,8 @@ impl AllowedWords {
             mntr: false,
             wchs: false,
             wchp: false,
+            wchc: false,
+            dump: false,
         }
     }
 
@@ -65,6 +71,8 @@ impl AllowedWords {
             Word::Mntr => AllowedWords { mntr: true, ..self },
             Word::Wchs => AllowedWords { wchs: true, ..self },
             Word::Wchp => AllowedWords { wchp: true, ..self },
+            Word::Wchc => AllowedWords { wchc: true, ..self },
+            Word::Dump => AllowedWords { dump: true, ..self },
         }
     }
 
@@ -80,6 +88,8 @@ impl AllowedWords {
             Some(Word::Mntr) => self.mntr,
             Some(Word::Wchs) => self.wchs,
             Some(Word::Wchp) => self.wchp,
+            Some(Word::Wchc) => self.wchc,
+            Some(Word::Dump) => self.dump,
         }
     }
 }
@@ -117,11 +127,11 @@ impl SessionLimits {
 }
 
 impl Default for SessionLimits {
-    /// 10 s without a session, 40 s without reading and 2 s at the end, and all words but `wchp`, whose answer is as
-    /// long as all watches.
+    /// 10 s without a session, 40 s without reading and 2 s at the end, and all words but `wchp`, `wchc` and `dump`,
+    /// whose answers name sessions.
     fn default() -> SessionLimits
         ensures times { (result.unconnected ≡ 10000) × (result.unread ≡ 40000) × (result.closing ≡ 2000) }
-        ensures words { (word : TheWord) → has_word result.words word ≡ not (needs_watches word) }
+        ensures words { (word : TheWord) → has_word result.words word ≡ not (names_sessions word) }
         ensures dialect { result.dialect ≡ default_dialect }
     {
         SessionLimits {
@@ -130,6 +140,8 @@ impl Default for SessionLimits {
             closing: 2000,
             words: AllowedWords {
                 wchp: false,
+                wchc: false,
+                dump: false,
                 ..AllowedWords::all()
             },
             dialect: Dialect::default(),

@@ -1,5 +1,7 @@
 -- Rows that were worked out by hand: the figures of an observer, and its answers.
-use Rattle.std.specs.Prelude.{◌≡◌, ℕ, ℤ, pos, negsuc, [], ◌∷◌, ◌++◌, true, false, codes}
+use Rattle.std.specs.Prelude.{◌≡◌, ℕ, ℤ, pos, negsuc, List, [], ◌∷◌, ◌++◌, true, false, codes}
+use Rattle.std.specs.FinMap as finmap
+use Rattle.std.specs.FinSet as set
 use Rattle.ephemerals.specs.Orders.{Bytes}
 use Rattle.watch_manager.specs.declared.counts.WatchCounts.{WatchCounts}
 use Rattle.watch_manager.specs.declared.watched.Table.{Table}
@@ -7,7 +9,7 @@ use Rattle.watch_manager.specs.declared.watched.Table.TheVariants.{Own, Child, L
 use Rattle.four_letter.specs.Texts.{reply_text}
 use Rattle.four_letter.specs.declared.figures.Figures.{Figures}
 use Rattle.four_letter.specs.declared.figures.WatchRow.{WatchRow}
-use Rattle.four_letter.specs.declared.word.Word.TheVariants.{Ruok, Isro, Srvr, Mntr, Wchs, Wchp}
+use Rattle.four_letter.specs.declared.word.Word.TheVariants.{Ruok, Isro, Srvr, Mntr, Wchs, Wchp, Wchc, Dump}
 
 abbrev pub watch_counts : ℕ → ℕ → ℕ → WatchCounts
 watch_counts connections paths watches = record { connections = connections; paths = paths; watches = watches }
@@ -22,6 +24,8 @@ primed_figures = record {
   pairs = 0;
   watched = watch_counts 0 0 0;
   watches = [];
+  timeouts = finmap.empty;
+  ephemerals = set.empty;
 }
 
 abbrev pub leaderless_figures : Figures
@@ -54,6 +58,21 @@ three_watcher_figures = record primed_figures {
       ∷ watch_row (codes "/b") 3 (pos 0) Lasting ∷ [];
 }
 
+-- The first sessions of servers 3 and 255, and session 5, with their timeouts.
+abbrev pub three_sessions : List (ℤ × ℤ)
+three_sessions =
+    (first_session, pos 10000) ∷ (pos 5, pos 40000) ∷ (negsuc 72057594037927934, pos 4000) ∷ []
+
+-- The ephemeral nodes of two of them.
+abbrev pub three_nodes : List (ℤ × Bytes)
+three_nodes = (first_session, codes "/b") ∷ (pos 5, codes "/c") ∷ (first_session, codes "/a/e") ∷ []
+
+abbrev pub three_session_figures : Figures
+three_session_figures = record primed_figures {
+  timeouts = finmap.from_entries three_sessions;
+  ephemerals = set.from_list three_nodes;
+}
+
 pub record WorkedRows : Type 0 where
   pub ruok : reply_text Ruok leaderless_figures ≡ codes "imok"
   pub isro : reply_text Isro primed_figures ≡ codes "rw"
@@ -71,3 +90,16 @@ pub record WorkedRows : Type 0 where
   pub wchs_three : reply_text Wchs three_watcher_figures ≡ codes "3 connections watching 2 paths\nTotal watches:5\n"
   pub wchp_three :
       reply_text Wchp three_watcher_figures ≡ codes "/a\n\t0xff00000000000001\n\t0x300000000000001\n/b\n\t0x0\n"
+  pub wchc : reply_text Wchc primed_figures ≡ []
+  pub wchc_one : reply_text Wchc one_watcher_figures ≡ codes "0x300000000000001\n\t/\n\t/a\n"
+  pub wchc_three :
+      reply_text Wchc three_watcher_figures ≡ codes "0xff00000000000001\n\t/a\n0x0\n\t/b\n0x300000000000001\n\t/a\n"
+  pub dump :
+      reply_text Dump primed_figures
+      ≡ codes "SessionTracker dump:\nGlobal Sessions(0):\nephemeral nodes dump:\nSessions with Ephemerals (0):\n"
+  pub dump_three :
+      reply_text Dump three_session_figures
+      ≡ codes "SessionTracker dump:\nGlobal Sessions(3):\n0xff00000000000001\t4000ms\n0x5\t40000ms\n"
+      ++ codes "0x300000000000001\t10000ms\nephemeral nodes dump:\nSessions with Ephemerals (2):\n0x5:\n\t/c\n"
+      ++ codes "0x300000000000001:\n\t/a/e\n\t/b\n"
+  pub dump_without_leader : reply_text Dump leaderless_figures ≡ codes "not serving\n"

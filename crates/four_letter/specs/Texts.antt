@@ -1,15 +1,19 @@
 -- The answer to each word. The lines, their order and the counts are this observer's own.
-use Rattle.std.specs.Prelude.{◌≡◌, ℕ, ◌+◌, ℤ, List, ◌++◌, false, if◌then◌else◌, codes, decimal}
+use Rattle.std.specs.Prelude.{◌≡◌, ℕ, ◌+◌, ℤ, List, ◌++◌, length, false, if◌then◌else◌, codes, decimal}
 use Rattle.std.specs.List.{flat_map}
 use Rattle.std.specs.Int.{w64, cast_unsigned}
-use Rattle.std.specs.Fmt.{radix_digits}
-use Rattle.ephemerals.specs.Orders.{Bytes}
+use Rattle.std.specs.Fmt.{radix_digits, signed_decimal}
+use Rattle.std.specs.FinMap as finmap
+use Rattle.ephemerals.specs.Orders.{Bytes, OwnerPairs, sorted_names}
+use Rattle.ephemerals.specs.Pairs.{paths_of_session}
+use Rattle.data_tree.specs.Sessions.{SessionTimeouts}
 use Rattle.watch_manager.specs.declared.counts.WatchCounts.{WatchCounts}
-use Rattle.four_letter.specs.Watched.{watched_paths, watching_sessions}
+use Rattle.four_letter.specs.Watched.{watched_paths, watching_sessions, all_watching_sessions, paths_watched_by}
+use Rattle.four_letter.specs.Dumped.{owning_sessions}
 use Rattle.four_letter.specs.declared.figures.Figures.{Figures}
 use Rattle.four_letter.specs.declared.figures.WatchRow.{WatchRow}
 use Rattle.four_letter.specs.declared.word.Word.{Word}
-use Rattle.four_letter.specs.declared.word.Word.TheVariants.{Ruok, Isro, Srvr, Mntr, Wchs, Wchp}
+use Rattle.four_letter.specs.declared.word.Word.TheVariants.{Ruok, Isro, Srvr, Mntr, Wchs, Wchp, Wchc, Dump}
 
 -- The 64 bits of two's complement in lower-case hexadecimal digits, without leading zeros.
 abbrev pub prefixed_hex : ℤ → List ℕ
@@ -53,6 +57,39 @@ path_block rows path = path ++ codes "\n" ++ flat_map session_line (watching_ses
 abbrev pub wchp_text : List WatchRow → List ℕ
 wchp_text rows = flat_map (path_block rows) (watched_paths rows)
 
+abbrev pub path_line : Bytes → List ℕ
+path_line path = name_value_line (codes "\t") path
+
+-- A session, and on the lines after it the paths that it watches.
+abbrev pub watcher_block : List WatchRow → ℤ → List ℕ
+watcher_block rows session =
+    prefixed_hex session ++ codes "\n" ++ flat_map path_line (paths_watched_by session rows)
+
+abbrev pub wchc_text : List WatchRow → List ℕ
+wchc_text rows = flat_map (watcher_block rows) (all_watching_sessions rows)
+
+-- A session and its timeout in milliseconds.
+abbrev pub timeout_line : ℤ × ℤ → List ℕ
+timeout_line s = prefixed_hex s.0 ++ codes "\t" ++ signed_decimal s.1 ++ codes "ms\n"
+
+-- A session, and on the lines after it the paths of its ephemeral nodes.
+abbrev pub owner_block : OwnerPairs → ℤ → List ℕ
+owner_block pairs session =
+    prefixed_hex session ++ codes ":\n" ++ flat_map path_line (sorted_names (paths_of_session session pairs))
+
+abbrev pub heading : List ℕ → ℕ → List ℕ
+heading title count = title ++ codes "(" ++ decimal count ++ codes "):\n"
+
+-- ZooKeeper lists the connections, too.
+abbrev pub dump_text : SessionTimeouts → OwnerPairs → List ℕ
+dump_text timeouts pairs =
+    codes "SessionTracker dump:\n"
+    ++ heading (codes "Global Sessions") (finmap.len timeouts)
+    ++ flat_map timeout_line (finmap.entries timeouts)
+    ++ codes "ephemeral nodes dump:\n"
+    ++ heading (codes "Sessions with Ephemerals ") (length (owning_sessions timeouts pairs))
+    ++ flat_map (owner_block pairs) (owning_sessions timeouts pairs)
+
 -- The text about the tree and the watches, while clients are served.
 abbrev pub while_serving : Figures → List ℕ → List ℕ
 while_serving f told = if f.serving then told else codes "not serving\n"
@@ -64,6 +101,8 @@ reply_text Srvr f = while_serving f (srvr_text f)
 reply_text Mntr f = while_serving f (mntr_text f)
 reply_text Wchs f = while_serving f (wchs_text f.watched)
 reply_text Wchp f = while_serving f (wchp_text f.watches)
+reply_text Wchc f = while_serving f (wchc_text f.watches)
+reply_text Dump f = while_serving f (dump_text f.timeouts f.ephemerals)
 
 -- The word's answer is the same whatever watches are listed.
 abbrev pub TellsOfNoWatch : Word → Type 0

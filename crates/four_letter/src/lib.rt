@@ -1,9 +1,9 @@
 //! The four-letter words, by which operators ask an observer for its state.
 //!
-//! A connection that begins with one of six words is sent a text. specs/Words defines the words, specs/Texts the text
-//! of each, and specs/Watched the lists of watches. The texts are made from `Figures`, which the caller fills in; only
-//! the word for which `needs_watches` is true uses the watches themselves, and the one for which `needs_counts` is true
-//! more than their number.
+//! A connection that begins with one of eight words is sent a text. specs/Words defines the words, specs/Texts the text
+//! of each, specs/Watched the lists of watches, and specs/Dumped the sessions with ephemeral nodes. The texts are made
+//! from `Figures`, which the caller fills in; only the words for which `needs_watches` is true use the watches
+//! themselves, and the one for which `needs_counts` is true more than their number.
 //!
 //! ```text
 //! let mut out = Vec::new(alloc);
@@ -12,6 +12,7 @@
 //! ```
 #![tactic(auto)]
 
+mod dump;
 mod figures;
 pub mod law;
 mod put;
@@ -19,6 +20,6 @@ mod texts;
 mod watched;
 mod word;
 
-pub use figures::{Figures, WatchRow};
+pub use figures::{Figures, Lent, WatchRow};
 pub use texts::answer;
 pub use word::Word;

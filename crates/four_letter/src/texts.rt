@@ -3,11 +3,13 @@
 ghost use Rattle.std.specs.Prelude.{◌≡◌, ◌++◌, List, ℕ, Ok, false, true, OnOk, OnErr, IfOk, IfSome, IfNone, is_some};
 ghost use Rattle.std.specs.List.{flat_map};
 ghost use Rattle.four_letter.specs.Words.{word_of};
-ghost use Rattle.four_letter.specs.Texts.{reply_text, srvr_text, mntr_text, wchs_text, wchp_text, node_count, session_line};
+ghost use Rattle.four_letter.specs.Inner.Gathered.{watched_lines};
+ghost use Rattle.four_letter.specs.Texts.{reply_text, srvr_text, mntr_text, wchs_text, wchp_text, wchc_text, node_count, session_line, path_line};
 
+use crate::dump::put_dump;
 use crate::figures::{Figures, WatchRow};
-use crate::put::{put, put_count, put_hex, put_watching};
-use crate::watched::by_path;
+use crate::put::{put, put_count, put_hex, put_id, put_path, put_watching};
+use crate::watched::{by_path, by_session};
 use crate::word::Word;
 use std::alloc::Global;
 use std::collections::BTreeSet;
@@ -73,6 +75,26 @@ fn put_wchp(out: &mut Vec<u8>, alloc: Global, rows: &[WatchRow<'_>]) -> Result<(
     Ok(())
 }
 
+fn put_watched(out: &mut Vec<u8>, paths: &BTreeSet<&str>) -> Result<(), NoMemory>
+    ensures { OnOk result (out.new.items ≡ out.old.items ++ watched_lines paths.now.keys) }
+{
+    for path in paths {
+        put_path(out, *path)?;
+    }
+    Ok(())
+}
+
+fn put_wchc(out: &mut Vec<u8>, alloc: Global, rows: &[WatchRow<'_>]) -> Result<(), NoMemory>
+    ensures { OnOk result (out.new.items ≡ out.old.items ++ wchc_text rows.now) }
+{
+    let by_session = by_session(alloc, rows)?;
+    for (session, paths) in &by_session {
+        put_id(out, *session, "\n")?;
+        put_watched(out, paths)?;
+    }
+    Ok(())
+}
+
 fn put_text(
     out: &mut Vec<u8>,
     alloc: Global,
@@ -90,6 +112,8 @@ fn put_text(
         Word::Mntr => put_mntr(out, figures),
         Word::Wchs => put_wchs(out, &figures.watched),
         Word::Wchp => put_wchp(out, alloc, figures.watches.as_slice()),
+        Word::Wchc => put_wchc(out, alloc, figures.watches.as_slice()),
+        Word::Dump => put_dump(out, figures.timeouts.get(), figures.ephemerals.get()),
     }
 }
 

@@ -19,6 +19,10 @@ pub enum Word {
     Wchs,
     /// The sessions that watch each path.
     Wchp,
+    /// The paths that each session watches.
+    Wchc,
+    /// The sessions, and their ephemeral nodes.
+    Dump,
 }
 
 impl Word {
@@ -44,6 +48,12 @@ impl Word {
         if bytes == *b"wchp" {
             return Some(Word::Wchp);
         }
+        if bytes == *b"wchc" {
+            return Some(Word::Wchc);
+        }
+        if bytes == *b"dump" {
+            return Some(Word::Dump);
+        }
         None
     }
 
@@ -58,6 +68,8 @@ impl Word {
             Word::Mntr => *b"mntr",
             Word::Wchs => *b"wchs",
             Word::Wchp => *b"wchp",
+            Word::Wchc => *b"wchc",
+            Word::Dump => *b"dump",
         }
     }
 
@@ -68,10 +80,11 @@ impl Word {
         ensures unseen { result ≡ false → TellsOfNoWatch self }
     {
         match self {
-            Word::Ruok | Word::Isro | Word::Srvr | Word::Mntr | Word::Wchs => false,
-            Word::Wchp => true,
+            Word::Ruok | Word::Isro | Word::Srvr | Word::Mntr | Word::Wchs | Word::Dump => false,
+            Word::Wchp | Word::Wchc => true,
         }
     }
+
     /// Whether its answer needs the numbers of paths and of connections beside that of watches. Otherwise it is the same
     /// whatever they are.
     pub fn needs_counts(self) -> bool
@@ -79,7 +92,13 @@ impl Word {
         ensures unseen { result ≡ false → TellsOfWatchesAlone self }
     {
         match self {
-            Word::Ruok | Word::Isro | Word::Srvr | Word::Mntr | Word::Wchp => false,
+            Word::Ruok
+            | Word::Isro
+            | Word::Srvr
+            | Word::Mntr
+            | Word::Wchp
+            | Word::Wchc
+            | Word::Dump => false,
             Word::Wchs => true,
         }
     }

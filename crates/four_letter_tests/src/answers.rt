@@ -72,6 +72,18 @@ fn words_are_answered_while_serving(rt: HostRuntime) -> Result<(), Fail> {
             b"wchp",
             ">/\n\t0x300000000000001\n/a\n\t0xff00000000000001\n\t0x300000000000001\n/b\n\t0x300000000000001\n",
         ),
+        (
+            b"wchc",
+            ">0xff00000000000001\n\t/a\n0x300000000000001\n\t/\n\t/a\n\t/b\n",
+        ),
+        (
+            b"dump",
+            concat!(
+                ">SessionTracker dump:\nGlobal Sessions(3):\n0xff00000000000001\t4000ms\n0x5\t40000ms\n",
+                "0x300000000000001\t10000ms\nephemeral nodes dump:\nSessions with Ephemerals (2):\n0x5:\n\t/c\n",
+                "0x300000000000001:\n\t/a/e\n\t/b\n"
+            ),
+        ),
     ];
     assert_eq!(rt; otherwise(alloc, true, &watches, &wanted)?, 0);
     Ok(())
@@ -88,6 +100,8 @@ fn words_are_answered_without_a_leader(rt: HostRuntime) -> Result<(), Fail> {
         (b"mntr", ">not serving\n"),
         (b"wchs", ">not serving\n"),
         (b"wchp", ">not serving\n"),
+        (b"wchc", ">not serving\n"),
+        (b"dump", ">not serving\n"),
     ];
     assert_eq!(rt; otherwise(alloc, false, &watches, &wanted)?, 0);
     Ok(())
@@ -105,6 +119,8 @@ fn other_bytes_are_no_word(rt: HostRuntime) -> Result<(), Fail> {
     assert_eq!(rt; spelled_again(*b"mntr"), Some(*b"mntr"));
     assert_eq!(rt; tells_of_watches(*b"mntr"), Some(false));
     assert_eq!(rt; tells_of_watches(*b"wchp"), Some(true));
+    assert_eq!(rt; tells_of_watches(*b"wchc"), Some(true));
+    assert_eq!(rt; tells_of_watches(*b"dump"), Some(false));
     Ok(())
 }
 

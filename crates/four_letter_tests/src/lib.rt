@@ -6,7 +6,9 @@
 #[cfg(test)]
 mod answers;
 
-use four_letter::{Figures, WatchRow, Word, answer};
+use data_tree::Tree;
+use ephemerals::Ephemerals;
+use four_letter::{Figures, Lent, WatchRow, Word, answer};
 use std::alloc::Global;
 use values::{Listed, NoMemory};
 use watch_manager::{Table, Watched, Watches};
@@ -18,6 +20,24 @@ fn session_of(connection: u64) -> i64 {
     } else {
         216_172_782_113_783_809
     }
+}
+
+// Three sessions, of which one is of server 255.
+fn tree(alloc: Global) -> Result<Tree, NoMemory> {
+    let mut tree = Tree::empty(alloc);
+    tree.put_session(session_of(1), 10_000)?;
+    tree.put_session(session_of(2), 4000)?;
+    tree.put_session(5, 40_000)?;
+    Ok(tree)
+}
+
+// Two ephemeral nodes of the first of them, and one of session 5.
+fn ephemerals(alloc: Global) -> Result<Ephemerals, NoMemory> {
+    let mut owners = Ephemerals::new(alloc);
+    owners.add(alloc, session_of(1), "/b")?;
+    owners.add(alloc, session_of(1), "/a/e")?;
+    owners.add(alloc, 5, "/c")?;
+    Ok(owners)
 }
 
 /// The answer to the word by an observer with these watches, and whether it is a word.
@@ -42,6 +62,8 @@ pub fn answered(
             table,
         })?;
     }
+    let tree = tree(alloc)?;
+    let ephemerals = ephemerals(alloc)?;
     let figures = Figures {
         serving,
         last: 4_294_967_301,
@@ -50,6 +72,8 @@ pub fn answered(
         pairs: 5,
         watched: watches.counts(),
         watches: Listed::from_vec(rows),
+        timeouts: Lent::new(tree.sessions()),
+        ephemerals: Lent::new(&ephemerals),
     };
     let mut out = Vec::new(alloc);
     out.push(b'>')?;

@@ -14,7 +14,7 @@ use Rattle.jute.specs.Frame.{frame_format, frame_at, frame_length, front_of}
 use Rattle.jute.specs.Stream.{unread_after_fault}
 use Rattle.four_letter.specs.Words.{letters_of, word_of}
 use Rattle.four_letter.specs.declared.word.Word.{Word}
-use Rattle.four_letter.specs.declared.word.Word.TheVariants.{Ruok, Isro, Srvr, Mntr, Wchs, Wchp}
+use Rattle.four_letter.specs.declared.word.Word.TheVariants.{Ruok, Isro, Srvr, Mntr, Wchs, Wchp, Wchc, Dump}
 use Rattle.client_service.specs.Serve.{word_without_session, client_frame_limit}
 
 -- ---- words and bytes
@@ -27,6 +27,8 @@ four Srvr = refl
 four Mntr = refl
 four Wchs = refl
 four Wchp = refl
+four Wchc = refl
+four Dump = refl
 
 spelt : (word : Word) (bytes : List ℕ) → length bytes < 4 → bytes_eq bytes (letters_of word) ≡ false
 spelt word bytes short = by (bytes_eq bytes (letters_of word)) refl
@@ -47,6 +49,8 @@ no_word bytes short = rw (
   spelt Mntr bytes short,
   spelt Wchs bytes short,
   spelt Wchp bytes short,
+  spelt Wchc bytes short,
+  spelt Dump bytes short,
 ) refl
 
 pub says_none : (session : Option ℤ) (word : Option Word) → word ≡ None → word_without_session session word ≡ None

@@ -13,8 +13,8 @@ is_four_letter_word text =
     bytes_eq text (codes "ruok") || bytes_eq text (codes "isro") || bytes_eq text (codes "srvr")
     || bytes_eq text (codes "stat") || bytes_eq text (codes "mntr") || bytes_eq text (codes "conf")
     || bytes_eq text (codes "envi") || bytes_eq text (codes "dirs") || bytes_eq text (codes "wchs")
-    || bytes_eq text (codes "wchp") || bytes_eq text (codes "cons") || bytes_eq text (codes "crst")
-    || bytes_eq text (codes "srst")
+    || bytes_eq text (codes "wchp") || bytes_eq text (codes "wchc") || bytes_eq text (codes "dump")
+    || bytes_eq text (codes "cons") || bytes_eq text (codes "crst") || bytes_eq text (codes "srst")
 
 abbrev pub is_among : List ℕ → List (List ℕ) → Bool
 is_among word parts = list_any (λ part. bytes_eq part word) parts
@@ -31,6 +31,8 @@ words_among parts = record {
   dirs = is_among (codes "dirs") parts;
   wchs = is_among (codes "wchs") parts;
   wchp = is_among (codes "wchp") parts;
+  wchc = is_among (codes "wchc") parts;
+  dump = is_among (codes "dump") parts;
   cons = is_among (codes "cons") parts;
   crst = is_among (codes "crst") parts;
   srst = is_among (codes "srst") parts;
@@ -48,6 +50,8 @@ all_or_none is_there = record {
   dirs = is_there;
   wchs = is_there;
   wchp = is_there;
+  wchc = is_there;
+  dump = is_there;
   cons = is_there;
   crst = is_there;
   srst = is_there;

@@ -128,7 +128,7 @@ impl fmt::Display for Kind {
                 write!(f, "{least} to {most}")
             }
             Kind::Words => f.write_str(
-                "all, none, or some of ruok,isro,srvr,stat,mntr,conf,envi,dirs,wchs,wchp,cons,crst,srst",
+                "all, none, or some of ruok,isro,srvr,stat,mntr,conf,envi,dirs,wchs,wchp,wchc,dump,cons,crst,srst",
             ),
             Kind::File => f.write_str("the name of a file"),
             Kind::Level => f.write_str("off, error, warn, info or debug"),

@@ -19,6 +19,8 @@ pub struct Words {
     pub dirs: bool,
     pub wchs: bool,
     pub wchp: bool,
+    pub wchc: bool,
+    pub dump: bool,
     pub cons: bool,
     pub crst: bool,
     pub srst: bool,
@@ -37,6 +39,8 @@ pub(crate) fn is_word(text: &str) -> bool
         || text == "dirs"
         || text == "wchs"
         || text == "wchp"
+        || text == "wchc"
+        || text == "dump"
         || text == "cons"
         || text == "crst"
         || text == "srst"
@@ -71,6 +75,8 @@ fn all_or_none(is_there: bool) -> Words
         dirs: is_there,
         wchs: is_there,
         wchp: is_there,
+        wchc: is_there,
+        dump: is_there,
         cons: is_there,
         crst: is_there,
         srst: is_there,
@@ -102,6 +108,8 @@ pub fn words_of(text: &str) -> Option<Words>
         dirs: has(text, "dirs"),
         wchs: has(text, "wchs"),
         wchp: has(text, "wchp"),
+        wchc: has(text, "wchc"),
+        dump: has(text, "dump"),
         cons: has(text, "cons"),
         crst: has(text, "crst"),
         srst: has(text, "srst"),
@@ -110,7 +118,7 @@ pub fn words_of(text: &str) -> Option<Words>
 
 impl Words {
     /// Each word, and whether it is answered.
-    pub fn each(self) -> [(&'static str, bool); 13] {
+    pub fn each(self) -> [(&'static str, bool); 15] {
         [
             ("ruok", self.ruok),
             ("isro", self.isro),
@@ -122,6 +130,8 @@ impl Words {
             ("dirs", self.dirs),
             ("wchs", self.wchs),
             ("wchp", self.wchp),
+            ("wchc", self.wchc),
+            ("dump", self.dump),
             ("cons", self.cons),
             ("crst", self.crst),
             ("srst", self.srst),

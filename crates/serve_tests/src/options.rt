@@ -192,7 +192,7 @@ fn words_are_shown_as_they_are_given(rt: HostRuntime) -> Result<(), Fail> {
         ),
         (
             "--leader 1 --client 2 --words all",
-            "ruok,isro,srvr,stat,mntr,conf,envi,dirs,wchs,wchp,cons,crst,srst",
+            "ruok,isro,srvr,stat,mntr,conf,envi,dirs,wchs,wchp,wchc,dump,cons,crst,srst",
         ),
         ("--leader 1 --client 2 --words none", "none"),
         ("--leader 1 --client 2 --words wchp,ruok,ruok", "ruok,wchp"),

@@ -2,7 +2,7 @@ use Rattle.std.proofs.Common.{◌++◌, ap, sym, codes, ◌∙◌}
 use Rattle.std.specs.List.{flat_map}
 use Rattle.four_letter.specs.Texts.{session_line}
 use Rattle.four_letter.specs.Inner.Gathered.{sessions_by_path, path_blocks}
-use Rattle.four_letter.proofs.Gathering.{blocks-gathered, block}
+use Rattle.four_letter.proofs.Gathering.{path_blocks-gathered, block}
 use Rattle.four_letter.proofs.texts.put_wchp.Goals as goal
 
 pub loop-path-init : goal.loop-path-init
@@ -11,7 +11,7 @@ loop-path-init c =
       tt,
       tt,
       ap (λ text. c.args.out.now.items ++ text) (ap (λ es. path_blocks (sessions_by_path es)) given.0
-          ∙ blocks-gathered c.args.rows.now c.in_ok-by_path.by_path.entries c.in_ok-by_path.ensures given.5),
+          ∙ path_blocks-gathered c.args.rows.now c.in_ok-by_path.by_path.entries c.in_ok-by_path.ensures given.5),
     )
 
 pub loop-path-preserved : goal.loop-path-preserved

@@ -1,5 +1,5 @@
 use Rattle.std.proofs.Common.{refl}
-use Rattle.four_letter.specs.declared.word.Word.TheVariants.{Ruok, Isro, Srvr, Mntr, Wchs, Wchp}
+use Rattle.four_letter.specs.declared.word.Word.TheVariants.{Ruok, Isro, Srvr, Mntr, Wchs, Wchp, Wchc, Dump}
 use Rattle.connection_loop.proofs.limits.SessionLimitsDefault.default.Goals as goal
 
 pub returns-clause-words : goal.returns-clause-words
@@ -10,4 +10,6 @@ returns-clause-words c = elim [
   | Mntr ↦ c.all.ensures Mntr
   | Wchs ↦ c.all.ensures Wchs
   | Wchp ↦ refl
+  | Wchc ↦ refl
+  | Dump ↦ refl
 ]

@@ -1,0 +1,48 @@
+use Rattle.std.proofs.Common.{◌≡◌, true, false, ap, sym, subst, ◌∙◌, w64, rules, length}
+use Rattle.std.proofs.lemmas.Int.{to_z-of_z}
+use Rattle.four_letter.specs.Dumped.{owning_sessions, has_ephemerals}
+use Rattle.four_letter.proofs.Owning.{IsCounted, owns_if_found, counted-owner, counted-other}
+use Rattle.four_letter.proofs.dump.owner_count.Goals as goal
+use mir.Val.{SFits}
+
+pub overflow_sub-count : goal.overflow_sub-count
+overflow_sub-count c =
+    let pairs = c.args.ephemerals.now in
+    let session = c.in-Some.session.now in
+    let fits : SFits w64 session = search rules in
+    let all = length (owning_sessions c.args.timeouts.now pairs) in
+    let count = c.loop-session.count in
+    let owns : has_ephemerals pairs session ≡ false =
+    ap (has_ephemerals pairs) (sym (to_z-of_z w64 session fits))
+    ∙ owns_if_found pairs _ c.of.result c.of.ensures.paths c.of.ensures.some c.of.ensures.none
+    ∙ c.if-is_none.ensures in
+    let is = subst (λ es. IsCounted pairs all es count) c.in-Some.ensures.steps c.loop-session.invariant.2 in
+    (counted-other pairs all (session, c.in-Some.field-0-1.now) c.next.new.self count owns is).0
+
+pub loop-session-preserved-then-is_none : goal.loop-session-preserved-then-is_none
+loop-session-preserved-then-is_none c =
+    let pairs = c.args.ephemerals.now in
+    let session = c.in-Some.session.now in
+    let fits : SFits w64 session = search rules in
+    let all = length (owning_sessions c.args.timeouts.now pairs) in
+    let count = c.loop-session.count in
+    let owns : has_ephemerals pairs session ≡ false =
+    ap (has_ephemerals pairs) (sym (to_z-of_z w64 session fits))
+    ∙ owns_if_found pairs _ c.of.result c.of.ensures.paths c.of.ensures.some c.of.ensures.none
+    ∙ c.if-is_none.ensures in
+    let is = subst (λ es. IsCounted pairs all es count) c.in-Some.ensures.steps c.loop-session.invariant.2 in
+    (tt, tt, (counted-other pairs all (session, c.in-Some.field-0-1.now) c.next.new.self count owns is).1)
+
+pub loop-session-preserved : goal.loop-session-preserved
+loop-session-preserved c =
+    let pairs = c.args.ephemerals.now in
+    let session = c.in-Some.session.now in
+    let fits : SFits w64 session = search rules in
+    let all = length (owning_sessions c.args.timeouts.now pairs) in
+    let count = c.loop-session.count in
+    let owns : has_ephemerals pairs session ≡ true =
+    ap (has_ephemerals pairs) (sym (to_z-of_z w64 session fits))
+    ∙ owns_if_found pairs _ c.of.result c.of.ensures.paths c.of.ensures.some c.of.ensures.none
+    ∙ c.if-is_none.ensures in
+    let is = subst (λ es. IsCounted pairs all es count) c.in-Some.ensures.steps c.loop-session.invariant.2 in
+    (tt, tt, counted-owner pairs all (session, c.in-Some.field-0-1.now) c.next.new.self count owns is)
