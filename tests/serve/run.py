@@ -4,10 +4,11 @@
 It plays a small leader and many clients: some are reset, some are cut in the middle of a frame, some say nothing, some
 don't read, some send what is no frame, some go while their session or a write of theirs waits for the leader, some
 bring their sessions from elsewhere (claims.py), or with passwords of a secret (keyed.py), some ask for the address that
-they come from (addresses.py), some ask words (words.py), and many of these load it together with clients that pipeline;
-and leaders that fault, or end in the middle of an image; and descriptors or the disk of a record run out (failing.py).
-Then it attacks the server (attacks.py, attacks_on_memory.py). By --long some of this is tried more often, or whole. PROGRAM is
-crates/replay_runner/out/replay_runner where none is named. The last line is `N passed, M failed`.
+they come from (addresses.py), some ask words (words.py) or for figures (metrics.py), and many of these load it together
+with clients that pipeline; and leaders that fault, or end in the middle of an image; and descriptors or the disk of a
+record run out (failing.py). Then it attacks the server (attacks.py, attacks_on_memory.py). By --long some of this is
+tried more often, or whole. PROGRAM is crates/replay_runner/out/replay_runner where none is named. The last line is
+`N passed, M failed`.
 """
 import os
 import queue
@@ -36,6 +37,7 @@ import forwarded  # noqa: E402
 import keyed  # noqa: E402
 import load  # noqa: E402
 import logs  # noqa: E402
+import metrics  # noqa: E402
 import next_leaders  # noqa: E402
 import several  # noqa: E402
 import silence  # noqa: E402
@@ -48,7 +50,7 @@ from server import (  # noqa: E402
 
 MODULES = (
     commands, configured, sys.modules[__name__], failing, claims, keyed, addresses, logs, next_leaders, silence,
-    checkpoints, bounds, words, attacks, attacks_on_memory,
+    checkpoints, bounds, words, metrics, attacks, attacks_on_memory,
 )
 
 
