@@ -212,7 +212,7 @@ fn leader_bytes(messages: &[(usize, Message)]) -> Option<u64> {
 }
 
 impl<L: Log, W: Write + Drop> Hub<L, W> {
-    // Notes what the last turn, which ended at this time, tells of the leader. Returns whether the leader was heard.
+    // Notes what the last turn, which ended at this time, tells of the leader. Returns whether the leader sent bytes.
     pub(crate) fn note_leader(&mut self, now: u64) -> bool {
         let heard = leader_bytes(self.desk.fresh());
         if heard.is_some() {
@@ -228,7 +228,7 @@ impl<L: Log, W: Write + Drop> Hub<L, W> {
             }
             _ => self.leading.is_greeted = true,
         }
-        heard.is_some()
+        heard.unwrap_or(0) > 0
     }
 
     fn note_serving(&mut self, now: u64) {

@@ -13,8 +13,8 @@
 
 mod memory;
 mod page;
-mod service;
 mod scraping;
+mod service;
 mod timed;
 
 pub use page::{Page, page_at};

@@ -27,8 +27,8 @@ const LONGEST_WAIT: u64 = 1000;
 // The pause when the system has no descriptor left, in milliseconds.
 const PAUSE: u64 = 100;
 
-// The longest head of a request, in bytes. Bodies aren't read.
-const LONGEST_HEAD: usize = 4096;
+// The longest head of a request, and the longest body, in bytes. No page looks at a body.
+const LONGEST: usize = 4096;
 
 /// What ends the thread.
 #[derive(Drop)]
@@ -121,16 +121,20 @@ pub fn open_scraping(
 
 fn config() -> Config {
     let mut config = Config::default();
-    config.limits.max_head_len = LONGEST_HEAD;
-    config.limits.max_extensions_len = LONGEST_HEAD;
-    config.limits.max_trailers_len = LONGEST_HEAD;
-    config.max_body_len = 0;
+    config.limits.max_head_len = LONGEST;
+    config.limits.max_extensions_len = LONGEST;
+    config.limits.max_trailers_len = LONGEST;
+    config.max_body_len = LONGEST;
     config
 }
 
 impl Scraper {
     // Answers the request of a connection.
-    fn answer<T: Clock + Files + RandomSource + Wait>(&self, rt: &T, stream: &TcpStream) -> io::Result<()> {
+    fn answer<T: Clock + Files + RandomSource + Wait>(
+        &self,
+        rt: &T,
+        stream: &TcpStream,
+    ) -> io::Result<()> {
         stream.set_nonblocking(false)?;
         let began = Instant::now(rt).ok();
         let door = &*self.door;
@@ -176,9 +180,7 @@ impl Scraper {
 
     fn wait(&mut self) {
         // If the wait fails, the next call accepts the connections for which it would have waited.
-        let _ = self
-            .poll
-            .poll(&mut self.events, Some(Duration::from_millis(LONGEST_WAIT)));
+        let _ = self.poll.poll(&mut self.events, Some(Duration::from_millis(LONGEST_WAIT)));
     }
 }
 

@@ -52,8 +52,9 @@ impl<'a, T: Clock + Files> Pages<'a, T> {
                 "clients are not served\n",
             ),
             Health::Silent(silent) => {
-                let text =
-                    format!(in self.alloc; "the leader has been silent for {silent} milliseconds\n")?;
+                let text = format!(in self.alloc;
+                    "the leader has been silent for {silent} milliseconds\n"
+                )?;
                 refuse(response, StatusCode::SERVICE_UNAVAILABLE, text.as_str())
             }
         }
@@ -100,7 +101,11 @@ impl<'a, T: Clock + Files> Service for Pages<'a, T> {
         let method = request.method();
         if *method != Method::GET && *method != Method::HEAD {
             response.add_header(header::ALLOW, HeaderValue::from_static("GET, HEAD"))?;
-            return refuse(response, StatusCode::METHOD_NOT_ALLOWED, "only GET and HEAD are answered\n");
+            return refuse(
+                response,
+                StatusCode::METHOD_NOT_ALLOWED,
+                "only GET and HEAD are answered\n",
+            );
         }
         self.put_page(page, response)
     }

@@ -30,6 +30,7 @@ pub record WorkedRows : Type 0 where
       ++ codes "avg_latency 0.6666\n"
   pub healthy : health_of true 10000999 10000 ≡ Healthy
   pub silent : health_of true 10001000 10000 ≡ Silent 10001
+  pub unbounded : health_of true 10001000 0 ≡ Healthy
   pub not_serving : health_of false 0 10000 ≡ NotServing
   pub live : is_live 10000000 ≡ true
   pub dead : is_live 10000001 ≡ false

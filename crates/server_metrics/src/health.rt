@@ -20,7 +20,7 @@ pub enum Health {
 const LONGEST_TURN: u64 = 10_000_000;
 
 /// Whether a server with these figures is healthy, whose leader was last heard so many microseconds ago, and may be
-/// silent for so many milliseconds.
+/// silent for so many milliseconds; 0: for any time.
 pub fn health_of(figures: &ServerFigures, silence: u64, limit: u64) -> Health
     ensures { result ≡ health_of figures.now.serving silence limit }
 {
@@ -28,7 +28,7 @@ pub fn health_of(figures: &ServerFigures, silence: u64, limit: u64) -> Health
         return Health::NotServing;
     }
     let silent = silence / 1000;
-    if silent > limit {
+    if limit > 0 && silent > limit {
         return Health::Silent(silent);
     }
     Health::Healthy

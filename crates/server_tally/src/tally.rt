@@ -68,7 +68,7 @@ pub struct Tally {
     rejected: AtomicU64,
     pub(crate) sessions: AtomicU64,
     pub(crate) log: AtomicU64,
-    // The transactions that were applied while clients were served.
+    // The transactions that were applied.
     pub(crate) transactions: AtomicU64,
     // When the leader was last heard, and when the last turn ended, in microseconds since the start.
     pub(crate) heard: AtomicU64,
@@ -77,14 +77,15 @@ pub struct Tally {
     pub(crate) turns: Histogram,
 }
 
-// How many transactions lead from a zxid to a later one. Within an epoch each has the next zxid.
+// How many transactions lead from a zxid to a later one: within an epoch each has the next zxid, and the first of an
+// epoch has counter 1.
 fn transactions_between(before: i64, after: i64) -> u64 {
     let before = before.cast_unsigned();
     let after = after.cast_unsigned();
     if before >> 32 == after >> 32 {
         after.saturating_sub(before)
     } else {
-        0
+        after & 0xffff_ffff
     }
 }
 
@@ -113,13 +114,15 @@ impl Tally {
         }
     }
 
-    // Counts the transactions that were applied since the last figures, if clients were served then and are served now.
+    // Counts the transactions that were applied since the last figures. While a leader brings the server up to date the
+    // log tells how many, since the zxid may leap; while clients are served the zxid, since the log may be emptied.
     fn count_transactions(&self, figures: EngineFigures) {
-        if figures.serving && self.serving.load(Ordering::SeqCst) {
-            let before = self.zxid.load(Ordering::SeqCst);
-            self.transactions
-                .fetch_add(transactions_between(before, figures.zxid), Ordering::SeqCst);
-        }
+        let count = if figures.serving && self.serving.load(Ordering::SeqCst) {
+            transactions_between(self.zxid.load(Ordering::SeqCst), figures.zxid)
+        } else {
+            figures.log.saturating_sub(self.log.load(Ordering::SeqCst))
+        };
+        self.transactions.fetch_add(count, Ordering::SeqCst);
     }
 
     /// Counts a turn of the hub, which has just ended.

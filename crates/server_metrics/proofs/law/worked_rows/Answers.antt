@@ -9,6 +9,7 @@ returns c = record {
   average = refl;
   healthy = refl;
   silent = refl;
+  unbounded = refl;
   not_serving = refl;
   live = refl;
   dead = refl;
