@@ -19,8 +19,8 @@ use Rattle.serve_options.specs.declared.command.Command.{Command}
 use Rattle.serve_options.specs.declared.command.Command.TheVariants as commands
 use Rattle.serve_options.specs.Given.{given_of, value_of, number_given, IsGivenBy}
 use Rattle.serve_options.specs.Rows.{option_bounds, option_word, IsWithin}
-use Rattle.serve_options.specs.Values.{SpellsAddress, level_of, format_of, dialect_of}
-use Rattle.serve_options.specs.Words.{is_among, named_words}
+use Rattle.serve_options.specs.Values.{SpellsAddress, ArePlaces, level_of, format_of, dialect_of}
+use Rattle.serve_options.specs.Words.{is_among, named_words, parts_of}
 
 -- Each number is within the bounds of its option. Those of the server's id and of the limits are kept by their types.
 pub record IsWithinBounds (options : Options) : Type 0 where
@@ -42,13 +42,13 @@ IsAddressOf value None = value ≡ None
 IsAddressOf value (Some address) =
     (text : List ℕ) × (value ≡ Some text) × SpellsAddress text address.host.now address.port
 
--- The leader's address, or between 1 and 64 servers; and only one of the two is given.
+-- The leader's address, or the 1 to 64 servers between the commas; and only one of the two is given.
 abbrev pub AreServersOf : List Given → Servers → Type 0
 AreServersOf given (followed.Leader address) =
     IsAddressOf (value_of names.Leader given) (Some address) × (value_of names.Servers given ≡ None)
 AreServersOf given (followed.Any addresses) =
-    (text : List ℕ) × (value_of names.Servers given ≡ Some text) × (1 ≤ vec_len addresses) × (vec_len addresses ≤ 64)
-    × (value_of names.Leader given ≡ None)
+    (text : List ℕ) × (value_of names.Servers given ≡ Some text) × ArePlaces (parts_of text) addresses.items
+    × (1 ≤ vec_len addresses) × (vec_len addresses ≤ 64) × (value_of names.Leader given ≡ None)
 
 -- The id that is given, or 1.
 abbrev pub id_given : List Given → ℕ

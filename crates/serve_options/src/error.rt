@@ -1,6 +1,7 @@
 //! What is wrong with a command line.
 
-ghost use Rattle.std.specs.Prelude.{◌≡◌};
+ghost use Rattle.std.specs.Prelude.{◌≡◌, Some};
+ghost use Rattle.serve_options.specs.Rows.{option_word};
 ghost use Rattle.serve_options.specs.declared.error.OptionError.TheVariants as errors;
 
 use crate::row::{Kind, Name};
@@ -63,6 +64,8 @@ impl<'a, T: Drop> From<AllocFailed<T>> for OptionError<'a> {
 }
 
 impl fmt::Display for Name {
+    ghost output = { λ name. Some (option_word name) };
+
     fn fmt<W: fmt::Write>(&self, f: &mut fmt::Formatter<W>) -> fmt::Result {
         f.write_str(self.row().word)
     }

@@ -1,5 +1,9 @@
 //! What a configuration file sets, as options that say the same.
 
+ghost use Rattle.std.specs.Prelude.{◌≡◌, IfOk, map, filter, string_bytes, option_map};
+ghost use Rattle.serve_options.specs.Rows.{option_word};
+ghost use Rattle.serve_options.specs.Filed.{word_after, given_spelling, filed_spelling, counts_beside};
+
 use crate::given::Given;
 use crate::row::Name;
 use crate::words::is_word;
@@ -211,11 +215,19 @@ pub fn filed_by(
 }
 
 /// The word after an option, if the words have the option.
-pub fn value_given(words: &[String], name: Name) -> Option<&str> {
+pub fn value_given(words: &[String], name: Name) -> Option<&str>
+    ensures { option_map (λ value. value.now) result ≡ word_after (option_word name) (map string_bytes words.now) }
+{
     let option = name.row().word;
-    let place = words.iter().position(|word| word.as_str() == option)?;
-    let value = words.get(place + 1)?;
-    Some(value.as_str())
+    let mut rest = words;
+    while let Some((word, others)) = rest.split_first() {
+        if word.as_str() == option {
+            let value = others.first()?;
+            return Some(value.as_str());
+        }
+        rest = others;
+    }
+    None
 }
 
 /// The same as options that are given, but for the servers beside a leader that is.
@@ -223,7 +235,9 @@ pub fn given_by<'a>(
     alloc: Global,
     filed: &'a [Filed],
     has_leader: bool,
-) -> Result<Vec<Given<'a>>, AllocError> {
+) -> Result<Vec<Given<'a>>, AllocError>
+    ensures { IfOk result (λ given. map given_spelling given.items ≡ map filed_spelling (filter (counts_beside has_leader) filed.now)) }
+{
     let mut given = Vec::with_capacity(alloc, filed.len())?;
     for option in filed {
         if option.name != Name::Servers || !has_leader {

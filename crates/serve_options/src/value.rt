@@ -1,9 +1,10 @@
 //! The values of options.
 
-ghost use Rattle.std.specs.Prelude.{◌≡◌, ◌≤◌, ◌==◌, ℕ, Some, IfSome, IfOk, vec_len};
+ghost use Rattle.std.specs.Prelude.{◌≡◌, ◌≤◌, ◌==◌, ℕ, Some, IfSome, IfOk, map, vec_len};
 ghost use Rattle.std.specs.List.{list_any};
 ghost use Rattle.serve_options.specs.Rows.{IsWithin};
-ghost use Rattle.serve_options.specs.Values.{number_within, port_number_of, SpellsHost, SpellsAddress, level_of, format_of, dialect_of, is_digest_text};
+ghost use Rattle.serve_options.specs.Words.{parts_of};
+ghost use Rattle.serve_options.specs.Values.{number_within, port_number_of, SpellsHost, SpellsPlace, SpellsAddress, ArePlaces, level_of, format_of, dialect_of, is_digest_text};
 
 use crate::row::Bounds;
 use log::LevelFilter;
@@ -82,25 +83,39 @@ fn host_of(text: &str) -> Option<&str>
     Some(host)
 }
 
+/// Whether a text names a host beside its port.
+pub(crate) fn has_host(text: &str) -> bool {
+    text.contains(":")
+}
+
+// The address that a text spells as HOST:PORT.
+fn place_of(text: &str) -> Option<Address<'_>>
+    ensures { IfSome result (λ address. SpellsPlace text.now address.host.now address.port) }
+{
+    let (front, back) = text.rsplit_once(":")?;
+    Some(Address {
+        host: host_of(front)?,
+        port: port_of(back)?,
+    })
+}
+
 /// The address that a text spells as PORT or HOST:PORT. A port alone is one of this machine.
 pub(crate) fn address_of(text: &str) -> Option<Address<'_>>
     ensures { IfSome result (λ address. SpellsAddress text.now address.host.now address.port) }
 {
-    match text.rsplit_once(":") {
-        None => Some(Address {
-            host: LOCAL,
-            port: port_of(text)?,
-        }),
-        Some((front, back)) => Some(Address {
-            host: host_of(front)?,
-            port: port_of(back)?,
-        }),
+    if has_host(text) {
+        return place_of(text);
     }
+    Some(Address {
+        host: LOCAL,
+        port: port_of(text)?,
+    })
 }
 
-/// Whether a text names a host beside its port.
-pub(crate) fn has_host(text: &str) -> bool {
-    text.contains(":")
+fn parts_of(alloc: Global, text: &str) -> Result<Vec<&str>, AllocError>
+    ensures { IfOk result (λ parts. map (λ part. part.now) parts.items ≡ parts_of text.now) }
+{
+    text.split(',').collect(alloc)
 }
 
 /// From 1 to 64 addresses, with commas between. Returns None if the text isn't these, or if one has no host.
@@ -108,20 +123,19 @@ pub(crate) fn addresses_of(
     alloc: Global,
     text: &str,
 ) -> Result<Option<Vec<Address<'_>>>, AllocError>
-    ensures { IfOk result (λ found. IfSome found (λ addresses. (1 ≤ vec_len addresses) × (vec_len addresses ≤ 64))) }
+    ensures spelled { IfOk result (λ found. IfSome found (λ addresses. ArePlaces (parts_of text.now) addresses.items)) }
+    ensures length { IfOk result (λ found. IfSome found (λ addresses. (1 ≤ vec_len addresses) × (vec_len addresses ≤ 64))) }
 {
+    let parts = parts_of(alloc, text)?;
+    if parts.len() > MOST_SERVERS {
+        return Ok(None);
+    }
     let mut addresses = Vec::new(alloc);
-    for part in text.split(",") {
-        if !has_host(part) || addresses.len() >= MOST_SERVERS {
-            return Ok(None);
-        }
-        match address_of(part) {
+    for part in parts.as_slice() {
+        match place_of(part) {
             Some(address) => addresses.push(address)?,
             None => return Ok(None),
         }
-    }
-    if addresses.is_empty() {
-        return Ok(None);
     }
     Ok(Some(addresses))
 }
