@@ -53,7 +53,7 @@ def srvr(bench):
 
 
 def watches(bench):
-    """wchs, wchp and mntr count the watches of both tables."""
+    """wchs, wchp, wchc and mntr tell of the watches of both tables."""
     port = bench.observer.client
     one, two = Raw(port), Raw(port)
     one.data("/words", True)
@@ -64,11 +64,51 @@ def watches(bench):
     first, second = sorted((one.session, two.session))
     listed = f"/nowhere\n\t0x{one.session:x}\n/words\n\t0x{first:x}\n\t0x{second:x}\n"
     assert word(port, "wchp") == listed, word(port, "wchp")
+    paths = {one.session: "\t/nowhere\n\t/words\n", two.session: "\t/words\n"}
+    listed = "".join(f"0x{session:x}\n{paths[session]}" for session in (first, second))
+    assert word(port, "wchc") == listed, word(port, "wchc")
     figures = mntr(port)
     assert figures["zk_num_alive_connections"] == "3" and figures["zk_watch_count"] == "4", figures
     one.leave()
     two.leave()
     assert word(port, "wchs") == "0 connections watching 0 paths\nTotal watches:0\n"
+
+
+def owners(port):
+    """The sessions that a server's dump has below its ephemeral nodes, each with its paths, but for those without."""
+    text = word(port, "dump").partition("Sessions with Ephemerals ")[2].partition("Connections dump:")[0]
+    found = {}
+    for line in text.splitlines()[1:]:
+        if line.startswith("\t"):
+            found[session].add(line[1:])
+        else:
+            session = line.removesuffix(":")
+            found[session] = set()
+    return {session: paths for session, paths in found.items() if paths}
+
+
+def dump(bench):
+    """dump lists the sessions with their timeouts, and those with ephemeral nodes as the leader does."""
+    port = bench.observer.client
+    one, two = Raw(port, timeout=7000), Raw(bench.leader.client, timeout=5000)
+    client = KazooClient(f"127.0.0.1:{port}")
+    client.start(15)
+    for path in ("/dump-b", "/dump-a"):
+        client.create(path, b"", ephemeral=True)
+    bench.observer.reaches(zxid_of(bench.leader.client))
+    lines = word(port, "dump").splitlines()
+    assert lines[0] == "SessionTracker dump:" and lines[1].startswith("Global Sessions("), lines
+    end = lines.index("ephemeral nodes dump:")
+    ids = [int(line.partition("\t")[0], 16) for line in lines[2:end]]
+    assert ids == sorted(ids) and lines[1] == f"Global Sessions({len(ids)}):", lines
+    assert {f"0x{one.session:x}\t7000ms", f"0x{two.session:x}\t5000ms"} <= set(lines[2:end]), lines
+    session = f"0x{client.client_id[0]:x}"
+    assert owners(port)[session] == {"/dump-a", "/dump-b"}, lines
+    assert owners(port) == owners(bench.leader.client), lines
+    client.stop()
+    client.close()
+    one.leave()
+    two.leave()
 
 
 def version(bench):
@@ -82,7 +122,7 @@ def version(bench):
 
 def no_words(bench):
     """A word that isn't answered here is no frame either, so the connection is closed without an answer."""
-    for asked in ("dump", "wchc", "xxxx"):
+    for asked in ("gtmk", "reqs", "xxxx"):
         assert word(bench.observer.client, asked) == "", asked
 
 
@@ -94,4 +134,4 @@ def in_pieces(bench):
         assert b"".join(iter(lambda: connection.recv(100), b"")) == b"imok"
 
 
-CHECKS = [short_ones, srvr, watches, version, no_words, in_pieces]
+CHECKS = [short_ones, srvr, watches, dump, version, no_words, in_pieces]

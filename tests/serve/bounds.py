@@ -73,6 +73,7 @@ def test_words_that_are_answered():
         (["--words", "all"], WORDS),
         (["--words", "none"], ()),
         (["--words", "wchp,ruok"], (b"ruok", b"wchp")),
+        (["--words", "dump,wchc"], (b"wchc", b"dump")),
     ):
         with Server(*words) as server, server.client() as watching:
             # A watch, so that each word has something to tell.

@@ -1,4 +1,4 @@
--- The answer to each word. The lines, their order and the counts are this observer's own.
+-- The answer to each word. But for dump, the lines, their order and the counts are this observer's own.
 use Rattle.std.specs.Prelude.{◌≡◌, ℕ, ◌+◌, ℤ, List, ◌++◌, length, false, if◌then◌else◌, codes, decimal}
 use Rattle.std.specs.List.{flat_map}
 use Rattle.std.specs.Int.{w64, cast_unsigned}
@@ -80,7 +80,7 @@ owner_block pairs session =
 abbrev pub heading : List ℕ → ℕ → List ℕ
 heading title count = title ++ codes "(" ++ decimal count ++ codes "):\n"
 
--- ZooKeeper lists the connections, too.
+-- The lines of ZooKeeper's observer, which has its connections after them.
 abbrev pub dump_text : SessionTimeouts → OwnerPairs → List ℕ
 dump_text timeouts pairs =
     codes "SessionTracker dump:\n"

@@ -196,6 +196,7 @@ fn words_are_shown_as_they_are_given(rt: HostRuntime) -> Result<(), Fail> {
         ),
         ("--leader 1 --client 2 --words none", "none"),
         ("--leader 1 --client 2 --words wchp,ruok,ruok", "ruok,wchp"),
+        ("--leader 1 --client 2 --words dump,wchc", "wchc,dump"),
     ] {
         let shown = words_shown(alloc, line)?;
         assert!(rt; shown.as_str() == wanted, "{line}");
