@@ -124,19 +124,21 @@ def histogram_of(name, samples):
 
 
 def figures_of(text):
-    """Returns the figures of a text by their names: numbers and histograms. All families have to be there, in order."""
+    """Returns the figures of a text by their names, in its order: numbers and histograms. Each family has to be there."""
     assert text.startswith("# HELP ") and text.endswith("\n"), text[:100]
-    blocks, found = ("\n" + text[:-1]).split("\n# HELP ")[1:], {}
-    for block, (name, kind, form) in zip(blocks, FAMILIES):
+    known, found = {name: rest for name, *rest in FAMILIES}, {}
+    for block in ("\n" + text[:-1]).split("\n# HELP ")[1:]:
         purpose, told, *samples = block.split("\n")
-        assert re.fullmatch(rf"{name} [^\\ ][^\\]*", purpose), (name, purpose)
+        name = purpose.partition(" ")[0]
+        assert name in known and name not in found and re.fullmatch(r"\w+ [^\\ ][^\\]*", purpose), purpose
+        kind, form = known[name]
         assert told == f"# TYPE {name} {kind}", (name, told)
         if kind == "histogram":
             found[name] = histogram_of(name, samples)
         else:
             assert len(samples) == 1 and samples[0].startswith(f"{name} "), samples
             found[name] = value_of(form, samples[0].partition(" ")[2])
-    assert len(blocks) == len(FAMILIES), [it.split("\n")[0] for it in blocks]
+    assert set(found) == set(known), set(known) - set(found)
     return found
 
 

@@ -10,7 +10,7 @@ import time
 import forwarded
 import words
 from attacks import watching
-from exposition import HEADERS, TYPE, asked, everything, figures, figures_of, read, said
+from exposition import FAMILIES, HEADERS, TYPE, asked, everything, figures, figures_of, read, said
 from leader import CREATE, buffer
 from server import CONNECT, TOP, Server, is_closed, reset, wait_until
 from several import DIFF, Following, Seat, at_once
@@ -67,7 +67,8 @@ def test_the_form_of_the_figures():
     with Metered() as server:
         answer = asked(server.metrics, "/metrics")
         assert answer.status == 200 and answer.headers["content-type"] == TYPE, answer
-        figures_of(answer.body.decode("utf-8"))
+        found = figures_of(answer.body.decode("utf-8"))
+        assert list(found) == [name for name, _, _ in FAMILIES], list(found)
         head = asked(server.metrics, "/metrics", "HEAD")
         assert (head.status, head.headers["content-type"]) == (200, TYPE), head
         # As Prometheus asks: it would take the answer in another form, too.
@@ -283,6 +284,14 @@ def beside_silent_leaders():
     raise AssertionError("no silence was told")
 
 
+def without_a_limit():
+    """Beside a leader that may be silent for as long as it likes the server is healthy."""
+    with Metered("--tick", "50", "--sync-limit", "0") as server:
+        time.sleep(1)
+        assert state(server.metrics, "/health") == OK
+        server.ends()
+
+
 # ---- what else is asked
 
 
@@ -369,6 +378,7 @@ def test_health_and_slow_scrapers():
     at_once({
         "without a leader": without_a_leader,
         "beside silent leaders": beside_silent_leaders,
+        "without a limit": without_a_limit,
         "a silent scraper": silent_scraper,
         "a slow scraper": slow_scraper,
     })
