@@ -16,7 +16,7 @@ use Rattle.ephemerals.proofs.SessionPaths.{contains-owned}
 use Rattle.data_tree.specs.Sessions.{SessionTimeouts}
 use Rattle.watch_manager.proofs.Ascending.{placed, ascending-placed, same_ascending}
 use Rattle.four_letter.specs.Dumped.{has_ephemerals, owning_sessions}
-use Rattle.four_letter.specs.Texts.{prefixed_hex, wchp_text, session_line, wchc_text, path_line, heading, timeout_line, owner_block, dump_text}
+use Rattle.four_letter.specs.Texts.{prefixed_hex, wchp_text, session_line, wchc_text, path_line, counted_heading, timeout_line, owner_block, dump_text}
 use Rattle.four_letter.specs.Inner.Gathered.{values_at}
 use Rattle.four_letter.specs.declared.figures.WatchRow.{WatchRow}
 use Rattle.four_letter.proofs.Owning.{owns_none, owns_some}
@@ -124,10 +124,10 @@ owners_placed es ps =
 abbrev dump_placed : List (ℤ × ℤ) → List (ℤ × Bytes) → List ℕ
 dump_placed es ps =
     codes "SessionTracker dump:\n"
-    ++ heading (codes "Global Sessions") (length (entries_placed es))
+    ++ counted_heading (codes "Global Sessions") (length (entries_placed es))
     ++ flat_map timeout_line (entries_placed es)
     ++ codes "ephemeral nodes dump:\n"
-    ++ heading (codes "Sessions with Ephemerals ") (length (owners_placed es ps))
+    ++ counted_heading (codes "Sessions with Ephemerals ") (length (owners_placed es ps))
     ++ flat_map (λ session. prefixed_hex session ++ codes ":\n"
     ++ flat_map path_line (placed path_total (names_of session ps))) (owners_placed es ps)
 
@@ -135,16 +135,16 @@ pub dump-placed : (es : List (ℤ × ℤ)) (ps : List (ℤ × Bytes))
     → dump_text (finmap.from_entries es) (set.from_list ps) ≡ dump_placed es ps
 dump-placed es ps =
     ap (λ n. codes "SessionTracker dump:\n"
-    ++ heading (codes "Global Sessions") n
+    ++ counted_heading (codes "Global Sessions") n
     ++ flat_map timeout_line (finmap.entries timeouts)
     ++ codes "ephemeral nodes dump:\n"
-    ++ heading (codes "Sessions with Ephemerals ") (length (owning_sessions timeouts pairs))
+    ++ counted_heading (codes "Sessions with Ephemerals ") (length (owning_sessions timeouts pairs))
     ++ flat_map (owner_block pairs) (owning_sessions timeouts pairs)) (finmap.len-entries timeouts)
     ∙ (λ i. codes "SessionTracker dump:\n"
-    ++ heading (codes "Global Sessions") (length (entries-placed es i))
+    ++ counted_heading (codes "Global Sessions") (length (entries-placed es i))
     ++ flat_map timeout_line (entries-placed es i)
     ++ codes "ephemeral nodes dump:\n"
-    ++ heading (codes "Sessions with Ephemerals ") (length (owners i))
+    ++ counted_heading (codes "Sessions with Ephemerals ") (length (owners i))
     ++ flat_map (λ session. prefixed_hex session ++ codes ":\n" ++ flat_map path_line (names-placed session ps i))
     (owners i))
   where

@@ -77,17 +77,17 @@ abbrev pub owner_block : OwnerPairs → ℤ → List ℕ
 owner_block pairs session =
     prefixed_hex session ++ codes ":\n" ++ flat_map path_line (sorted_names (paths_of_session session pairs))
 
-abbrev pub heading : List ℕ → ℕ → List ℕ
-heading title count = title ++ codes "(" ++ decimal count ++ codes "):\n"
+abbrev pub counted_heading : List ℕ → ℕ → List ℕ
+counted_heading title count = title ++ codes "(" ++ decimal count ++ codes "):\n"
 
 -- The lines of ZooKeeper's observer, which has its connections after them.
 abbrev pub dump_text : SessionTimeouts → OwnerPairs → List ℕ
 dump_text timeouts pairs =
     codes "SessionTracker dump:\n"
-    ++ heading (codes "Global Sessions") (finmap.len timeouts)
+    ++ counted_heading (codes "Global Sessions") (finmap.len timeouts)
     ++ flat_map timeout_line (finmap.entries timeouts)
     ++ codes "ephemeral nodes dump:\n"
-    ++ heading (codes "Sessions with Ephemerals ") (length (owning_sessions timeouts pairs))
+    ++ counted_heading (codes "Sessions with Ephemerals ") (length (owning_sessions timeouts pairs))
     ++ flat_map (owner_block pairs) (owning_sessions timeouts pairs)
 
 -- The text about the tree and the watches, while clients are served.

@@ -1,7 +1,7 @@
 //! Pieces of a text.
 
 ghost use Rattle.std.specs.Prelude.{◌≡◌, ◌++◌, OnOk, decimal, codes};
-ghost use Rattle.four_letter.specs.Texts.{name_value_line, prefixed_hex, path_line, timeout_line, heading};
+ghost use Rattle.four_letter.specs.Texts.{name_value_line, prefixed_hex, path_line, timeout_line, counted_heading};
 
 use std::io::Write;
 use values::NoMemory;
@@ -69,7 +69,7 @@ pub(crate) fn put_timeout(out: &mut Vec<u8>, session: i64, timeout: i32) -> Resu
 
 /// Appends the line of a title and a count.
 pub(crate) fn put_heading(out: &mut Vec<u8>, title: &str, count: usize) -> Result<(), NoMemory>
-    ensures { OnOk result (out.new.items ≡ out.old.items ++ heading title.now count) }
+    ensures { OnOk result (out.new.items ≡ out.old.items ++ counted_heading title.now count) }
 {
     match writeln!(out, "{title}({count}):") {
         Ok(()) => Ok(()),

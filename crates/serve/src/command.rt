@@ -1,7 +1,7 @@
 //! The command `serve`.
 
+use crate::listening::{listen, listen_for_scrapers};
 use crate::logging::tell;
-use crate::scraping::{listen, listen_for_scrapers};
 use crate::serving::{Origin, Startup, try_serve_on};
 use following::Finding;
 use serve_config::{FileLines, ReadFile, read_file, read_secret};

@@ -3,9 +3,9 @@
 use crate::bounds::Bounds;
 use crate::hub::{Hub, Parts};
 use crate::leading::{Leading, Source};
+use crate::listening::listen_for_scrapers;
 use crate::log_keeping::LogKeeper;
 use crate::logging::{Logging, start_logging};
-use crate::scraping::{listen_for_scrapers, start_scraping};
 use crate::silence::SilenceLimits;
 use crate::telling::tally_of;
 use batcher::SpreadThreshold;
@@ -20,6 +20,7 @@ use serve_bounds::{Accepting, Acceptor, Stopwatch, accept_all, open_door};
 use serve_config::{FileLines, create_record, read_secret};
 use serve_failures::{Failure, servers_of};
 use serve_journal::Journal;
+use serve_metrics::start_scraping;
 use serve_options::{Address, Options, Servers};
 use serve_record::Record;
 use settings::{Epochs, FirstCounter, Secret, TimeoutBounds};
@@ -324,7 +325,7 @@ pub(crate) fn try_serve_on<
             scraping.end(rt);
             served
         }
-        Err(failure) => Err(failure),
+        Err(error) => Err(Failure::from(error)),
     };
     end.finish(rt, thread);
     served

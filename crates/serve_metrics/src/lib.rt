@@ -5,9 +5,9 @@
 //! is that of the crate `http_server`, whose answers are proved to be whole.
 //!
 //! ```text
-//! let Scraping { scraper, door } = open_scraping(rt, alloc, listener, tally, limit)?;
-//! thread::spawn(rt, move || answer_scrapers(rt, scraper))?;
-//! door.stop();                              // ends the thread
+//! let scraping = start_scraping(rt, alloc, Some(listener), &tally, limit)?;
+//! ..
+//! scraping.end(rt);
 //! ```
 #![tactic(auto)]
 
@@ -18,4 +18,4 @@ mod service;
 mod timed;
 
 pub use page::{Page, page_at};
-pub use scraping::{ScrapeDoor, Scraper, Scraping, answer_scrapers, open_scraping};
+pub use thread::{ScrapeThread, start_scraping};

@@ -32,7 +32,7 @@ const LONGEST: usize = 4096;
 
 /// What ends the thread.
 #[derive(Drop)]
-pub struct ScrapeDoor {
+pub(crate) struct ScrapeDoor {
     stopped: AtomicBool,
     waker: Waker,
 }
@@ -51,7 +51,7 @@ impl ScrapeDoor {
 }
 
 /// The state of the thread.
-pub struct Scraper {
+pub(crate) struct Scraper {
     listener: TcpListener,
     poll: Poll,
     events: Events,
@@ -81,13 +81,13 @@ impl Drop for Scraper {
 }
 
 /// The state of the thread, and what ends it.
-pub struct Scraping {
+pub(crate) struct Scraping {
     pub scraper: Scraper,
     pub door: Arc<ScrapeDoor, Global>,
 }
 
 /// Prepares to answer from this tally. The leader of a healthy server may be silent for `limit` milliseconds.
-pub fn open_scraping(
+pub(crate) fn open_scraping(
     net: &impl Net,
     alloc: Global,
     listener: TcpListener,
@@ -185,7 +185,7 @@ impl Scraper {
 }
 
 /// Answers connections, one at a time, until it is told to stop.
-pub fn answer_scrapers<T: Clock + Files + RandomSource + Wait>(rt: &T, scraper: Scraper) {
+pub(crate) fn answer_scrapers<T: Clock + Files + RandomSource + Wait>(rt: &T, scraper: Scraper) {
     let mut scraper = scraper;
     for _ in rt.forever() {
         if scraper.door.is_stopped() {

@@ -13,5 +13,5 @@ health_of false silence limit = NotServing
 health_of true silence limit = if is_silent silence limit then Silent (silence / 1000) else Healthy
 
 -- Its engine made a turn in the last ten seconds. The time since then is in microseconds.
-abbrev pub is_live : ℕ → Bool
-is_live since_turn = not (nat_lt 10000000 since_turn)
+abbrev pub makes_turns : ℕ → Bool
+makes_turns since_turn = not (nat_lt 10000000 since_turn)

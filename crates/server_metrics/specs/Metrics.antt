@@ -57,21 +57,21 @@ abbrev pub bucket_line : List ℕ → Bucket → List ℕ
 bucket_line name b =
     name ++ codes "_bucket{le=\"" ++ seconds_text b.bound ++ codes "\"} " ++ decimal b.count ++ codes "\n"
 
-abbrev pub count_line : List ℕ → List ℕ → ℕ → List ℕ
-count_line name suffix count = name ++ suffix ++ codes " " ++ decimal count ++ codes "\n"
+abbrev pub times_count_line : List ℕ → List ℕ → ℕ → List ℕ
+times_count_line name suffix count = name ++ suffix ++ codes " " ++ decimal count ++ codes "\n"
 
-abbrev pub sum_line : List ℕ → ℕ → List ℕ
-sum_line name total = name ++ codes "_sum " ++ seconds_text total ++ codes "\n"
+abbrev pub times_sum_line : List ℕ → ℕ → List ℕ
+times_sum_line name total = name ++ codes "_sum " ++ seconds_text total ++ codes "\n"
 
 -- How many times there were in all, and how long they took together.
 abbrev pub sums_text : List ℕ → Times → List ℕ
 sums_text name t =
-    count_line name (codes "_bucket{le=\"+Inf\"}") t.count
-    ++ sum_line name t.total
-    ++ count_line name (codes "_count") t.count
+    times_count_line name (codes "_bucket{le=\"+Inf\"}") t.count
+    ++ times_sum_line name t.total
+    ++ times_count_line name (codes "_count") t.count
 
-abbrev pub histogram : Metric → Times → List ℕ
-histogram m t =
+abbrev pub histogram_text : Metric → Times → List ℕ
+histogram_text m t =
     head_text m ++ flat_map (bucket_line (metric_name m)) t.buckets ++ sums_text (metric_name m) t
 
 abbrev pub server_text : ServerFigures → List ℕ
@@ -85,4 +85,4 @@ figures_text r =
 
 -- All metrics, in their order.
 abbrev pub metrics_text : MetricsReport → List ℕ
-metrics_text r = figures_text r ++ histogram metric.AnswerTimes r.answers ++ histogram metric.TurnTimes r.turns
+metrics_text r = figures_text r ++ histogram_text metric.AnswerTimes r.answers ++ histogram_text metric.TurnTimes r.turns

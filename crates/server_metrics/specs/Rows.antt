@@ -5,8 +5,8 @@ use Rattle.server_metrics.specs.declared.health.Health.TheVariants.{Healthy, Not
 use Rattle.server_metrics.specs.declared.metric.Metric.TheVariants.{TurnTimes, AvgLatency}
 use Rattle.server_metrics.specs.declared.figure.Value.TheVariants.{Average}
 use Rattle.server_metrics.specs.Figures.{figure_text}
-use Rattle.server_metrics.specs.Metrics.{histogram}
-use Rattle.server_metrics.specs.Health.{health_of, is_live}
+use Rattle.server_metrics.specs.Metrics.{histogram_text}
+use Rattle.server_metrics.specs.Health.{health_of, makes_turns}
 
 -- Three times, of 200, 800 and 1,000,000 microseconds.
 abbrev pub worked_times : Times
@@ -18,7 +18,7 @@ worked_times = record {
 
 pub record WorkedRows : Type 0 where
   pub times :
-      histogram TurnTimes worked_times
+      histogram_text TurnTimes worked_times
       ≡ codes "# HELP observer_turn_seconds The time of a turn of the engine.\n"
       ++ codes "# TYPE observer_turn_seconds histogram\n"
       ++ codes "observer_turn_seconds_bucket{le=\"0.000500\"} 1\nobserver_turn_seconds_bucket{le=\"0.001000\"} 2\n"
@@ -32,5 +32,5 @@ pub record WorkedRows : Type 0 where
   pub silent : health_of true 10001000 10000 ≡ Silent 10001
   pub unbounded : health_of true 10001000 0 ≡ Healthy
   pub not_serving : health_of false 0 10000 ≡ NotServing
-  pub live : is_live 10000000 ≡ true
-  pub dead : is_live 10000001 ≡ false
+  pub live : makes_turns 10000000 ≡ true
+  pub dead : makes_turns 10000001 ≡ false

@@ -1,7 +1,7 @@
 //! Whether a server is healthy.
 
 ghost use Rattle.std.specs.Prelude.{◌≡◌};
-ghost use Rattle.server_metrics.specs.Health.{health_of, is_live};
+ghost use Rattle.server_metrics.specs.Health.{health_of, makes_turns};
 
 use server_words::ServerFigures;
 
@@ -36,7 +36,7 @@ pub fn health_of(figures: &ServerFigures, silence: u64, limit: u64) -> Health
 
 /// Whether a server lives whose engine made its last turn so many microseconds ago.
 pub fn is_live(since_turn: u64) -> bool
-    ensures { result ≡ is_live since_turn }
+    ensures { result ≡ makes_turns since_turn }
 {
     since_turn <= LONGEST_TURN
 }

@@ -4,7 +4,7 @@ ghost use Rattle.std.specs.Prelude.{◌≡◌, ◌++◌, OnOk, OnErr};
 ghost use Rattle.std.specs.List.{flat_map};
 ghost use Rattle.server_metrics.specs.Figures.{figure_text};
 ghost use Rattle.server_metrics.specs.declared.figure.Value.TheVariants.{Whole};
-ghost use Rattle.server_metrics.specs.Metrics.{server_figures, traffic_figures, leader_figures, memory_figure, bucket_line, count_line, sum_line, sums_text, histogram, server_text, figures_text, metrics_text};
+ghost use Rattle.server_metrics.specs.Metrics.{server_figures, traffic_figures, leader_figures, memory_figure, bucket_line, times_count_line, times_sum_line, sums_text, histogram_text, server_text, figures_text, metrics_text};
 
 use crate::figure::{Figure, Value, put_figures, put_head};
 use crate::metric::Metric;
@@ -108,7 +108,7 @@ fn put_buckets(out: &mut Vec<u8>, name: &str, buckets: &[Bucket]) -> Result<(), 
 }
 
 fn put_count(out: &mut Vec<u8>, name: &str, suffix: &str, count: u64) -> Result<(), NoMemory>
-    ensures { OnOk result (out.new.items ≡ out.old.items ++ count_line name.now suffix.now count) }
+    ensures { OnOk result (out.new.items ≡ out.old.items ++ times_count_line name.now suffix.now count) }
 {
     match writeln!(out, "{name}{suffix} {count}") {
         Ok(()) => Ok(()),
@@ -117,7 +117,7 @@ fn put_count(out: &mut Vec<u8>, name: &str, suffix: &str, count: u64) -> Result<
 }
 
 fn put_sum(out: &mut Vec<u8>, name: &str, total: u64) -> Result<(), NoMemory>
-    ensures { OnOk result (out.new.items ≡ out.old.items ++ sum_line name.now total) }
+    ensures { OnOk result (out.new.items ≡ out.old.items ++ times_sum_line name.now total) }
 {
     let total = Seconds {
         microseconds: total,
@@ -137,7 +137,7 @@ fn put_sums(out: &mut Vec<u8>, name: &str, times: &Times) -> Result<(), NoMemory
 }
 
 fn put_histogram(out: &mut Vec<u8>, metric: Metric, times: &Times) -> Result<(), NoMemory>
-    ensures { OnOk result (out.new.items ≡ out.old.items ++ histogram metric times.now) }
+    ensures { OnOk result (out.new.items ≡ out.old.items ++ histogram_text metric times.now) }
 {
     put_head(out, metric)?;
     let name = metric.name();
