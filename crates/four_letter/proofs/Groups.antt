@@ -19,7 +19,7 @@ use Rattle.std.proofs.lemmas.Map.Views.{tells_apart}
 use Rattle.watch_manager.specs.Ascending.{sorted_distinct}
 use Rattle.values.proofs.Keyed.{entries-empty, entries-in_order}
 use Rattle.watch_manager.proofs.Ascending.{ascending-nil, ascending-cons, insert-ascending}
-use Rattle.four_letter.specs.Inner.Gathered.{Groups, AddsValue, values_at, sorted_if_any, Gathers}
+use Rattle.four_letter.specs.Inner.Gathered.{Groups, AddsValue, values_at, sorted_if_any, GathersValues}
 
 -- ---- the entries of a map, whose keys and values are seen in another way
 
@@ -171,8 +171,8 @@ module _ {X K V : Type 0} {R : K → K → Ordering} {S : V → V → Ordering} 
       by [] = refl
       by (x ∷ xs) = refl
 
-  pub gathers_row : (rows : List X) (r : X) (old new : Groups K V) → Gathers R S key value rows old
-      → AddsValue R S (key r) (value r) old new → Gathers R S key value (rows ++ r ∷ []) new
+  pub gathers_row : (rows : List X) (r : X) (old new : Groups K V) → GathersValues R S key value rows old
+      → AddsValue R S (key r) (value r) old new → GathersValues R S key value (rows ++ r ∷ []) new
   gathers_row rows r old new h adds q =
       adds q
       ∙ ap (λ o. cond (eq_by_cmp R q (key r)) (Some (insert_key S (unwrap_or o []) (value r))) (find R q old))
@@ -261,7 +261,7 @@ module _ {X K V : Type 0} {R : K → K → Ordering} (S : V → V → Ordering) 
       shown (v ∷ vs) = refl
 
   -- The result for all rows.
-  pub all_gathered : (rows : List X) (all : Groups K V) → Gathers R S key value rows all
+  pub all_gathered : (rows : List X) (all : Groups K V) → GathersValues R S key value rows all
       → IsStrictlySortedBy R (keys_of all)
       → all ≡ map (λ (k : K). (k, sorted_at rows k)) (sorted_distinct R (map key rows))
   all_gathered rows all h sorted =

@@ -9,6 +9,7 @@ use serve_failures::{Failure, Step};
 use serve_journal::print_check;
 use serve_options::{Address, Command, Options, Servers, VERSION_LINES, command_of, help};
 use std::alloc::Global;
+use std::fs::File;
 use std::net::{Net, SocketAddr, TcpStream, ToSocketAddrs};
 use std::random::RandomSource;
 use std::rt::{Env, Files};
@@ -51,7 +52,7 @@ fn run<
         + Wait
         + Net<Stream = TcpStream, Listener = net::TcpListener>
         + Clock
-        + Files
+        + Files<File = File>
         + RandomSource
         + Env
         + Print
@@ -89,7 +90,7 @@ fn run_configured<
         + Wait
         + Net<Stream = TcpStream, Listener = net::TcpListener>
         + Clock
-        + Files
+        + Files<File = File>
         + RandomSource
         + Env
         + Print
@@ -122,7 +123,7 @@ fn obey<
         + Wait
         + Net<Stream = TcpStream, Listener = net::TcpListener>
         + Clock
-        + Files
+        + Files<File = File>
         + RandomSource
         + Env
         + Print
@@ -156,7 +157,7 @@ pub fn serve<
         + Wait
         + Net<Stream = TcpStream, Listener = net::TcpListener>
         + Clock
-        + Files
+        + Files<File = File>
         + RandomSource
         + Env
         + Print

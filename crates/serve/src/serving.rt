@@ -20,11 +20,12 @@ use serve_bounds::{Accepting, Acceptor, Stopwatch, accept_all, open_door};
 use serve_config::{FileLines, create_record, read_secret};
 use serve_failures::{Failure, servers_of};
 use serve_journal::Journal;
-use serve_metrics::start_scraping;
+use serve_metrics::{STATUS, start_scraping};
 use serve_options::{Address, Options, Servers};
 use serve_record::Record;
 use settings::{Epochs, FirstCounter, Secret, TimeoutBounds};
 use std::alloc::Global;
+use std::fs::File;
 use std::io::Write;
 use std::net::{Net, TcpStream};
 use std::random::RandomSource;
@@ -32,7 +33,7 @@ use std::rt::{Env, Files};
 use std::sync::{Arc, Wait};
 use std::thread::{JoinHandle, Threads};
 use std::time::{Clock, Duration, SystemTime};
-use std::{io, net, slice, thread};
+use std::{fs, io, net, slice, thread};
 use values::{NoMemory, Text};
 
 // Work that is less than this is done by the hub's thread: starting threads takes as long as storing some megabytes.
@@ -283,7 +284,7 @@ pub(crate) fn try_serve_on<
         + Wait
         + Net<Stream = TcpStream, Listener = net::TcpListener>
         + Clock
-        + Files
+        + Files<File = File>
         + RandomSource
         + Env
         + Eprint
@@ -319,7 +320,9 @@ pub(crate) fn try_serve_on<
     journal.started(options, port);
     journal.started_by(lines);
     let silence = options.tick.saturating_mul(options.sync_limit);
-    let served = match start_scraping(rt, alloc, scraped, &prepared.parts.tally, silence) {
+    let status = fs::open(rt, STATUS).ok();
+    let tally = &prepared.parts.tally;
+    let served = match start_scraping(rt, alloc, scraped, tally, status, silence) {
         Ok(scraping) => {
             let served = serve_with(rt, alloc, config, prepared, journal, record);
             scraping.end(rt);
@@ -332,7 +335,7 @@ pub(crate) fn try_serve_on<
 }
 
 // What a server is started with that has no configuration file.
-fn opened<'a, R: Net + Files + Env>(
+fn opened<'a, R: Net + Files<File = File> + Env>(
     rt: &R,
     alloc: Global,
     options: &'a Options<'a>,
@@ -354,7 +357,7 @@ pub fn serve_on<
         + Wait
         + Net<Stream = TcpStream, Listener = net::TcpListener>
         + Clock
-        + Files
+        + Files<File = File>
         + RandomSource
         + Env
         + Eprint

@@ -5,7 +5,7 @@
 //! is that of the crate `http_server`, whose answers are proved to be whole.
 //!
 //! ```text
-//! let scraping = start_scraping(rt, alloc, Some(listener), &tally, limit)?;
+//! let scraping = start_scraping(rt, alloc, Some(listener), &tally, status, limit)?;
 //! ..
 //! scraping.end(rt);
 //! ```
@@ -15,7 +15,9 @@ mod memory;
 mod page;
 mod scraping;
 mod service;
+mod thread;
 mod timed;
 
+pub use memory::STATUS;
 pub use page::{Page, page_at};
 pub use thread::{ScrapeThread, start_scraping};

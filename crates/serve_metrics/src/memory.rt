@@ -1,11 +1,12 @@
 //! The memory of this process.
 
 use std::alloc::Global;
-use std::rt::Files;
-use std::{fs, io};
+use std::fs::File;
+use std::io;
+use std::io::{Seek, SeekFrom};
 
-// Where Linux tells of the process.
-const STATUS: &str = "/proc/self/status";
+/// The file in which Linux tells of the process that reads it.
+pub const STATUS: &str = "/proc/self/status";
 
 // How the line with the resident memory begins.
 const RESIDENT: &str = "VmRSS:";
@@ -18,9 +19,9 @@ fn bytes_in(line: &str) -> Option<u64> {
     kilobytes.checked_mul(1024)
 }
 
-/// The resident memory of this process in bytes, if the system tells.
-pub(crate) fn resident_memory<R: Files>(rt: &R, alloc: Global) -> Option<u64> {
-    let file = fs::open(rt, STATUS).ok()?;
-    let text = io::read_to_string(alloc, file).ok()?;
+/// The resident memory of this process in bytes, as `STATUS` tells it now.
+pub(crate) fn resident_memory(alloc: Global, status: &mut File) -> Option<u64> {
+    status.seek(SeekFrom::Start(0)).ok()?;
+    let text = io::read_to_string(alloc, status).ok()?;
     text.as_str().lines().find_map(|line| bytes_in(line))
 }

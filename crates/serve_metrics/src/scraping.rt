@@ -1,5 +1,6 @@
 //! The thread.
 
+use crate::memory::resident_memory;
 use crate::service::Pages;
 use crate::timed::Timed;
 use http_server::{Config, Connection, serve};
@@ -7,11 +8,11 @@ use mio::net::TcpListener;
 use mio::{Events, Interest, Poll, Token, Waker};
 use server_tally::Tally;
 use std::alloc::Global;
+use std::fs::File;
 use std::hash::RandomState;
 use std::io::ErrorKind;
 use std::net::{Net, TcpStream};
 use std::random::RandomSource;
-use std::rt::Files;
 use std::sync::atomic::{AtomicBool, Ordering};
 use std::sync::{Arc, Wait};
 use std::time::{Clock, Duration, Instant};
@@ -57,7 +58,10 @@ pub(crate) struct Scraper {
     events: Events,
     door: Arc<ScrapeDoor, Global>,
     tally: Arc<Tally, Global>,
+    status: Option<File>,
     alloc: Global,
+    // By which the headers of requests are found.
+    keys: RandomState,
     limit: u64,
 }
 
@@ -69,7 +73,9 @@ impl Drop for Scraper {
             events,
             door,
             tally,
+            status,
             alloc: _,
+            keys: _,
             limit: _,
         } = self;
         drop(poll);
@@ -77,6 +83,7 @@ impl Drop for Scraper {
         drop(events);
         drop(door);
         drop(tally);
+        drop(status);
     }
 }
 
@@ -86,16 +93,17 @@ pub(crate) struct Scraping {
     pub door: Arc<ScrapeDoor, Global>,
 }
 
-/// Prepares to answer from this tally. The leader of a healthy server may be silent for `limit` milliseconds.
-pub(crate) fn open_scraping(
-    net: &impl Net,
+/// Prepares to answer from this tally. `status` is where the system tells of the process. The leader of a healthy server may be silent for `limit` milliseconds.
+pub(crate) fn open_scraping<R: Net + RandomSource>(
+    rt: &R,
     alloc: Global,
     listener: TcpListener,
     tally: Arc<Tally, Global>,
+    status: Option<File>,
     limit: u64,
 ) -> io::Result<Scraping> {
     let mut listener = listener;
-    let poll = Poll::new(net)?;
+    let poll = Poll::new(rt)?;
     poll.registry()
         .register(&mut listener, Token(LISTENER), Interest::READABLE)?;
     let waker = Waker::new(poll.registry(), Token(STOP))?;
@@ -113,7 +121,9 @@ pub(crate) fn open_scraping(
         events,
         door: Arc::try_clone(&door)?,
         tally,
+        status,
         alloc,
+        keys: RandomState::new(rt)?,
         limit,
     };
     Ok(Scraping { scraper, door })
@@ -130,12 +140,12 @@ fn config() -> Config {
 
 impl Scraper {
     // Answers the request of a connection.
-    fn answer<T: Clock + Files + RandomSource + Wait>(
-        &self,
-        rt: &T,
-        stream: &TcpStream,
-    ) -> io::Result<()> {
+    fn answer<T: Clock + Wait>(&mut self, rt: &T, stream: &TcpStream) -> io::Result<()> {
         stream.set_nonblocking(false)?;
+        let memory = match &mut self.status {
+            None => None,
+            Some(status) => resident_memory(self.alloc, status),
+        };
         let began = Instant::now(rt).ok();
         let door = &*self.door;
         let mut reader = Timed {
@@ -154,15 +164,15 @@ impl Scraper {
             rt,
             alloc: self.alloc,
             tally: &*self.tally,
+            memory,
             limit: self.limit,
         };
-        let keys = RandomState::new(rt)?;
-        let mut connection = Connection::new(self.alloc, keys, config());
+        let mut connection = Connection::new(self.alloc, self.keys, config());
         serve(&mut connection, &mut pages, &mut reader, &mut writer)
     }
 
     // Answers the next connection, or waits for one.
-    fn answer_next<T: Clock + Files + RandomSource + Wait>(&mut self, rt: &T) {
+    fn answer_next<T: Clock + Wait>(&mut self, rt: &T) {
         match self.listener.accept() {
             Ok((stream, _)) => {
                 let stream = TcpStream::from(stream);
@@ -185,7 +195,7 @@ impl Scraper {
 }
 
 /// Answers connections, one at a time, until it is told to stop.
-pub(crate) fn answer_scrapers<T: Clock + Files + RandomSource + Wait>(rt: &T, scraper: Scraper) {
+pub(crate) fn answer_scrapers<T: Clock + Wait>(rt: &T, scraper: Scraper) {
     let mut scraper = scraper;
     for _ in rt.forever() {
         if scraper.door.is_stopped() {

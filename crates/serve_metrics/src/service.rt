@@ -1,6 +1,5 @@
 //! What is answered to a request.
 
-use crate::memory::resident_memory;
 use crate::page::{Page, page_at};
 use bytes::{BufMut, Bytes};
 use http::{HeaderValue, Method, Request, StatusCode, header};
@@ -8,7 +7,6 @@ use http_server::{Response, Service};
 use server_metrics::Health;
 use server_tally::Tally;
 use std::alloc::{AllocError, Global};
-use std::rt::Files;
 use std::time::Clock;
 
 /// Answers requests from a server's tally.
@@ -17,6 +15,8 @@ pub(crate) struct Pages<'a, T> {
     pub rt: &'a T,
     pub alloc: Global,
     pub tally: &'a Tally,
+    /// The memory of the process in bytes, if the system tells.
+    pub memory: Option<u64>,
     /// For how many milliseconds the leader of a healthy server may be silent.
     pub limit: u64,
 }
@@ -34,10 +34,9 @@ fn refuse(response: &mut Response, status: StatusCode, text: &str) -> Result<(),
     put(response, text.as_bytes())
 }
 
-impl<'a, T: Clock + Files> Pages<'a, T> {
+impl<'a, T: Clock> Pages<'a, T> {
     fn put_metrics(&self, response: &mut Response) -> Result<(), AllocError> {
-        let memory = resident_memory(self.rt, self.alloc);
-        match self.tally.metrics(self.rt, self.alloc, memory) {
+        match self.tally.metrics(self.rt, self.alloc, self.memory) {
             Ok(text) => put(response, text.as_slice()),
             Err(_) => Err(AllocError),
         }
@@ -81,7 +80,7 @@ impl<'a, T: Clock + Files> Pages<'a, T> {
     }
 }
 
-impl<'a, T: Clock + Files> Service for Pages<'a, T> {
+impl<'a, T: Clock> Service for Pages<'a, T> {
     // Nothing is stated of an answer here.
     ghost answers = { λ old request response new. Unit {0} };
 

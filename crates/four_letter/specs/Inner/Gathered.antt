@@ -32,9 +32,9 @@ sorted_if_any S [] = None
 sorted_if_any S (v ∷ vs) = Some (sorted_distinct S (v ∷ vs))
 
 -- Each key has its values.
-abbrev pub Gathers : {X K V : Type 0} → (K → K → Ordering) → (V → V → Ordering) → (X → K) → (X → V) → List X
+abbrev pub GathersValues : {X K V : Type 0} → (K → K → Ordering) → (V → V → Ordering) → (X → K) → (X → V) → List X
     → Groups K V → Type 0
-Gathers {X} {K} R S key value rows all = (q : K) → find R q all ≡ sorted_if_any S (values_at R key value q rows)
+GathersValues {X} {K} R S key value rows all = (q : K) → find R q all ≡ sorted_if_any S (values_at R key value q rows)
 
 -- ---- paths with their sessions
 
@@ -47,7 +47,7 @@ AddsSession row old new = AddsValue path_cmp int_cmp row.path row.session old ne
 
 abbrev pub GathersSessions : List WatchRow → Groups Bytes ℤ → Type 0
 GathersSessions rows all =
-    Gathers path_cmp int_cmp (λ (r : WatchRow). r.path) (λ (r : WatchRow). r.session) rows all
+    GathersValues path_cmp int_cmp (λ (r : WatchRow). r.path) (λ (r : WatchRow). r.session) rows all
 
 abbrev pub path_blocks : Groups Bytes ℤ → List ℕ
 path_blocks all = flat_map (λ (e : Bytes × List ℤ). e.0 ++ codes "\n" ++ flat_map session_line e.1) all
@@ -66,7 +66,7 @@ AddsPath row old new = AddsValue int_cmp path_cmp row.session row.path old new
 
 abbrev pub GathersPaths : List WatchRow → Groups ℤ Bytes → Type 0
 GathersPaths rows all =
-    Gathers int_cmp path_cmp (λ (r : WatchRow). r.session) (λ (r : WatchRow). r.path) rows all
+    GathersValues int_cmp path_cmp (λ (r : WatchRow). r.session) (λ (r : WatchRow). r.path) rows all
 
 abbrev pub watched_lines : List (Bor (List ℕ)) → List ℕ
 watched_lines keys = flat_map path_line (texts_of keys)
