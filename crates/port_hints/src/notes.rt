@@ -1,6 +1,6 @@
 //! What a turn notes about the ports.
 
-ghost use Rattle.std.specs.Prelude.{◌≡◌, []};
+ghost use Rattle.std.specs.Prelude.{◌≡◌, ◌+◌, ◌%◌, ◌^◌, []};
 
 use std::alloc::Global;
 use values::NoMemory;
@@ -49,6 +49,7 @@ impl Notes {
     /// Begins another turn.
     pub fn begin(&mut self)
         ensures told { (self.new.told.items ≡ []) × (self.new.ended.items ≡ []) × (self.new.closing.items ≡ []) }
+        ensures turn { self.new.turn ≡ (self.old.turn + 1) % 2 ^ 64 }
         ensures answered { self.new.answered ≡ self.old.answered }
     {
         self.turn = self.turn.wrapping_add(1);
