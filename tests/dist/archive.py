@@ -14,7 +14,7 @@ from packed import ARCHIVE, FOLDER, PACKAGE, TOP, VERSION, Skipped, dist, needs_
 LIBRARIES = {"libc.so.6", "libm.so.6"}
 OTHERS = {
     "INSTALL", "LICENSE", "PROVED", "SHA256SUMS", "doc/COMPATIBILITY.md", "doc/OPERATING.md", "doc/SCRIPT.md",
-    "lib/copyright", "observer.8", "observer.bash", "observer.default", "observer.service",
+    "doc/alerts.yml", "doc/grafana.json", "doc/prometheus.yml", "lib/copyright", "observer.8", "observer.bash", "observer.default", "observer.service",
 }
 
 

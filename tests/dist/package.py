@@ -11,6 +11,7 @@ INSTALLED = {
     "./etc/default/observer", "./usr/bin/observer", "./usr/lib/systemd/system/observer.service",
     "./usr/share/bash-completion/completions/observer", "./usr/share/man/man8/observer.8.gz",
     *(DOCUMENTS + it for it in ("COMPATIBILITY.md", "OPERATING.md", "SCRIPT.md")),
+    *(DOCUMENTS + it for it in ("alerts.yml", "grafana.json", "prometheus.yml")),
     *(DOCUMENTS + it for it in ("PROVED", "changelog.gz", "copyright")),
 }
 UNIT = os.path.join(TOP, "packaging", "observer.service")
