@@ -3,7 +3,7 @@
 
     bench/serve.py PROGRAM                  as bench/serve.py crates/replay_runner/out/replay_runner
     bench/serve.py PROGRAM --engine LOAD_RUNNER     the backlog beside crates/load_runner/out/load_runner too
-    bench/serve.py PROGRAM --only backlog   one of sync, pipelined, idle, backlog
+    bench/serve.py PROGRAM --only backlog   one of sync, pipelined, words, idle, backlog
     bench/serve.py PROGRAM --before OTHER   beside an earlier program, in turns, and nothing else
     bench/serve.py PROGRAM --install        gets Debian's C compiler first, where there is none (as root)
 
@@ -12,6 +12,7 @@ does nothing else. Clients are bench/load.c; both are compiled by `cc` into a fo
 
 - one client that waits for each answer, alone and beside 5,000 connections that say nothing, against one at the echo;
 - 8 clients with 100 getDatas of 100 bytes under way each, in a tree of 100,103 nodes;
+- the same with 10,000 watches set, alone and while mntr is asked 100 times a second;
 - what 5,000 idle connections take of memory and of a processor;
 - a backlog of 1,100,100 INFORMs over the leader's socket, against the engine alone, which makes their bytes too.
 
@@ -40,6 +41,7 @@ from run import machine, timed  # noqa: E402
 HERE = pathlib.Path(__file__).resolve().parent
 PARENTS, CHILDREN, SETS, CONTENT, LONG_CONTENT = 100, 1000, 1_000_000, 16, 100
 CLIENTS, DEPTH = 8, 100
+WATCHES, ASKED, GET_DATA = 10_000, 100, 4
 # A reply's header, a length, the data and a Stat.
 ANSWER = 16 + 4 + LONG_CONTENT + 68
 EPOCH = generate.EPOCH << 32
@@ -260,6 +262,85 @@ def pipelined(server, tools, options, figures):
     figures.judge("getDatas a second", "{:,.0f}", least=400_000)
 
 
+class Watcher:
+    """A client that watches many nodes."""
+
+    def __init__(self, port, count):
+        self.stream = socket.create_connection(("127.0.0.1", port))
+        self.answers = self.stream.makefile("rb")
+        connect = struct.pack(">iqiq", 0, 0, 30_000, 0) + generate.text(bytes(16))
+        self.stream.sendall(generate.text(connect))
+        self.answer()
+        paths = [b"/p%02d/n%03d" % divmod(it, 100) for it in range(count)]
+        requests = (struct.pack(">ii", xid, GET_DATA) + generate.text(path) + b"\1" for xid, path in enumerate(paths, 1))
+        self.stream.sendall(b"".join(generate.text(it) for it in requests))
+        for _ in paths:
+            error = struct.unpack(">i", self.answer()[12:16])[0]
+            if error:
+                sys.exit(f"a watch wasn't set: {error}")
+
+    def __enter__(self):
+        return self
+
+    def __exit__(self, *_):
+        self.answers.close()
+        self.stream.close()
+
+    def answer(self):
+        return self.answers.read(struct.unpack(">i", self.answers.read(4))[0])
+
+
+class Asking:
+    """Asks a word so many times a second, until it is left."""
+
+    def __init__(self, port, word, times):
+        self.port, self.word, self.pause, self.asked = port, word, 1 / times, 0
+        self.ended = threading.Event()
+        self.thread = threading.Thread(target=self.ask)
+
+    def __enter__(self):
+        self.thread.start()
+        return self
+
+    def __exit__(self, *_):
+        self.ended.set()
+        self.thread.join()
+
+    def ask(self):
+        due = time.perf_counter()
+        while not self.ended.is_set():
+            with socket.create_connection(("127.0.0.1", self.port)) as stream:
+                stream.sendall(self.word)
+                with stream.makefile("rb") as answer:
+                    if b"zk_watch_count\t%d\n" % WATCHES not in answer.read():
+                        sys.exit("mntr doesn't count the watches")
+            self.asked += 1
+            due += self.pause
+            time.sleep(max(0, due - time.perf_counter()))
+
+
+def words(server, tools, options, figures):
+    """Reads with many watches set, alone and while a word is asked; ratios are of one round, whose order alternates."""
+    with Watcher(server.port, WATCHES):
+        for turn in range(options.rounds):
+            found = {}
+            for is_asked in (False, True) if turn % 2 == 0 else (True, False):
+                if not is_asked:
+                    found[is_asked] = tools.read(server.port, CLIENTS, DEPTH, options)[0]
+                    continue
+                with Asking(server.port, b"mntr", ASKED) as asking:
+                    found[is_asked] = tools.read(server.port, CLIENTS, DEPTH, options)[0]
+                figures.add("mntr a second", asking.asked / (options.seconds + 0.3))
+            figures.add("getDatas a second, alone", found[False])
+            figures.add("getDatas a second, beside mntr", found[True])
+            figures.add("beside mntr against alone", found[True] / found[False])
+    print(f"{CLIENTS} clients with {DEPTH} getDatas under way each, {WATCHES:,} watches, mntr {ASKED} times a second")
+    figures.tell("getDatas a second, alone", "{:,.0f}")
+    figures.tell("getDatas a second, beside mntr", "{:,.0f}")
+    figures.tell("mntr a second", "{:,.0f}")
+    figures.judge("beside mntr against alone", "{:.3f}", least=0.98)
+
+
 def idle(server, tools, options, figures):
     """What idle connections take; the first ones are opened before, so that what is taken once isn't counted."""
     for _ in range(options.rounds):
@@ -332,7 +413,7 @@ def read_options():
     parser.add_argument("--install", action="store_true", help="get a C compiler first, where there is none")
     parser.add_argument("--rounds", type=int, default=3, help="how often each is measured (3)")
     parser.add_argument("--seconds", type=float, default=3, help="how long a load lasts (3)")
-    parser.add_argument("--only", choices=("sync", "pipelined", "idle", "backlog"), help="one of the measurements")
+    parser.add_argument("--only", choices=("sync", "pipelined", "words", "idle", "backlog"), help="one of the measurements")
     for name, number, what in (
         ("idle", 5000, "how many connections say nothing"),
         ("children", CHILDREN, "nodes below each of the 100 nodes below the root, at most 1000"),
@@ -366,7 +447,7 @@ def main():
             in_turns(options, tools, figures)
             machine("after")
             return 0 if all(figures.passes) else 1
-        measured = {"sync": sync, "pipelined": pipelined, "idle": idle}
+        measured = {"sync": sync, "pipelined": pipelined, "words": words, "idle": idle}
         wanted = [it for it in measured if options.only in (None, it)]
         if wanted:
             with Server(options.program) as server:
