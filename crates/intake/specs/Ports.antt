@@ -16,6 +16,10 @@ received_through port = received port.outbox
 abbrev pub IsFull : PortEnd → Type 0
 IsFull port = known_free port.inbox ≡ 0
 
+-- All messages sent were seen to be taken.
+abbrev pub IsDrained : PortEnd → Type 0
+IsDrained port = known_free port.inbox ≡ producer_capacity port.inbox
+
 -- There is room for this many messages and as many outputs.
 pub record HasRoom (capacity : ℕ) (port : PortEnd) : Type 0 where
   pub messages : known_free port.inbox ≡ capacity

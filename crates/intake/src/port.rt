@@ -1,8 +1,8 @@
 //! The end of a port that is with the thread of its connection.
 
-ghost use Rattle.std.specs.Prelude.{◌≡◌, ◌++◌, [], ◌∷◌, OnOk, IfErr, IfSome, IfNone};
+ghost use Rattle.std.specs.Prelude.{◌≡◌, ◌≢◌, ◌↔◌, ◌++◌, [], ◌∷◌, OnOk, IfErr, IfSome, IfNone, IsSome, IsTrue};
 ghost use Rattle.rtrb.specs.Ring.{producer_capacity};
-ghost use Rattle.intake.specs.Ports.{sent_through, received_through, IsFull, SamePort};
+ghost use Rattle.intake.specs.Ports.{sent_through, received_through, unread_through, IsFull, IsDrained, SamePort};
 
 use crate::events::content_len;
 use crate::message::{Full, Message};
@@ -102,6 +102,8 @@ impl Port {
     pub fn receive(&mut self) -> Option<Output>
         ensures some { IfSome result (λ o. received_through self.new ≡ received_through self.old ++ o ∷ []) }
         ensures none { IfNone result (received_through self.new ≡ received_through self.old) }
+        ensures empty { IfNone result (unread_through self.new ≡ []) }
+        ensures seen { unread_through self.old ≢ [] → IsSome result }
         ensures sent { sent_through self.new ≡ sent_through self.old }
         ensures port { SamePort self.old self.new }
     {
@@ -135,6 +137,7 @@ impl Port {
 
     /// Whether the hub has taken all messages sent.
     pub fn is_drained(&mut self) -> bool
+        ensures drained { IsTrue result ↔ IsDrained self.new }
         ensures sent { sent_through self.new ≡ sent_through self.old }
         ensures received { received_through self.new ≡ received_through self.old }
         ensures port { SamePort self.old self.new }

@@ -38,6 +38,11 @@ pub fn asks(xid: u8) -> [u8; 18] {
     [0, 0, 0, 14, 0, 0, 0, xid, 0, 0, 0, 3, 0, 0, 0, 1, 47, 0]
 }
 
+/// The sync of the root with this xid.
+pub fn syncs(xid: u8) -> [u8; 17] {
+    [0, 0, 0, 13, 0, 0, 0, xid, 0, 0, 0, 9, 0, 0, 0, 1, 47]
+}
+
 /// The frames of the xids 1 and 2.
 pub fn asks_twice(alloc: Global) -> Result<Blob, &'static str> {
     let mut frames = Vec::new(alloc);

@@ -2,7 +2,8 @@
 //!
 //! A test makes the desk and has a function of its own do the rest, so that the desk is dropped at one place.
 use crate::helpers::{
-    asks, asks_twice, hub_port, hub_turn, port, primed, primed_hub, receives, sends, taken, turn,
+    asks, asks_twice, hub_port, hub_turn, port, primed, primed_hub, receives, sends, syncs, taken,
+    turn,
 };
 use intake::{Desk, Hub, Message};
 use std::alloc::Global;
@@ -28,6 +29,25 @@ fn serve<R: Abort + Threads + Sync>(rt: &R, alloc: Global, desk: &mut Desk) -> R
 fn a_port_is_served_and_finishes(rt: HostRuntime) -> Result<(), Fail> {
     let mut desk = primed(rt.alloc())?;
     serve(&rt, rt.alloc(), &mut desk)
+}
+
+// Each sync of the client is an output for the leader, of which no message is taken.
+fn forward<R: Abort + Threads + Sync>(rt: &R, alloc: Global, desk: &mut Desk) -> Result<(), Fail> {
+    let mut leader = port(desk, 4)?;
+    let mut client = port(desk, 4)?;
+    for xid in 1..4 {
+        assert!(rt; sends(alloc, &mut client, &syncs(xid)));
+        assert_eq!(rt; turn(rt, desk), Some(1));
+        assert_eq!(rt; desk.told(), [1, 0].as_slice());
+        assert!(rt; leader.receive().is_some());
+    }
+    Ok(())
+}
+
+#[test]
+fn a_thread_is_told_in_the_turn_of_each_output(rt: HostRuntime) -> Result<(), Fail> {
+    let mut desk = primed(rt.alloc())?;
+    forward(&rt, rt.alloc(), &mut desk)
 }
 
 fn serve_through_a_small_outbox<R: Abort + Threads + Sync>(
