@@ -59,7 +59,7 @@ BAD = [
     (GOOD + ["--words"], "--words has no value"),
     (GOOD + ["--words", ""], "--words : all, none, or some of ruok,isro,srvr,stat,mntr,conf,envi,dirs,wchs,"),
     (GOOD + ["--words", "ruok,"], "--words ruok,: all, none, or some of "),
-    (GOOD + ["--words", "ruok,wchc"], "--words ruok,wchc: all, none, or some of "),
+    (GOOD + ["--words", "ruok,wchx"], "--words ruok,wchx: all, none, or some of "),
     (GOOD + ["--words", "ruok, isro"], "--words ruok, isro: all, none, or some of "),
     (GOOD + ["--words", "ruok,all"], "--words ruok,all: all, none, or some of "),
     (GOOD + ["--words", "RUOK"], "--words RUOK: all, none, or some of "),

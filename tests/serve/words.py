@@ -63,7 +63,8 @@ def test_what_has_gone_through():
             least, average, most, came, went, connections, outstanding, zxid, nodes = state(server)
             # A connect, ten pings, a read, and the two words: this one's answer isn't sent yet when it is made.
             assert (came - before[3], went - before[4]) == (13, 13), (before, came, went)
-            assert least <= average <= most, (least, average, most)
+            # The least and the most are whole milliseconds, rounded down.
+            assert least <= average < most + 1, (least, average, most)
             # The connection of the word before may not be gone yet.
             assert (outstanding, nodes) == (0, 5) and connections in (2, 3), (connections, outstanding, nodes)
             assert zxid == server.leader.zxid(), zxid
