@@ -8,8 +8,10 @@ use mio::net::TcpListener as ClientListener;
 use serve::{Command, command_of, serve_on};
 use settings::Dialect;
 use std::alloc::Global;
+use std::fs::File;
 use std::io::{self, Read, Write};
 use std::net::{Ipv4Addr, Net, SocketAddr, SocketAddrV4, TcpListener, TcpStream};
+use std::random::RandomSource;
 use std::rt::{Env, Files};
 use std::sync::Wait;
 use std::test::Fail;
@@ -87,7 +89,8 @@ fn serve_one<
         + Wait
         + Net<Stream = TcpStream, Listener = TcpListener>
         + Clock
-        + Files
+        + Files<File = File>
+        + RandomSource
         + Env
         + Eprint
         + Copy
