@@ -17,7 +17,7 @@ def linked(pack, name):
     top = os.path.join(pack.room, name)
     runner = os.path.join(top, "crates", "replay_runner")
     os.makedirs(os.path.join(runner, "out"))
-    for it in ("docs", "packaging", "CHANGELOG.md", "LICENSE", "crates.txt"):
+    for it in ("contrib", "docs", "packaging", "CHANGELOG.md", "LICENSE", "crates.txt"):
         os.symlink(os.path.join(TOP, it), os.path.join(top, it))
     shutil.copy(os.path.join(TOP, "HANDLES"), top)
     shutil.copytree(os.path.join(TOP, "tools"), os.path.join(top, "tools"))
