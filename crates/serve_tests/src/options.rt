@@ -39,7 +39,7 @@ fn some_lines_are_refused(rt: HostRuntime) -> Result<(), Fail> {
         "--leader 1 --client 2 --max-under-way 0",
         "--leader 1 --client 2 --max-watches 1000000001",
         "--leader 1 --client 2 --unconnected 3601",
-        "--leader 1 --client 2 --words ruok,wchc",
+        "--leader 1 --client 2 --words ruok,wchx",
         "--leader 1 --client 2 --words none,ruok",
         "--leader 1 --client 2 --record --log",
         "--leader 1 --client 2 --secret-file --log",
