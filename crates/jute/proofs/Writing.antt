@@ -38,9 +38,17 @@ pub puts_number : {E : Type 0} (r : Result (Unit {0}) E) (w : Width) (z : ℤ) (
     → Puts r old (number_bytes w (to_z w (of_z w z))) new → Puts r old (number_bytes w z) new
 puts_number r w z old new fits h = subst (λ (y : ℤ). Puts r old (number_bytes w y) new) (to_z-of_z w z fits) h
 
+-- Numbers that are passed by reference.
+pub number_kept : (w : Width) (z : ℤ) → FitsSigned w z → to_z w (of_z w z) ≡ z
+number_kept w z fits = to_z-of_z w z fits
+
 -- The items up to and including one are no longer than all of them.
 pub length_item : {A : Type 0} (w : A → List ℕ) (items : List A) (i : ℕ) (item : A) → i < length items
     → item ≡ get_or items i item
     → length (flat_map w (take i items)) + length (w item) ≤ length (flat_map w items)
 length_item w items i item lt is = subst (λ x. length (flat_map w (take i items)) + length (w x) ≤ length
     (flat_map w items)) (sym is) (length-flat_map-take w items i item lt)
+
+-- Fields that were set one after the other.
+pub joined : (a b x y : List ℕ) → a ≡ b → x ≡ y → a ++ x ≡ b ++ y
+joined a b x y first rest = ap (λ l. l ++ x) first ∙ ap (λ l. b ++ l) rest

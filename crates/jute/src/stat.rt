@@ -1,11 +1,14 @@
 //! The stat of a node.
 
+ghost use Rattle.std.specs.Prelude.{◌≡◌, length};
+ghost use Rattle.jute.specs.Format.{int, long};
 ghost use Rattle.jute.specs.Records.{stat_format, stat_persisted, four_longs, three_ints};
 ghost use Rattle.values.specs.Gains.{Puts};
 
 use crate::reader::Reader;
 use crate::record::ReadRecord;
 use crate::writer::WriteRecord;
+use byteorder::{BigEndian, ByteOrder};
 use std::alloc::Global;
 use values::{NoMemory, ReadError};
 
@@ -68,15 +71,55 @@ impl WriteRecord for Stat {
         68
     }
 
-    #[tactic(auto, unfolding(crate::specs::Records::stat_format))]
+    #[tactic(auto, using(values::proofs::Gaining::gains_nothing))]
     fn write(&self, out: &mut Vec<u8>) -> Result<(), NoMemory> {
-        put_four_longs(out, &self.czxid, &self.mzxid, &self.ctime, &self.mtime)?;
-        put_three_ints(out, &self.version, &self.cversion, &self.aversion)?;
-        self.ephemeral_owner.write(out)?;
-        self.data_length.write(out)?;
-        self.num_children.write(out)?;
-        self.pzxid.write(out)
+        Ok(out.extend_from_slice(&stat_bytes(self))?)
     }
+}
+
+/// A Stat as it is written. Its fields become bytes in an array, so that the vector that gets them grows once.
+fn stat_bytes(stat: &Stat) -> [u8; 68]
+    ensures { result ≡ stat_format.written stat.now }
+{
+    let mut bytes = [0; 68];
+    let (czxid, rest) = bytes.split_at_mut(8);
+    set_long(czxid, &stat.czxid);
+    let (mzxid, rest) = rest.split_at_mut(8);
+    set_long(mzxid, &stat.mzxid);
+    let (ctime, rest) = rest.split_at_mut(8);
+    set_long(ctime, &stat.ctime);
+    let (mtime, rest) = rest.split_at_mut(8);
+    set_long(mtime, &stat.mtime);
+    let (version, rest) = rest.split_at_mut(4);
+    set_int(version, &stat.version);
+    let (cversion, rest) = rest.split_at_mut(4);
+    set_int(cversion, &stat.cversion);
+    let (aversion, rest) = rest.split_at_mut(4);
+    set_int(aversion, &stat.aversion);
+    let (ephemeral_owner, rest) = rest.split_at_mut(8);
+    set_long(ephemeral_owner, &stat.ephemeral_owner);
+    let (data_length, rest) = rest.split_at_mut(4);
+    set_int(data_length, &stat.data_length);
+    let (num_children, rest) = rest.split_at_mut(4);
+    set_int(num_children, &stat.num_children);
+    set_long(rest, &stat.pzxid);
+    bytes
+}
+
+#[tactic(auto, using(crate::proofs::Writing::number_kept), unfolding(crate::specs::Format::number_bytes))]
+fn set_long(place: &mut [u8], n: &i64)
+    requires { length place.old ≡ 8 }
+    ensures { place.new ≡ long.written n.now }
+{
+    BigEndian::write_i64(place, *n);
+}
+
+#[tactic(auto, using(crate::proofs::Writing::number_kept), unfolding(crate::specs::Format::number_bytes))]
+fn set_int(place: &mut [u8], n: &i32)
+    requires { length place.old ≡ 4 }
+    ensures { place.new ≡ int.written n.now }
+{
+    BigEndian::write_i32(place, *n);
 }
 
 /// The StatPersisted of zookeeper.jute, 60 bytes: the stored part of a node's stat.
