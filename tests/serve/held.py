@@ -18,7 +18,7 @@ def traced(request, thread):
 
 
 class Held:
-    """A thread of a child process, by its id, held while the block lasts, which has to stay in one thread of the test."""
+    """A thread of a child process, by its id, held while the block lasts. The block stays in one thread of the test."""
 
     def __init__(self, thread):
         self.thread = thread
