@@ -40,7 +40,7 @@ HEAD, FOOT, TITLE, LEFT, RIGHT, BOTTOM, LINE = 52, 34, 36, 82, 18, 24, 17
 FIGURES = (92, 18)
 PAPER, PANEL, EDGE, FAINT, GREY = "#f4f5f5", "#ffffff", "#d8d9dc", "#e9e9ec", "#5f6673"
 # Colours of curves that the colour-blind tell apart, and those that thresholds name.
-CURVES = ("#0072b2", "#d55e00", "#009e73", "#cc79a7")
+CURVES = ("#0072b2", "#d55e00", "#009e73", "#cc79a7", "#56b4e9", "#e69f00")
 NAMED = {"red": "#c4162a", "orange": "#e0752d", "green": "#37872d"}
 CALCULATED = {"lastNotNull": ("Last *", lambda it: it[-1]), "max": ("Max", max)}
 # The least value that is written with a suffix, in each unit.
@@ -151,7 +151,7 @@ def draw_stat(drawing, panel, box, series):
     settings = panel["fieldConfig"]["defaults"]
     texts = {key: it["text"] for one in settings.get("mappings", ()) for key, it in one["options"].items()}
     is_filled = panel["options"]["colorMode"] == "background"
-    width = (box.width - GAP) / max(len(series), 1)
+    width = (box.width - GAP) / len(series)
     for at, it in enumerate(series):
         value = it.points[-1][1]
         cell = Box(box.left + GAP + at * width, box.top + TITLE - 4, width - GAP, box.height - TITLE - GAP + 4)
