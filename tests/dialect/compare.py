@@ -1,16 +1,17 @@
 #!/usr/bin/env python3
 """Compares what rows of the later dialect have to print with what the observer in tests/rows/model prints.
 
-    tests/dialect/compare.py [FOLDER ..] [--only PART]
+    tests/dialect/compare.py [FOLDER ..] [--only PART] [--write]
 
 Without a folder those of this repository are taken: rows/ and rows/recorded/. A row is NAME.script and
-NAME.expected. Where that ends with the end line, it is all that the row has to print, and each byte is compared.
+NAME.expected. Where that ends with the end line, it is all that the row has to print, and each byte is compared. With
+`--write` the observer in tests/rows/model makes such an output anew, and that of a row which has none yet.
 
-A row without an end line was recorded beside a real server. Of what it prints these lines are compared: what clients
-ask of the leader, and whether their sessions live, in this order; and of each connection all that it is sent. Names
-that a real server lists in any order are sorted there. Of a recorded row the digests are compared, too, which a leader
-of 3.6 and later writes behind each transaction: it is a sum over all nodes, with fields that no reply shows. At the
-head of the script may be told
+A row without an end line was recorded beside a real server, and is never written here. Of what it prints these lines
+are compared: what clients ask of the leader, and whether their sessions live, in this order; and of each connection all
+that it is sent. Names that a real server lists in any order are sorted there. Of a recorded row the digests are
+compared, too, which a leader of 3.6 and later writes behind each transaction: it is a sum over all nodes, with fields
+that no reply shows. At the head of the script may be told
 
     # session 0200000000000001 was 0200001b78f10000         what number a session had where the row was recorded
     # digests hold but at 10000000f 100000010               the zxids whose digests aren't the tree's; else all are
@@ -138,24 +139,41 @@ def of_digests(script):
 # ---- rows
 
 
+def is_whole(output):
+    """Returns whether this is all that a row has to print, and not what was recorded beside a real server."""
+    return output.rstrip(b"\n").rpartition(b"\n")[2].startswith(b"end ")
+
+
 def faults(path):
     """Returns what is wrong with what the model makes of a row, in lines."""
     script, wanted = path.read_bytes(), path.with_suffix(".expected").read_bytes()
     got = replayed(script)
-    if wanted.splitlines()[-1].startswith(b"end "):
+    if is_whole(wanted):
         return [] if wanted == got else [first_difference(wanted, got)]
     return differences(wanted, got) + of_digests(script)
+
+
+def write(path):
+    """Makes the output of a row by the model, unless it was recorded."""
+    kept = path.with_suffix(".expected")
+    before, made = kept.read_bytes() if kept.exists() else None, replayed(path.read_bytes())
+    if made != before and (before is None or is_whole(before)):
+        kept.write_bytes(made)
+        print(f"wrote {kept}")
 
 
 def main():
     parser = argparse.ArgumentParser(description=__doc__, formatter_class=argparse.RawDescriptionHelpFormatter)
     parser.add_argument("--only", default="", help="a part of a row's name")
+    parser.add_argument("--write", action="store_true", help="make the outputs anew that weren't recorded")
     parser.add_argument("folders", nargs="*", type=pathlib.Path, help="folders of rows")
     args = parser.parse_args()
     passed = failed = 0
     for path in sorted(row for folder in args.folders or FOLDERS for row in folder.glob("*.script")):
         if args.only not in path.stem:
             continue
+        if args.write:
+            write(path)
         found = faults(path)
         passed, failed = passed + (not found), failed + bool(found)
         for line in found:

@@ -11,8 +11,9 @@ import forwarded
 import words
 from attacks import watching
 from exposition import FAMILIES, HEADERS, TYPE, asked, everything, figures, figures_of, read, said
+from held import Held
 from leader import CREATE, buffer
-from server import CONNECT, TOP, Server, is_closed, reset, wait_until
+from server import CONNECT, GET, TOP, Server, got, is_closed, is_silent, reset, wait_until
 from several import DIFF, Following, Seat, at_once
 from silence import GRACE, LIMIT, LIMITS, Pinging
 
@@ -20,6 +21,9 @@ from silence import GRACE, LIMIT, LIMITS, Pinging
 PATIENCE, LATE = 2.0, 1.0
 OK = (200, b"ok\n")
 NOT_SERVED = (503, b"clients are not served\n")
+NO_TURN = (503, b"the engine has made no turn for ten seconds\n")
+# How long the engine may be without a turn.
+LONGEST_TURN = 10.0
 SILENT = re.compile(rb"the leader has been silent for (\d+) milliseconds\n")
 
 
@@ -289,6 +293,28 @@ def without_a_limit():
     with Metered("--tick", "50", "--sync-limit", "0") as server:
         time.sleep(1)
         assert state(server.metrics, "/health") == OK
+        server.ends()
+
+
+def test_an_engine_that_stands_still():
+    """Its thread is the program's first. The others go on, so a client's request comes in, and waits."""
+    with Metered("--sync-limit", "0") as server, server.client() as client:
+        before = time.monotonic()
+        assert server.answers(client)
+        # It is back from that turn, so it holds nothing that others wait for.
+        time.sleep(0.1)
+        with Held(server.program.pid):
+            turns, held = figures(server.metrics)["observer_turn_seconds"].count, time.monotonic()
+            client.sendall(GET)
+            while (told := state(server.metrics, "/live")) == OK:
+                assert time.monotonic() - held < LONGEST_TURN + LATE
+                time.sleep(0.02)
+            assert told == NO_TURN and time.monotonic() - before > LONGEST_TURN, (told, time.monotonic() - before)
+            assert asked(server.metrics, "/live", "HEAD").status == 503
+            assert figures(server.metrics)["observer_turn_seconds"].count == turns
+            assert is_silent(client)
+        assert got(client)
+        assert wait_until(lambda: state(server.metrics, "/live") == OK, LATE)
         server.ends()
 
 

@@ -7,8 +7,8 @@ bring their sessions from elsewhere (claims.py), or with passwords of a secret (
 they come from (addresses.py), some ask words (words.py) or for figures (metrics.py), and many of these load it together
 with clients that pipeline; and leaders that fault, or end in the middle of an image; and descriptors or the disk of a
 record run out (failing.py). Then it attacks the server (attacks.py, attacks_on_memory.py). By --long some of this is
-tried more often, or whole. PROGRAM is crates/replay_runner/out/replay_runner where none is named. The last line is
-`N passed, M failed`.
+tried more often, or whole. What can't be tried on a machine is told as skipped and counted nowhere. PROGRAM is
+crates/replay_runner/out/replay_runner where none is named. The last line is `N passed, M failed`.
 """
 import os
 import queue
@@ -45,7 +45,7 @@ import words  # noqa: E402
 from leader import CLOSE_SESSION, CREATE, ERROR, EPOCH_1, received  # noqa: E402
 from server import (  # noqa: E402
     ACKEPOCH, CONNECT, CONNECTED_LEN, GET, GOT_LEN, LEADERINFO, OBSERVERINFO, PING, PINGED_LEN, SNAP, UPTODATE, Program,
-    Server, got, hexa, is_closed, is_silent, reset, wait_until,
+    Server, Skipped, got, hexa, is_closed, is_silent, reset, wait_until,
 )
 
 MODULES = (
@@ -694,6 +694,8 @@ def main(words):
             test()
             passed += 1
             print(f"ok {name} ({time.monotonic() - began:.1f} s)", flush=True)
+        except Skipped as why:
+            print(f"skipped {name}: {why}", flush=True)
         except Exception as why:  # each failure is told, and the others go on
             failed += 1
             print(f"FAILED {name}: {type(why).__name__} {why}", flush=True)

@@ -76,6 +76,10 @@ def wait_until(holds, seconds):
     return True
 
 
+class Skipped(Exception):
+    """Why a test can't be tried on this machine."""
+
+
 class Program:
     """The program as a server: a process, what it holds, and its client port."""
 
