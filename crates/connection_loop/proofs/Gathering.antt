@@ -1,5 +1,6 @@
 -- Outputs that are gathered one after the other.
-use Rattle.std.proofs.Common.{◌≡◌, ◌≢◌, ◌++◌, ◌∷◌, [], List, Bool, true, false, true≢false, length, refl, sym, ap, ◌∙◌, arith, append_assoc}
+use Rattle.std.proofs.Common.{◌≡◌, ◌≢◌, ℕ, ◌+◌, nat_lt, ◌++◌, ◌∷◌, [], List, Bool, true, false, true≢false, length, refl, sym, ap, subst, ◌∙◌, arith, append_assoc}
+use Rattle.std.proofs.lemmas.Bool.Decides.{nat_tests}
 use Rattle.world.specs.declared.output.Output.{Output}
 use Rattle.world.specs.declared.output.Output.TheVariants.{ToLeader, ToClient, CloseLeader, CloseClient}
 use Rattle.intake.specs.declared.port.PortEnd.{PortEnd}
@@ -33,23 +34,27 @@ pub outputs_close : (u : Unwritten) (os : List Output) → u.closing ≡ true �
 outputs_close u [] closing = closing
 outputs_close u (o ∷ os) closing = outputs_close (with_output u o) os (output_closes u o closing)
 
+some_gathered : (n : ℕ) → nat_lt 0 (n + 1) ≡ true
+some_gathered n = grind (arith, nat_tests)
+
 pub one_more : (old mid new : Unwritten) (counted counting counts : Window) (before came after : PortEnd)
-    (found : Bool) (o : Output)
-    → HasGathered old mid counted counting before came found → mid.closing ≡ false
+    (gathered : ℕ) (o : Output)
+    → HasGathered old mid counted counting before came (nat_lt 0 gathered) → mid.closing ≡ false
     → received_through after ≡ received_through came ++ o ∷ [] → sent_through after ≡ sent_through came
     → SamePort came after → new ≡ with_output mid o → counts ≡ with_output_noted counting o
-    → HasGathered old new counted counts before after true
-one_more old mid new counted counting counts before came after found o so on is sent port are noted = record {
-  outputs = so.outputs ++ o ∷ [];
-  port = same_port before came after so.port port;
-  sent = sent ∙ so.sent;
-  received = is ∙ ap (λ l. l ++ o ∷ []) so.received ∙ append_assoc (received_through before) so.outputs (o ∷ []);
-  unwritten = are ∙ ap (λ u. with_output u o) so.unwritten ∙ sym (with_outputs-append old so.outputs o);
-  answers = noted ∙ ap (λ w. with_output_noted w o) so.answers ∙ sym (noted-append counted so.outputs o);
-  some = (λ _. is_some_output so.outputs o, λ _. refl);
-  none = λ closing. absurd (true≢false (sym (outputs_close old so.outputs closing)
-      ∙ ap (λ (u : Unwritten). u.closing) (sym so.unwritten) ∙ on));
-}
+    → HasGathered old new counted counts before after (nat_lt 0 (gathered + 1))
+one_more old mid new counted counting counts before came after gathered o so on is sent port are noted =
+    subst (λ found. HasGathered old new counted counts before after found) (sym (some_gathered gathered)) (record {
+      outputs = so.outputs ++ o ∷ [];
+      port = same_port before came after so.port port;
+      sent = sent ∙ so.sent;
+      received = is ∙ ap (λ l. l ++ o ∷ []) so.received ∙ append_assoc (received_through before) so.outputs (o ∷ []);
+      unwritten = are ∙ ap (λ u. with_output u o) so.unwritten ∙ sym (with_outputs-append old so.outputs o);
+      answers = noted ∙ ap (λ w. with_output_noted w o) so.answers ∙ sym (noted-append counted so.outputs o);
+      some = (λ _. is_some_output so.outputs o, λ _. refl);
+      none = λ closing. absurd (true≢false (sym (outputs_close old so.outputs closing)
+          ∙ ap (λ (u : Unwritten). u.closing) (sym so.unwritten) ∙ on));
+    })
 
 -- One output more was received than is gathered.
 pub one_lost : (old mid new : Unwritten) (counted counting : Window) (before came after : PortEnd) (found : Bool)

@@ -1,7 +1,8 @@
 //! The bytes to send to a connection, until they are written.
 
-ghost use Rattle.std.specs.Prelude.{◌≡◌, ◌↔◌, ◌≤◌, ◌++◌, [], true, IfOk, OnOk, OnErr, IsTrue, drop, length};
+ghost use Rattle.std.specs.Prelude.{◌≡◌, ◌↔◌, ◌≤◌, ◌++◌, [], true, false, IfOk, OnOk, OnErr, IsTrue, drop, length};
 ghost use Rattle.std.specs.Io.KnownBytes.{WriteAppends};
+ghost use Rattle.intake.specs.Ports.{unread_through};
 ghost use Rattle.connection_loop.specs.Outgoing.{nothing_unwritten, with_output, HasGathered, LosesOutput};
 
 use crate::window::Window;
@@ -119,19 +120,17 @@ impl Outgoing {
         ensures err { OnErr result (LosesOutput self.old self.new window.old port.old port.new) }
     {
         self.clear();
-        let mut found = false;
-        for _ in 0..u64::MAX {
+        for gathered in 0..u64::MAX {
             if self.closing || self.bytes.len() >= ENOUGH {
-                break;
+                return Ok(gathered > 0);
             }
             let Some(output) = port.receive() else {
-                break;
+                return Ok(gathered > 0);
             };
             window.note(&output);
             self.put(output)?;
-            found = true;
         }
-        Ok(found)
+        Ok(true)
     }
 
     /// Adds the last bytes for the connection, which aren't an output's: it closes after them. Fails only if an

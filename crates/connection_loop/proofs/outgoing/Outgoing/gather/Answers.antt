@@ -1,20 +1,20 @@
-use Rattle.std.proofs.Common.{sym, ap, ◌∙◌}
+use Rattle.std.proofs.Common.{nat_lt, sym, ap, ◌∙◌}
 use Rattle.std.proofs.lemmas.Result.{err_from_is_err_and}
 use Rattle.connection_loop.specs.Outgoing.{Unwritten}
 use Rattle.connection_loop.proofs.Gathering.{one_more, one_lost}
 use Rattle.connection_loop.proofs.outgoing.Outgoing.gather.Goals as goal
 
-pub loop-preserved : goal.loop-preserved
-loop-preserved c =
-    one_more c.args.self.now c.loop.self c.put.new.self c.args.window.now c.loop.window c.note.new.self c.args.port.now
-    c.loop.port c.receive.new.self c.loop.found c.in-Some.output c.loop.invariant
+pub loop-gathered-preserved : goal.loop-gathered-preserved
+loop-gathered-preserved c =
+    one_more c.args.self.now c.loop-gathered.self c.put.new.self c.args.window.now c.loop-gathered.window
+    c.note.new.self c.args.port.now c.loop-gathered.port c.receive.new.self c.loop-gathered.gathered c.in-Some.output c.loop-gathered.invariant
     (sym (ap (λ (u : Unwritten). u.closing) c.self.view_is) ∙ c.if-self.false) c.in-Some.ensures.some
     c.in-Some.ensures.sent c.in-Some.ensures.port c.in_ok-put.ensures.ok c.note.ensures
 
 pub returns-in_err-put-clause-err : goal.returns-in_err-put-clause-err
 returns-in_err-put-clause-err c =
-    let lost = one_lost c.args.self.now c.loop.self c.put.new.self c.args.window.now c.loop.window c.args.port.now
-    c.loop.port c.receive.new.self c.loop.found c.in-Some.output c.loop.invariant c.in-Some.ensures.some
-    c.in-Some.ensures.sent c.in-Some.ensures.port c.in_err-put.ensures.err in
+    let lost = one_lost c.args.self.now c.loop-gathered.self c.put.new.self c.args.window.now c.loop-gathered.window
+    c.args.port.now c.loop-gathered.port c.receive.new.self (nat_lt 0 c.loop-gathered.gathered) c.in-Some.output
+    c.loop-gathered.invariant c.in-Some.ensures.some c.in-Some.ensures.sent c.in-Some.ensures.port c.in_err-put.ensures.err in
     let failed = err_from_is_err_and c.from_residual.result c.from_residual.ensures.1 in
     rw failed.1 lost
