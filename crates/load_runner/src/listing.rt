@@ -1,7 +1,7 @@
 //! Long lists of children.
 
-use crate::load::{CONNECTION, Load};
 use crate::messages::{CONTENT, parent_path, write_read};
+use crate::supply::{CONNECTION, Sender, Step, Supply};
 use anyhow::Result;
 use client_records::ReadKind;
 use std::alloc::Global;
@@ -15,15 +15,17 @@ pub struct Listing {
     pub times: u32,
 }
 
-impl Load {
-    /// Creates the children of one node, and then lists them.
+impl Supply {
+    /// Creates the children of one node; then a client lists them.
     pub fn list(&mut self, alloc: Global, sizes: &Listing) -> Result<()> {
         self.make_tree(alloc, 1, sizes.children, CONTENT)?;
+        self.measure_from_here(alloc);
         let path = parent_path(alloc, 0)?;
-        let mut frame = Vec::new(alloc);
-        write_read(alloc, ReadKind::GetChildren, &path, false, &mut frame)?;
+        let start = self.bytes.len();
+        write_read(alloc, ReadKind::GetChildren, &path, false, &mut self.bytes)?;
+        let frame = self.since(start);
         for _ in 0..sizes.times {
-            self.feed_client(alloc, CONNECTION, frame.as_slice())?;
+            self.add(Step::Bytes(Sender::Client(CONNECTION), frame))?;
         }
         Ok(())
     }

@@ -1,10 +1,14 @@
 //! Connections that send a frame of the greatest length.
 
-use crate::load::Load;
+ghost use Rattle.std.specs.Prelude.{◌≤◌};
+
 use crate::messages::write_long_ping;
-use crate::watches::FIRST;
+use crate::supply::{Sender, Supply, opened};
 use anyhow::Result;
 use std::alloc::Global;
+
+// The length of the pieces in which the frame comes, of which there are two.
+const HALF: usize = 524_290;
 
 /// The number of connections opened.
 #[derive(Clone, Copy, Debug)]
@@ -12,17 +16,15 @@ pub struct Pings {
     pub connections: u32,
 }
 
-impl Load {
-    /// Opens connections, each of which sends one long frame in two pieces.
+impl Supply {
+    /// Opens connections, each of which then sends one long frame in two pieces.
     pub fn ping(&mut self, alloc: Global, sizes: &Pings) -> Result<()> {
-        let mut frame = Vec::new(alloc);
-        write_long_ping(alloc, &mut frame)?;
-        let (first, second) = frame.as_slice().split_at(frame.len() / 2);
-        for connection in 0..sizes.connections {
-            let connection = u64::from(connection) + FIRST;
-            self.open(alloc, connection)?;
-            self.feed_client(alloc, connection, first)?;
-            self.feed_client(alloc, connection, second)?;
+        self.open_all(alloc, sizes.connections)?;
+        let start = self.bytes.len();
+        write_long_ping(alloc, &mut self.bytes)?;
+        let frame = self.since(start);
+        for place in 0..sizes.connections {
+            self.send_in_pieces(Sender::Client(opened(place)), frame, HALF)?;
         }
         Ok(())
     }

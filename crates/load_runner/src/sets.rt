@@ -3,8 +3,8 @@
 ghost use Rattle.std.specs.Prelude.{◌≤◌, length};
 
 use crate::choice::Choice;
-use crate::load::{CONNECTION, Load};
 use crate::messages::{CONTENT, PATH_LIMIT, child_path, set_data, write_read};
+use crate::supply::{CONNECTION, Sender, Supply};
 use anyhow::Result;
 use client_records::ReadKind;
 use paths_and_acls::Path;
@@ -28,14 +28,14 @@ fn is_read(every: u32, set: u32) -> bool {
     every != 0 && set % every == 0
 }
 
-impl Load {
-    // The client reads a node's data.
-    fn ask(&mut self, alloc: Global, path: &Path) -> Result<()>
+impl Supply {
+    /// A client reads a node's data, and may watch it.
+    pub fn get(&mut self, alloc: Global, connection: u64, path: &Path, watch: bool) -> Result<()>
         requires { length path.now ≤ PATH_LIMIT }
     {
-        let mut frame = Vec::new(alloc);
-        write_read(alloc, ReadKind::GetData, path, false, &mut frame)?;
-        self.feed_client(alloc, CONNECTION, frame.as_slice())
+        let start = self.bytes.len();
+        write_read(alloc, ReadKind::GetData, path, watch, &mut self.bytes)?;
+        self.send(Sender::Client(connection), start)
     }
 
     // Sets a node's data, and may read it before.
@@ -43,7 +43,7 @@ impl Load {
         requires { length path ≤ PATH_LIMIT }
     {
         if is_read {
-            self.ask(alloc, &path)?;
+            self.get(alloc, CONNECTION, &path, false)?;
         }
         let body = set_data(alloc, path, CONTENT)?;
         self.tell(alloc, body)
