@@ -3,11 +3,12 @@
 
     bench/clients.py LOAD_RUNNER            as bench/clients.py crates/load_runner/out/load_runner
 
-Neither making the tree of reads and lists nor making the messages is measured (bench/loads.py). Each figure of the other
-loads is the difference of two runs, of which one does the same but for what is measured. All runs take turns, several
-times, and the least processor time of each is taken. What a load prints must be what it asks for. Memory is what the
-resident set grew by at most. Twice as many names may not fit into the caches any more, so their ratio has no bound:
-instructions tell more of it (valgrind --tool=callgrind). The exit status is 0 where every figure is met that has a bound.
+Neither making the tree of reads and lists nor making the messages is measured (bench/loads.py). Each figure of the
+other loads is the difference of two runs, of which one does the same but for what is measured. All runs take turns,
+several times, and the least processor time of each is taken. What a load prints must be what it asks for. Memory is what
+the resident set grew by at most. Twice as many names may not fit into the caches any more, so their ratio has no bound:
+instructions tell more of it (valgrind --tool=callgrind). The exit status is 0 where every figure is met that has a
+bound.
 """
 import argparse
 import sys

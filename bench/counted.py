@@ -1,15 +1,15 @@
 #!/usr/bin/env python3
-"""Counts the instructions that `serve` takes for a getData and for an INFORM of a setData, over sockets on 127.0.0.1, or
-those that the engine alone takes.
+"""Counts the instructions that `serve` takes for a getData and for an INFORM of a setData, over sockets on 127.0.0.1,
+or those that the engine alone takes.
 
     bench/counted.py PROGRAM                  as bench/counted.py crates/replay_runner/out/replay_runner
     bench/counted.py PROGRAM --before OTHER   beside another program too, as one of an earlier version
     bench/counted.py --engine LOAD_RUNNER     the engine under loads of crates/load_runner; --before goes with it, too
 
-`valgrind --tool=callgrind` counts, so what else the machine does is of no account. Each figure of `serve` is the difference
-between two runs, which differ only in how many there are, and each reply is looked at. Of a load of the engine a run that
-only makes its messages is subtracted (`made`); what is left has some instructions an event for counting its outputs, too.
-There is no bound: what is promised is a rate, which bench/writes.py measures.
+`valgrind --tool=callgrind` counts, so what else the machine does is of no account. Each figure of `serve` is the
+difference between two runs, which differ only in how many there are, and each reply is looked at. Of a load of the engine
+a run that only makes its messages is subtracted (`made`); what is left has some instructions an event for counting its
+outputs, too. There is no bound: what is promised is a rate, which bench/writes.py measures.
 """
 import argparse
 import os

@@ -28,9 +28,8 @@ class Load:
 
     def once(self, program):
         """Runs it, and looks at what it prints."""
-        ran = subprocess.run(
-            [program] + self.words, stdin=subprocess.DEVNULL, capture_output=True, encoding="ascii", timeout=MOST_SECONDS
-        )
+        how = {"stdin": subprocess.DEVNULL, "capture_output": True, "encoding": "ascii", "timeout": MOST_SECONDS}
+        ran = subprocess.run([program] + self.words, **how)
         counts = dict(it.partition("=")[::2] for it in ran.stdout.split())
         if ran.returncode or any(counts.get(name) != it for name, it in self.wanted.items()):
             sys.exit(f"{self.text()}: status {ran.returncode} and {ran.stdout[:200]!r}, wanted {self.wanted}")

@@ -6,15 +6,16 @@
     bench/run.py --engine LOAD_RUNNER                the engine alone, under loads of crates/load_runner
     bench/run.py --engine LOAD_RUNNER --against OTHER    which of two such executables has the faster engine
 
-It makes scripts by bench/generate.py, and `PROGRAM ARG .. replay SCRIPT` runs on them. The number n of messages
-doubles until a run takes long enough. Three ratios are judged: 2n messages take at most 2.2 times as long as n; the same
-bytes in pieces of 100 bytes take at most 1.5 times as long as in one piece; and where long messages come in such
-pieces, messages twice as long take at most 2.2 times as long. Each time is the least of several runs, of which those
-that are compared take turns. Against another program the scripts, or the engine's load, are the same, both take turns, and
-the processor's times are compared: the ratio is 1 where both are as fast, and above 1 where PROGRAM is faster, which is what
-passes. A program that writes something else than it should, or takes two minutes, is refused.
-Times of a script are of the whole program, so they hold reading its hexadecimal digits and printing the replies. Those
-of an engine are of the processor, and messages are made before (bench/loads.py). The exit status is 0 where all pass.
+It makes scripts by bench/generate.py, and `PROGRAM ARG .. replay SCRIPT` runs on them. The number n of messages doubles
+until a run takes long enough. Three ratios are judged: 2n messages take at most 2.2 times as long as n; the same bytes
+in pieces of 100 bytes take at most 1.5 times as long as in one piece; and where long messages come in such pieces,
+messages twice as long take at most 2.2 times as long. Each time is the least of several runs, of which those that are
+compared take turns. An engine alone has to take 300,000 INFORMs a second. Against another program the scripts, or the
+engine's loads, are the same, both take turns, and the processor's times are compared: the ratio is 1 where both are as
+fast, and above 1 where PROGRAM is faster, which is what passes. A program that writes something else than it should, or
+takes two minutes, is refused. Times of a script are of the whole program, so they hold reading its hexadecimal digits
+and printing the replies. Those of an engine hold no making of messages (bench/loads.py). The exit status is 0 where all
+pass.
 """
 import argparse
 import hashlib
@@ -39,6 +40,8 @@ INFORMS, WRITES, READS = 1_000_000, 400_000, 400_000
 # The clients that write have so many requests under way in all.
 WRITERS, TOGETHER = 100, 100
 READERS, WATCHING = 1000, 10
+# How many INFORMs a second an engine takes at least.
+LEAST_INFORMS = 300_000
 
 
 def timed(words, out):
@@ -194,12 +197,16 @@ def engine_rates(options):
 
 
 def engines(options):
-    """Prints what the engine does in a second. Returns whether it is as fast at least as the other, if there is one."""
+    """Prints what the engine does in a second. Returns whether INFORMs are enough, or all as fast as the other's."""
     found = engine_rates(options)
     for what, rates in found:
         beside = f" (the other {rates[1]:,.0f})" if options.against else ""
         print(f"{what}: {rates[0]:,.0f} a second of the processor, {1e6 / rates[0]:.2f} us each{beside}", flush=True)
-    return not options.against or are_faster([(what, rates[0] / rates[1]) for what, rates in found])
+    if options.against:
+        return are_faster([(what, rates[0] / rates[1]) for what, rates in found])
+    enough_informs = found[0][1][0] >= LEAST_INFORMS
+    print(f"{'PASS' if enough_informs else 'FAIL'}  INFORMs a second: at least {LEAST_INFORMS:,}", flush=True)
+    return enough_informs
 
 
 def are_faster(ratios):

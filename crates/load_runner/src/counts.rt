@@ -7,7 +7,7 @@ use observer_core::Output;
 const EVENT_XID: &[u8] = &[0xff, 0xff, 0xff, 0xff];
 
 /// What an engine has given.
-#[derive(Clone, Copy, Debug)]
+#[derive(Clone, Copy)]
 pub struct Counts {
     /// Answers to clients.
     pub replies: u64,
@@ -25,41 +25,21 @@ fn sum(count: u64, more: u64) -> Result<u64> {
 }
 
 impl Counts {
-    pub fn new() -> Counts {
-        Counts {
-            replies: 0,
-            events: 0,
-            packets: 0,
-            bytes: 0,
-        }
-    }
-
-    // Counts a frame to a client.
-    fn add_frame(&mut self, frame: &[u8]) -> Result<()> {
-        self.bytes = sum(self.bytes, frame.len() as u64)?;
-        if frame.get(4..8) == Some(EVENT_XID) {
-            self.events = sum(self.events, 1)?;
-        } else {
-            self.replies = sum(self.replies, 1)?;
-        }
-        Ok(())
-    }
-
-    // Counts an output. Nobody is closed under a load.
-    fn add(&mut self, output: &Output) -> Result<()> {
+    /// Counts an output. Nobody is closed under a load.
+    pub fn add(&mut self, output: &Output) -> Result<()> {
         match output {
             Output::ToLeader(_) => self.packets = sum(self.packets, 1)?,
-            Output::ToClient(_, frame) => self.add_frame(frame.as_slice())?,
+            Output::ToClient(_, frame) => {
+                let frame = frame.as_slice();
+                self.bytes = sum(self.bytes, frame.len() as u64)?;
+                if frame.get(4..8) == Some(EVENT_XID) {
+                    self.events = sum(self.events, 1)?;
+                } else {
+                    self.replies = sum(self.replies, 1)?;
+                }
+            }
             Output::CloseLeader(_) => bail!("the leader was refused"),
             Output::CloseClient(_) => bail!("a connection was closed"),
-        }
-        Ok(())
-    }
-
-    /// Counts outputs.
-    pub fn add_all(&mut self, outputs: &[Output]) -> Result<()> {
-        for output in outputs {
-            self.add(output)?;
         }
         Ok(())
     }

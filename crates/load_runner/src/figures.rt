@@ -2,14 +2,14 @@
 
 use crate::load::Load;
 use crate::supply::Supply;
-use crate::usage::{greatest, processor, resident};
+use crate::usage::{forget_greatest, processor, status};
 use anyhow::Result;
 use std::alloc::Global;
 use std::rt::{Clock, Files};
 use std::time::{Duration, Instant};
 
 /// What the measured part took.
-#[derive(Clone, Copy, Debug)]
+#[derive(Clone, Copy)]
 pub struct Figures {
     /// The time by the clock.
     pub took: Duration,
@@ -31,7 +31,8 @@ pub fn measured<R: Clock + Files>(
     load: &mut Load,
     supply: &Supply,
 ) -> Result<Figures> {
-    let held = resident(rt, alloc);
+    let forgotten = forget_greatest(rt);
+    let held = forgotten.and(status(rt, alloc, "VmRSS:"));
     let ran = processor(rt, alloc);
     let since = Instant::now(rt)?;
     load.play(alloc, supply, supply.steps.as_slice())?;
@@ -39,6 +40,6 @@ pub fn measured<R: Clock + Files>(
     Ok(Figures {
         took,
         processor: more(processor(rt, alloc), ran),
-        memory: more(greatest(rt, alloc), held),
+        memory: more(status(rt, alloc, "VmHWM:"), held),
     })
 }

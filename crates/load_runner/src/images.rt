@@ -3,15 +3,15 @@
 ghost use Rattle.std.specs.Prelude.{◌≤◌};
 
 use crate::following::NEXT_EPOCH;
-use crate::leading::{image_child, image_parent, write_end, write_node};
+use crate::leading::{image_child, image_parent, write_node};
 use crate::supply::{Sender, Step, Supply};
 use anyhow::{Result, ensure};
-use jute::put_int;
+use jute::{put_int, put_string};
 use quorum_packet::PacketKind;
 use std::alloc::Global;
 
 /// An image, and the checkpoints after it.
-#[derive(Clone, Copy, Debug)]
+#[derive(Drop)]
 pub struct Images {
     /// The number of nodes below the root.
     pub parents: u32,
@@ -52,7 +52,8 @@ impl Supply {
         for parent in 0..sizes.parents {
             self.write_below(alloc, parent, sizes.children, content.as_slice())?;
         }
-        write_end(&mut self.bytes)
+        put_string(&mut self.bytes, "/")?;
+        Ok(put_string(&mut self.bytes, "BenWasHere")?)
     }
 
     /// A leader connects and sends an image; then checkpoints are taken.

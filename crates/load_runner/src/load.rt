@@ -27,17 +27,27 @@ impl Load {
         let secret = Blob::from_vec(Vec::new(alloc));
         let config = Config::new(1, 0, 0, 4000, 40_000, secret, limits)?.with_threshold(threshold);
         let engine = Engine::primed(alloc, config)?;
+        let counts = Counts {
+            replies: 0,
+            events: 0,
+            packets: 0,
+            bytes: 0,
+        };
         Ok(Load {
             engine,
-            counts: Counts::new(),
+            counts,
             outputs: Vec::new(alloc),
         })
     }
 
-    // Counts the outputs of a step, and removes them. Those by which clients lose their leader aren't counted.
+    // Counts the outputs of a step, and removes them. At a leader's end clients are closed, which isn't counted.
     fn take_outputs(&mut self, step: Step) -> Result<()> {
-        if !matches!(step, Step::LeaderEnd) {
-            self.counts.add_all(self.outputs.as_slice())?;
+        if matches!(step, Step::LeaderEnd) {
+            self.outputs.clear();
+            return Ok(());
+        }
+        for output in self.outputs.iter() {
+            self.counts.add(output)?;
         }
         self.outputs.clear();
         Ok(())

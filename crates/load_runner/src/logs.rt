@@ -7,7 +7,7 @@ use quorum_packet::PacketKind;
 use std::alloc::Global;
 
 /// The sizes of the load.
-#[derive(Clone, Copy, Debug)]
+#[derive(Drop)]
 pub struct Logs {
     /// The number of nodes created below the root.
     pub parents: u32,

@@ -12,9 +12,9 @@
 //! `load_runner reads PARENTS CHILDREN READS TIMES PIECE`: after such creates, of 100 bytes of data each, a client
 //! makes READS getDatas of children, and sends all of them TIMES times, in pieces of PIECE bytes.
 //!
-//! `load_runner turns PARENTS CHILDREN CONNECTIONS TURNS EVERY`: after such creates, CONNECTIONS connections are opened;
-//! then each makes a getData of a child in its turn, TURNS times. One of EVERY connections watches what it reads, and
-//! none if EVERY is 0.
+//! `load_runner turns PARENTS CHILDREN CONNECTIONS TURNS EVERY`: after such creates, CONNECTIONS connections are
+//! opened; then each makes a getData of a child in its turn, TURNS times. One of EVERY connections watches what it
+//! reads, and none if EVERY is 0.
 //!
 //! `load_runner writes KIND PARENTS CHILDREN WRITES CONNECTIONS TOGETHER`: after creates as at first, CONNECTIONS
 //! connections are opened; then these send WRITES requests in turn, of `creates` of nodes or `sets` of children. The
@@ -72,7 +72,7 @@ mod watches;
 mod words;
 mod writes;
 
-use anyhow::Result;
+use anyhow::{Result, bail};
 use batcher::{Limits, SpreadThreshold};
 use counts::Counts;
 use figures::{Figures, measured};
@@ -83,7 +83,7 @@ use std::env;
 use std::rt::{Clock, Files};
 use std::thread::Threads;
 use supply::Supply;
-use words::{begins_with, number, supply_of};
+use words::{begins_with, make, numbers};
 
 // The most groups of a batch.
 const MOST_GROUPS: usize = 256;
@@ -97,27 +97,23 @@ fn given_words(rt: &HostRuntime) -> Result<Vec<String>> {
     Ok(given)
 }
 
-// The engine's limits: for a `spread` those that it names, with one worker in place of none.
-fn limits_of(words: &[String]) -> Result<Limits> {
+// The engine's limits, and the least work that is spread over workers: for a `spread` those that it names, with one
+// worker in place of none.
+fn limits_of(alloc: Global, words: &[String]) -> Result<(Limits, SpreadThreshold)> {
     if !begins_with(words, "spread") {
-        return Ok(default_limits());
+        return Ok((default_limits(), SpreadThreshold::ALWAYS));
     }
-    let workers = number(words, 7)?.max(1) as usize;
-    let length = number(words, 8)? as usize;
-    Ok(Limits::new(workers, length, MOST_GROUPS)?)
-}
-
-// The least work that is spread over workers: of any size, but for a `spread`.
-fn threshold_of(words: &[String]) -> Result<SpreadThreshold> {
-    if !begins_with(words, "spread") {
-        return Ok(SpreadThreshold::ALWAYS);
-    }
-    let least = number(words, 9)? as usize;
-    Ok(SpreadThreshold {
+    let given = numbers(alloc, words, 7)?;
+    let &[workers, length, least] = given.as_slice() else {
+        bail!("a spread has three numbers too few");
+    };
+    let limits = Limits::new(workers.max(1) as usize, length as usize, MOST_GROUPS)?;
+    let threshold = SpreadThreshold {
         transactions: 0,
-        bytes: least,
-        reads: least,
-    })
+        bytes: least as usize,
+        reads: least as usize,
+    };
+    Ok((limits, threshold))
 }
 
 // Feeds the steps of the measured part, and measures that.
@@ -131,7 +127,8 @@ fn run<R: Threads + Clock + Files + Sync>(
     if !begins_with(words, "spread") {
         return measured(rt, alloc, load, supply);
     }
-    let took = load.play_spread(rt, alloc, supply, number(words, 7)? > 0)?;
+    let is_spread = numbers(alloc, words, 7)?.first() != Some(&0);
+    let took = load.play_spread(rt, alloc, supply, is_spread)?;
     Ok(Figures {
         took,
         processor: None,
@@ -195,8 +192,7 @@ fn run_load<R: Threads + Clock + Files + Sync>(
     words: &[String],
     is_only_made: bool,
 ) -> Result<Told> {
-    let limits = limits_of(words)?;
-    let threshold = threshold_of(words)?;
+    let (limits, threshold) = limits_of(alloc, words)?;
     let mut load = Load::new(alloc, limits, threshold)?;
     put(rt, alloc, &mut load, supply, words, is_only_made)
 }
@@ -208,7 +204,8 @@ fn main(rt: HostRuntime) -> Result<()> {
         .as_slice()
         .get(usize::from(is_only_made)..)
         .unwrap_or(&[]);
-    let supply = supply_of(rt.alloc(), words)?;
+    let mut supply = Supply::new(rt.alloc());
+    make(rt.alloc(), words, &mut supply)?;
     let Told {
         transactions,
         counts,

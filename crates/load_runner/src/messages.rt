@@ -104,13 +104,6 @@ pub fn set_data(alloc: Global, path: Path, content: &[u8]) -> Result<Body>
     })))
 }
 
-/// A createSession.
-pub fn create_session(time_out: i32) -> Body
-    ensures { body_format.Writable result }
-{
-    Body::CreateSession(time_out)
-}
-
 /// Appends the packet by which a leader sends a transaction. An error may leave a prefix of it appended.
 #[tactic(auto, unfolding(quorum_packet::specs::Packet::packet_format))]
 pub fn write_inform(alloc: Global, txn: &Txn, out: &mut Vec<u8>) -> Result<()>

@@ -10,20 +10,14 @@ use std::alloc::Global;
 // The length of the pieces in which the frame comes, of which there are two.
 const HALF: usize = 524_290;
 
-/// The number of connections opened.
-#[derive(Clone, Copy, Debug)]
-pub struct Pings {
-    pub connections: u32,
-}
-
 impl Supply {
-    /// Opens connections, each of which then sends one long frame in two pieces.
-    pub fn ping(&mut self, alloc: Global, sizes: &Pings) -> Result<()> {
-        self.open_all(alloc, sizes.connections)?;
+    /// Opens so many connections, each of which then sends one long frame in two pieces.
+    pub fn ping(&mut self, alloc: Global, connections: u32) -> Result<()> {
+        self.open_all(alloc, connections)?;
         let start = self.bytes.len();
         write_long_ping(alloc, &mut self.bytes)?;
         let frame = self.since(start);
-        for place in 0..sizes.connections {
+        for place in 0..connections {
             self.send_in_pieces(Sender::Client(opened(place)), frame, HALF)?;
         }
         Ok(())

@@ -10,7 +10,7 @@ use client_records::ReadKind;
 use std::alloc::Global;
 
 /// The sizes of the load.
-#[derive(Clone, Copy, Debug)]
+#[derive(Drop)]
 pub struct Reads {
     /// The number of nodes created below the root.
     pub parents: u32,

@@ -3,13 +3,13 @@
 ghost use Rattle.std.specs.Prelude.{◌≤◌};
 
 use crate::messages::{CONTENT, child_path, create, parent_path, set_data, write_read};
-use crate::supply::{CONNECTION, Sender, Step, Supply};
+use crate::supply::{CONNECTION, SESSION, Sender, Step, Supply};
 use anyhow::{Result, ensure};
 use client_records::ReadKind;
 use std::alloc::Global;
 
-/// The work of an event.
-#[derive(Clone, Copy, Debug)]
+/// The work of a load.
+#[derive(Drop)]
 pub enum Kind {
     /// Creates of nodes below each parent in turn.
     Creates,
@@ -39,7 +39,7 @@ pub fn kind_of(word: &str) -> Option<Kind> {
 }
 
 /// The sizes of the load.
-#[derive(Clone, Copy, Debug)]
+#[derive(Drop)]
 pub struct Spread {
     pub kind: Kind,
     /// The number of nodes below the root.
@@ -70,7 +70,7 @@ impl Supply {
                 }
                 _ => set_data(alloc, parent_path(alloc, parent)?, content)?,
             };
-            self.write_other(alloc, body)?;
+            self.write_txn(alloc, SESSION, 1, body)?;
         }
         self.send(Sender::Leader, start)
     }

@@ -4,7 +4,7 @@
 ghost use Rattle.std.specs.Prelude.{◌≤◌};
 ghost use Rattle.txn_codec.specs.Spelling.{body_format};
 
-use crate::messages::{TIMEOUT, create_session, write_connect, write_inform};
+use crate::messages::{TIMEOUT, write_connect, write_inform};
 use anyhow::{Context, Result};
 use observer_core::Event;
 use settings::Dialect;
@@ -13,8 +13,8 @@ use std::mem;
 use txn_codec::{Body, Txn, TxnHeader};
 use values::Bytes;
 
-// The session of all transactions but those that create one or answer a client.
-const SESSION: i64 = 7;
+/// The session of transactions that no client here has asked for.
+pub const SESSION: i64 = 7;
 
 /// The connection of a primed engine.
 pub const CONNECTION: u64 = 1;
@@ -29,14 +29,14 @@ const SESSIONS: i64 = 0x100_0000_0000_0000;
 pub const EPOCH: i64 = 0x1_0000_0000;
 
 /// Where bytes of a supply stand.
-#[derive(Clone, Copy, Debug)]
+#[derive(Clone, Copy)]
 pub struct Place {
     start: usize,
     end: usize,
 }
 
 /// Who sends bytes.
-#[derive(Clone, Copy, Debug)]
+#[derive(Clone, Copy)]
 pub enum Sender {
     Leader,
     /// The client of this connection.
@@ -44,7 +44,7 @@ pub enum Sender {
 }
 
 /// What happens at once.
-#[derive(Clone, Copy, Debug)]
+#[derive(Clone, Copy)]
 pub enum Step {
     LeaderUp,
     LeaderEnd,
@@ -150,19 +150,12 @@ impl Supply {
         write_inform(alloc, &Txn { header, body }, &mut self.bytes)
     }
 
-    /// Writes the packet of the next transaction, which no client here has asked for.
-    pub fn write_other(&mut self, alloc: Global, body: Body) -> Result<()>
-        requires { body_format.Writable body }
-    {
-        self.write_txn(alloc, SESSION, 1, body)
-    }
-
     /// The leader sends a transaction that no client here has asked for.
     pub fn tell(&mut self, alloc: Global, body: Body) -> Result<()>
         requires { body_format.Writable body }
     {
         let start = self.bytes.len();
-        self.write_other(alloc, body)?;
+        self.write_txn(alloc, SESSION, 1, body)?;
         self.send(Sender::Leader, start)
     }
 
@@ -172,7 +165,7 @@ impl Supply {
         self.add(Step::Bytes(Sender::Client(connection), connect))?;
         let session = session_of(connection)?;
         let start = self.bytes.len();
-        self.write_txn(alloc, session, 1, create_session(TIMEOUT))?;
+        self.write_txn(alloc, session, 1, Body::CreateSession(TIMEOUT))?;
         self.send(Sender::Leader, start)
     }
 
@@ -193,21 +186,15 @@ impl Supply {
             Step::LeaderUp => Event::LeaderUp,
             Step::LeaderEnd => Event::LeaderEnd,
             Step::ClientUp(connection) => Event::ClientUp(connection, None),
-            Step::Bytes(Sender::Leader, place) => Event::LeaderBytes(self.bytes_at(place)?),
-            Step::Bytes(Sender::Client(connection), place) => {
-                Event::ClientBytes(connection, self.bytes_at(place)?)
+            Step::Bytes(sender, place) => {
+                let bytes = self.bytes.as_slice().get(place.start..place.end);
+                let bytes = Bytes::new(bytes.context("a place beyond the bytes")?);
+                match sender {
+                    Sender::Leader => Event::LeaderBytes(bytes),
+                    Sender::Client(connection) => Event::ClientBytes(connection, bytes),
+                }
             }
             Step::Checkpoint => Event::Checkpoint,
         })
-    }
-
-    // The bytes at a place.
-    fn bytes_at(&self, place: Place) -> Result<Bytes<'_>> {
-        let bytes = self
-            .bytes
-            .as_slice()
-            .get(place.start..place.end)
-            .context("a place beyond the bytes")?;
-        Ok(Bytes::new(bytes))
     }
 }

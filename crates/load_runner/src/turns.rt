@@ -4,12 +4,13 @@ ghost use Rattle.std.specs.Prelude.{◌≤◌};
 
 use crate::choice::Choice;
 use crate::messages::{LONG_CONTENT, child_path};
+use crate::sets::is_due;
 use crate::supply::{Supply, opened};
 use anyhow::{Result, ensure};
 use std::alloc::Global;
 
 /// The sizes of the load.
-#[derive(Clone, Copy, Debug)]
+#[derive(Drop)]
 pub struct Turns {
     /// The number of nodes created below the root.
     pub parents: u32,
@@ -23,11 +24,6 @@ pub struct Turns {
     pub every: u32,
 }
 
-// Whether the connection with this place watches what it reads.
-fn is_watching(every: u32, place: u32) -> bool {
-    every != 0 && place % every == 0
-}
-
 impl Supply {
     // Each connection reads the data of a child.
     fn take_turn(&mut self, alloc: Global, sizes: &Turns, choice: &mut Choice) -> Result<()>
@@ -38,7 +34,7 @@ impl Supply {
             let parent = choice.below(sizes.parents);
             let child = choice.below(sizes.children);
             let path = child_path(alloc, parent, child)?;
-            self.get(alloc, opened(place), &path, is_watching(sizes.every, place))?;
+            self.get(alloc, opened(place), &path, is_due(sizes.every, place))?;
         }
         Ok(())
     }

@@ -21,31 +21,25 @@ fn text_of<R: Files>(rt: &R, alloc: Global, name: &str) -> Option<String> {
     }
 }
 
-/// The nanoseconds that the first thread has had of a processor, up to the last tick; `None` if the system doesn't tell.
+/// The nanoseconds that the first thread has had of a processor, up to the last tick; `None` if the system doesn't tell
+/// them.
 pub fn processor<R: Files>(rt: &R, alloc: Global) -> Option<u64> {
     let text = text_of(rt, alloc, RUNNING)?;
     text.as_str().split_whitespace().next()?.parse::<u64>().ok()
 }
 
-// The number of a line of the status, in KiB.
-fn kibibytes(text: &str, name: &str) -> Option<u64> {
-    for line in text.lines() {
+/// The greatest resident set is sought anew from here on, if the system does that.
+pub fn forget_greatest<R: Files>(rt: &R) -> Option<()> {
+    fs::write(rt, FORGOTTEN, "5").ok()
+}
+
+/// The number of a line of the status that begins so, in KiB; `None` if the system doesn't tell.
+pub fn status<R: Files>(rt: &R, alloc: Global, name: &str) -> Option<u64> {
+    let text = text_of(rt, alloc, STATUS)?;
+    for line in text.as_str().lines() {
         if let Some(rest) = line.strip_prefix(name) {
             return rest.split_whitespace().next()?.parse::<u64>().ok();
         }
     }
     None
-}
-
-/// The resident set in KiB, from which on the greatest one is sought anew; `None` if the system doesn't tell.
-pub fn resident<R: Files>(rt: &R, alloc: Global) -> Option<u64> {
-    fs::write(rt, FORGOTTEN, "5").ok()?;
-    let text = text_of(rt, alloc, STATUS)?;
-    kibibytes(text.as_str(), "VmRSS:")
-}
-
-/// The greatest resident set since then, in KiB; `None` if the system doesn't tell.
-pub fn greatest<R: Files>(rt: &R, alloc: Global) -> Option<u64> {
-    let text = text_of(rt, alloc, STATUS)?;
-    kibibytes(text.as_str(), "VmHWM:")
 }

@@ -7,7 +7,7 @@ use client_records::ReadKind;
 use std::alloc::Global;
 
 /// The sizes of the load.
-#[derive(Clone, Copy, Debug)]
+#[derive(Drop)]
 pub struct Watched {
     /// The number of connections opened.
     pub connections: u32,
@@ -53,20 +53,15 @@ impl Supply {
         Ok(())
     }
 
-    // The leader sends a setData of a node.
-    fn set_node(&mut self, alloc: Global, node: u32) -> Result<()> {
-        let path = parent_path(alloc, node)?;
-        let body = set_data(alloc, path, CONTENT)?;
-        self.tell(alloc, body)
-    }
-
     // Each of the connections watches the same nodes, and then some of these are set.
     fn fire(&mut self, alloc: Global, sizes: &Watched) -> Result<()> {
         for node in 0..sizes.nodes {
             self.watch_node(alloc, sizes.connections, node)?;
         }
         for node in 0..sizes.sets {
-            self.set_node(alloc, node)?;
+            let path = parent_path(alloc, node)?;
+            let body = set_data(alloc, path, CONTENT)?;
+            self.tell(alloc, body)?;
         }
         Ok(())
     }

@@ -1,17 +1,15 @@
 //! The words of the command line, and the load that they ask for.
 
 use crate::images::Images;
-use crate::listing::Listing;
 use crate::logs::Logs;
-use crate::pings::Pings;
 use crate::reads::Reads;
 use crate::sets::Sets;
-use crate::spread::{self, Spread};
+use crate::spread::{Spread, kind_of};
 use crate::supply::Supply;
 use crate::turns::Turns;
 use crate::watches::Watched;
-use crate::writes::{self, Writes};
-use anyhow::{Context, Result};
+use crate::writes::Writes;
+use anyhow::{Context, Result, bail};
 use std::alloc::Global;
 
 const USAGE: &str =
@@ -30,130 +28,150 @@ pub fn begins_with(words: &[String], wanted: &str) -> bool {
     }
 }
 
-// The word at a place.
-fn word(words: &[String], place: usize) -> Result<&str> {
-    Ok(words.get(place).context(USAGE)?.as_str())
+/// The numbers from a place on.
+pub fn numbers(alloc: Global, words: &[String], from: usize) -> Result<Vec<u32>> {
+    let mut numbers = Vec::new(alloc);
+    for word in words.iter().skip(from) {
+        let number = word.as_str().parse::<u32>();
+        numbers.push(number.context("no number of 32 bits")?)?;
+    }
+    Ok(numbers)
 }
 
-/// The number at a place.
-pub fn number(words: &[String], place: usize) -> Result<u32> {
-    word(words, place)?
-        .parse::<u32>()
-        .context("no number of 32 bits")
-}
-
-fn sets_of(words: &[String]) -> Result<Sets> {
-    Ok(Sets {
-        parents: number(words, 0)?,
-        children: number(words, 1)?,
-        sets: number(words, 2)?,
-        every: number(words, 3)?,
-    })
-}
-
-fn reads_of(words: &[String]) -> Result<Reads> {
-    Ok(Reads {
-        parents: number(words, 1)?,
-        children: number(words, 2)?,
-        reads: number(words, 3)?,
-        times: number(words, 4)?,
-        piece: number(words, 5)?,
-    })
-}
-
-fn turns_of(words: &[String]) -> Result<Turns> {
-    Ok(Turns {
-        parents: number(words, 1)?,
-        children: number(words, 2)?,
-        connections: number(words, 3)?,
-        turns: number(words, 4)?,
-        every: number(words, 5)?,
-    })
-}
-
-fn writes_of(words: &[String]) -> Result<Writes> {
-    Ok(Writes {
-        kind: writes::kind_of(word(words, 1)?).context(USAGE)?,
-        parents: number(words, 2)?,
-        children: number(words, 3)?,
-        writes: number(words, 4)?,
-        connections: number(words, 5)?,
-        together: number(words, 6)?,
-    })
-}
-
-fn watched_of(words: &[String]) -> Result<Watched> {
-    Ok(Watched {
-        connections: number(words, 1)?,
-        watches: number(words, 2)?,
-        nodes: number(words, 3)?,
-        sets: number(words, 4)?,
-        others: number(words, 5)?,
-    })
-}
-
-fn listing_of(words: &[String]) -> Result<Listing> {
-    Ok(Listing {
-        children: number(words, 1)?,
-        times: number(words, 2)?,
-    })
-}
-
-fn pings_of(words: &[String]) -> Result<Pings> {
-    Ok(Pings {
-        connections: number(words, 1)?,
-    })
-}
-
-fn images_of(words: &[String]) -> Result<Images> {
-    Ok(Images {
-        parents: number(words, 1)?,
-        children: number(words, 2)?,
-        content: number(words, 3)?,
-        piece: number(words, 4)?,
-        checkpoints: number(words, 5)?,
-    })
-}
-
-fn logs_of(words: &[String]) -> Result<Logs> {
-    Ok(Logs {
-        parents: number(words, 1)?,
-        children: number(words, 2)?,
-        kept: number(words, 3)?,
-        times: number(words, 4)?,
-    })
-}
-
-fn spread_of(words: &[String]) -> Result<Spread> {
-    Ok(Spread {
-        kind: spread::kind_of(word(words, 1)?).context(USAGE)?,
-        parents: number(words, 2)?,
-        children: number(words, 3)?,
-        content: number(words, 4)?,
-        count: number(words, 5)?,
-        times: number(words, 6)?,
-    })
-}
-
-// Makes the messages of the load that the words ask for.
-fn make(alloc: Global, words: &[String], supply: &mut Supply) -> Result<()> {
-    match word(words, 0)? {
-        "spread" => supply.spread(alloc, &spread_of(words)?),
-        "reads" => supply.read(alloc, &reads_of(words)?),
-        "turns" => supply.take_turns(alloc, &turns_of(words)?),
-        "writes" => supply.write(alloc, &writes_of(words)?),
-        "watches" => supply.watch(alloc, &watched_of(words)?),
-        "lists" => supply.list(alloc, &listing_of(words)?),
-        "pings" => supply.ping(alloc, &pings_of(words)?),
-        "images" => supply.load_image(alloc, &images_of(words)?),
-        "logs" => supply.undo(alloc, &logs_of(words)?),
-        _ => supply.set(alloc, &sets_of(words)?),
+// Makes the messages of clients that read.
+fn make_reads(alloc: Global, word: &str, numbers: &[u32], supply: &mut Supply) -> Result<()> {
+    match (word, numbers) {
+        ("reads", &[parents, children, reads, times, piece]) => {
+            let sizes = Reads {
+                parents,
+                children,
+                reads,
+                times,
+                piece,
+            };
+            supply.read(alloc, &sizes)
+        }
+        ("turns", &[parents, children, connections, turns, every]) => {
+            let sizes = Turns {
+                parents,
+                children,
+                connections,
+                turns,
+                every,
+            };
+            supply.take_turns(alloc, &sizes)
+        }
+        ("lists", &[children, times]) => supply.list(alloc, children, times),
+        _ => bail!(USAGE),
     }
 }
 
-/// What the engine is fed under the load that the words ask for.
-pub fn supply_of(alloc: Global, words: &[String]) -> Result<Supply> {
-    let mut supply = Supply::new(alloc);
-    make(alloc, words, &mut supply)?;
-    Ok(supply)
+// Makes the messages of clients that watch, or send pings.
+fn make_watches(alloc: Global, word: &str, numbers: &[u32], supply: &mut Supply) -> Result<()> {
+    match (word, numbers) {
+        ("watches", &[connections, watches, nodes, sets, others]) => {
+            let sizes = Watched {
+                connections,
+                watches,
+                nodes,
+                sets,
+                others,
+            };
+            supply.watch(alloc, &sizes)
+        }
+        ("pings", &[connections]) => supply.ping(alloc, connections),
+        _ => bail!(USAGE),
+    }
+}
+
+// Makes the messages of leaders that come one after the other.
+fn make_leaders(alloc: Global, word: &str, numbers: &[u32], supply: &mut Supply) -> Result<()> {
+    match (word, numbers) {
+        ("images", &[parents, children, content, piece, checkpoints]) => {
+            let sizes = Images {
+                parents,
+                children,
+                content,
+                piece,
+                checkpoints,
+            };
+            supply.load_image(alloc, &sizes)
+        }
+        ("logs", &[parents, children, kept, times]) => {
+            let sizes = Logs {
+                parents,
+                children,
+                kept,
+                times,
+            };
+            supply.undo(alloc, &sizes)
+        }
+        _ => bail!(USAGE),
+    }
+}
+
+// Makes the messages of a load whose second word names a kind of work.
+fn make_kind(alloc: Global, words: &[String], numbers: &[u32], supply: &mut Supply) -> Result<()> {
+    let [word, kind, ..] = words else {
+        bail!(USAGE);
+    };
+    let kind = kind_of(kind.as_str()).context(USAGE)?;
+    match (word.as_str(), numbers) {
+        ("writes", &[parents, children, writes, connections, together]) => {
+            let sizes = Writes {
+                kind,
+                parents,
+                children,
+                writes,
+                connections,
+                together,
+            };
+            supply.write(alloc, &sizes)
+        }
+        ("spread", &[parents, children, content, count, times, _, _, _]) => {
+            let sizes = Spread {
+                kind,
+                parents,
+                children,
+                content,
+                count,
+                times,
+            };
+            supply.spread(alloc, &sizes)
+        }
+        _ => bail!(USAGE),
+    }
+}
+
+// Makes the messages of a leader's transactions, with reads in between.
+fn make_sets(alloc: Global, numbers: &[u32], supply: &mut Supply) -> Result<()> {
+    let &[parents, children, sets, every] = numbers else {
+        bail!(USAGE);
+    };
+    let sizes = Sets {
+        parents,
+        children,
+        sets,
+        every,
+    };
+    supply.set(alloc, &sizes)
+}
+
+/// Makes the messages of the load that the words ask for.
+pub fn make(alloc: Global, words: &[String], supply: &mut Supply) -> Result<()> {
+    let word = words.first().context(USAGE)?.as_str();
+    let from = match word {
+        "writes" | "spread" => 2,
+        "reads" | "turns" | "lists" | "watches" | "pings" | "images" | "logs" => 1,
+        _ => 0,
+    };
+    let given = numbers(alloc, words, from)?;
+    let numbers = given.as_slice();
+    match word {
+        "reads" | "turns" | "lists" => make_reads(alloc, word, numbers, supply),
+        "watches" | "pings" => make_watches(alloc, word, numbers, supply),
+        "images" | "logs" => make_leaders(alloc, word, numbers, supply),
+        "writes" | "spread" => make_kind(alloc, words, numbers, supply),
+        _ => make_sets(alloc, numbers, supply),
+    }
 }

@@ -6,34 +6,16 @@ use crate::choice::Choice;
 use crate::messages::{
     CONTENT, PATH_LIMIT, child_path, create, set_data, write_create, write_set_data,
 };
+use crate::spread::Kind;
 use crate::supply::{Sender, Supply, opened, session_of};
 use anyhow::{Context, Result, ensure};
 use paths_and_acls::Path;
 use std::alloc::Global;
 
-/// What a client writes.
-#[derive(Clone, Copy, Debug)]
-pub enum Kind {
-    /// Creates of nodes beside the children of a parent.
-    Creates,
-    /// setDatas of children.
-    Sets,
-}
-
-/// The kind that a word names.
-pub fn kind_of(word: &str) -> Option<Kind> {
-    if word == "creates" {
-        return Some(Kind::Creates);
-    }
-    if word == "sets" {
-        return Some(Kind::Sets);
-    }
-    None
-}
-
 /// The sizes of the load.
-#[derive(Clone, Copy, Debug)]
+#[derive(Drop)]
 pub struct Writes {
+    /// Creates of nodes beside the children of a parent, or setDatas of children.
     pub kind: Kind,
     /// The number of nodes created below the root.
     pub parents: u32,
@@ -65,7 +47,7 @@ fn path_of(alloc: Global, sizes: &Writes, number: u32, choice: &mut Choice) -> R
     let parent = choice.below(sizes.parents);
     let child = match sizes.kind {
         Kind::Creates => sizes.children.saturating_add(number),
-        Kind::Sets => choice.below(sizes.children),
+        _ => choice.below(sizes.children),
     };
     child_path(alloc, parent, child)
 }
@@ -90,7 +72,7 @@ impl Supply {
             let start = self.bytes.len();
             match sizes.kind {
                 Kind::Creates => write_create(alloc, xid, &path, CONTENT, &mut self.bytes)?,
-                Kind::Sets => write_set_data(alloc, xid, &path, CONTENT, &mut self.bytes)?,
+                _ => write_set_data(alloc, xid, &path, CONTENT, &mut self.bytes)?,
             }
             self.send(Sender::Client(connection), start)?;
         }
@@ -115,7 +97,7 @@ impl Supply {
             let path = path_of(alloc, sizes, number, choice)?;
             let body = match sizes.kind {
                 Kind::Creates => create(alloc, path, CONTENT)?,
-                Kind::Sets => set_data(alloc, path, CONTENT)?,
+                _ => set_data(alloc, path, CONTENT)?,
             };
             let start = self.bytes.len();
             self.write_txn(alloc, session_of(connection)?, xid, body)?;
@@ -143,6 +125,10 @@ impl Supply {
 
     /// Creates the nodes and opens the connections; then these write in turn.
     pub fn write(&mut self, alloc: Global, sizes: &Writes) -> Result<()> {
+        ensure!(
+            matches!(sizes.kind, Kind::Creates | Kind::Sets),
+            "a read isn't written"
+        );
         ensure!(
             sizes.parents > 0 && sizes.children > 0,
             "there is nothing to be written"
