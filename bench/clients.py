@@ -3,20 +3,19 @@
 
     bench/clients.py LOAD_RUNNER            as bench/clients.py crates/load_runner/out/load_runner
 
-Each figure is the difference of two runs, of which one does the same but for what is measured: so making the tree and
-the bytes isn't in it. All runs take turns, several times, and the least processor time of each is taken. What a load
-prints must be what it asks for. Memory is the resident set at its greatest. Twice as many names may not fit into the
-caches any more, so their ratio has no bound: instructions tell more of it (valgrind --tool=callgrind). The exit status is
-0 where every figure is met that has a bound.
+Neither making the tree of reads and lists nor making the messages is measured (bench/loads.py). Each figure of the
+other loads is the difference of two runs, of which one does the same but for what is measured. All runs take turns,
+several times, and the least processor time of each is taken. What a load prints must be what it asks for. Memory is what
+the resident set grew by at most. Twice as many names may not fit into the caches any more, so their ratio has no bound:
+instructions tell more of it (valgrind --tool=callgrind). The exit status is 0 where every figure is met that has a
+bound.
 """
 import argparse
-import pathlib
-import re
 import sys
-import tempfile
 
 sys.dont_write_bytecode = True
-from run import PIECES, TWICE, machine, timed  # noqa: E402
+from loads import CONNECTED, HEADER, LONG_CONTENT, STAT, Load, heading  # noqa: E402
+from run import PIECES, TWICE, machine  # noqa: E402
 
 PARENTS, CHILDREN, READS = 100, 1000, 400_000
 WHOLE, PIECE = 26_000, 100
@@ -24,54 +23,33 @@ CONNECTIONS, WATCHES, NODES, OTHERS = 1000, 100, 500, 1_000_000
 NAMES, LISTS = 50_000, 200
 PINGS = 2000
 IDLE = 100_000
-# The smaller of two loads whose memory is compared is so large that what this script holds itself, and what the system
-# counts as the program's, isn't more.
+# Two loads whose memory is compared differ by so much that what else the program touches doesn't count.
 FEW, MANY_TIMES = 100_000, 5
 
 
-class Load:
-    """A load, what it must print, and what its runs took."""
-
-    def __init__(self, words, replies, events=0):
-        self.words = [str(it) for it in words]
-        self.wanted = f"replies={replies} events={events}"
-        self.seconds, self.memory = float("inf"), float("inf")
-
-    def once(self, program, room):
-        output = room / "load.output"
-        with open(output, "wb") as out:
-            status, _, used = timed([program] + self.words, out)
-        written = output.read_text(encoding="ascii", errors="replace")
-        found = re.search(r"replies=\d+ events=\d+", written)
-        if status or not found or found.group(0) != self.wanted:
-            sys.exit(f"{' '.join(self.words)}: status {status} and {written[:200]!r}, wanted {self.wanted}")
-        self.seconds = min(self.seconds, used.ru_utime + used.ru_stime)
-        self.memory = min(self.memory, used.ru_maxrss * 1024)
-
-    def row(self):
-        return f"{' '.join(self.words):<44}{self.seconds:>10.2f}{self.memory / 2**20:>8.0f}"
-
-
 def reads(times, piece):
-    return Load(["reads", PARENTS, CHILDREN, READS, times, piece], READS * times)
+    number = READS * times
+    length = number * (HEADER + 4 + LONG_CONTENT + STAT)
+    return Load(["reads", PARENTS, CHILDREN, READS, times, piece], replies=number, events=0, bytes=length)
 
 
 def watches(connections, own, nodes, sets, others):
-    replies = connections * (1 + own + nodes) + others
-    return Load(["watches", connections, own, nodes, sets, others], replies, connections * sets)
+    replies, packets = connections * (1 + own + nodes) + others, connections
+    words = ["watches", connections, own, nodes, sets, others]
+    return Load(words, replies=replies, events=connections * sets, packets=packets)
 
 
 def lists(names, times):
-    return Load(["lists", names, times], times)
+    return Load(["lists", names, times], replies=times, events=0)
 
 
 def pings(connections):
-    return Load(["pings", connections], 2 * connections)
+    length = connections * (CONNECTED + HEADER)
+    return Load(["pings", connections], replies=2 * connections, events=0, packets=connections, bytes=length)
 
 
 def loads():
     return {
-        "no read": reads(0, WHOLE),
         "reads": reads(1, WHOLE),
         "twice": reads(2, WHOLE),
         "pieces": reads(1, PIECE),
@@ -85,9 +63,7 @@ def loads():
         "watches of all": watches(CONNECTIONS, OTHERS // CONNECTIONS, 0, 0, 0),
         "idle": watches(IDLE, 0, 0, 0, 0),
         "many idle": watches(MANY_TIMES * IDLE, 0, 0, 0, 0),
-        "no list": lists(NAMES, 0),
         "lists": lists(NAMES, LISTS),
-        "twice, no list": lists(2 * NAMES, 0),
         "twice the names": lists(2 * NAMES, LISTS),
         "pings": pings(PINGS),
         "many pings": pings(MANY_TIMES * PINGS),
@@ -105,14 +81,14 @@ def figures(of):
 
     told, left = CONNECTIONS * NODES, CONNECTIONS * WATCHES
     return [
-        ("microseconds a getData", 1e6 * took("reads", "no read") / READS, 2.5),
-        ("2n getDatas against n", took("twice", "no read") / took("reads", "no read"), TWICE),
-        (f"pieces of {PIECE} bytes against {WHOLE}", took("pieces", "no read") / took("reads", "no read"), PIECES),
+        ("microseconds a getData", 1e6 * of["reads"].seconds / READS, 2.5),
+        ("2n getDatas against n", of["twice"].seconds / of["reads"].seconds, TWICE),
+        (f"pieces of {PIECE} bytes against {WHOLE}", of["pieces"].seconds / of["reads"].seconds, PIECES),
         ("microseconds a getData that watches", 1e6 * took("no set", "opened") / told, None),
         ("microseconds an event", 1e6 * took("sets", "no set") / told, 2),
         ("the same beside other watches, times as long", took("others", "others, no set") / took("sets", "no set"), 1.5),
-        ("nanoseconds a name in a list", 1e9 * took("lists", "no list") / (LISTS * NAMES), None),
-        ("2n names against n", took("twice the names", "twice, no list") / took("lists", "no list"), None),
+        ("nanoseconds a name in a list", 1e9 * of["lists"].seconds / (LISTS * NAMES), None),
+        ("2n names against n", of["twice the names"].seconds / of["lists"].seconds, None),
         ("bytes a watch, all of one connection", holds("watches of one", "few watches of one") / (OTHERS - FEW), 500),
         (f"bytes a watch, of {CONNECTIONS:,} connections", holds("watches of all", "opened") / (OTHERS - left), 500),
         ("bytes an idle connection", holds("many idle", "idle") / ((MANY_TIMES - 1) * IDLE), 1024),
@@ -135,11 +111,10 @@ def main():
     options = parser.parse_args()
     machine("before")
     of = loads()
-    with tempfile.TemporaryDirectory(prefix="bench-") as name:
-        for _ in range(options.rounds):
-            for load in of.values():
-                load.once(options.program, pathlib.Path(name))
-    print(f"{'load':<44}{'processor':>10}{'MiB':>8}")
+    for _ in range(options.rounds):
+        for load in of.values():
+            load.once(options.program)
+    print(heading())
     for load in of.values():
         print(load.row())
     passes = [verdict(*it) for it in figures(of)]

@@ -1,28 +1,37 @@
 #!/usr/bin/env python3
-"""Counts the instructions that `serve` takes for a getData and for an INFORM of a setData, over sockets on 127.0.0.1.
+"""Counts the instructions that `serve` takes for a getData and for an INFORM of a setData, over sockets on 127.0.0.1,
+or those that the engine alone takes.
 
     bench/counted.py PROGRAM                  as bench/counted.py crates/replay_runner/out/replay_runner
     bench/counted.py PROGRAM --before OTHER   beside another program too, as one of an earlier version
+    bench/counted.py --engine LOAD_RUNNER     the engine under loads of crates/load_runner; --before goes with it, too
 
-`valgrind --tool=callgrind` counts, so what else the machine does is of no account. Each figure is the difference between
-two runs, which differ only in how many there are. Each reply is looked at. There is no bound: what is promised is a rate,
-which bench/writes.py measures.
+`valgrind --tool=callgrind` counts, so what else the machine does is of no account. Each figure of `serve` is the
+difference between two runs, which differ only in how many there are, and each reply is looked at. Of a load of the engine
+a run that only makes its messages is subtracted (`made`); what is left has some instructions an event for counting its
+outputs, too. There is no bound: what is promised is a rate, which bench/writes.py measures.
 """
 import argparse
 import os
 import re
 import socket
 import struct
+import subprocess
 import sys
 import tempfile
 
 sys.dont_write_bytecode = True
+import loads  # noqa: E402
 from serve import ANSWER, LONG_CONTENT, PARENTS, Server, transactions  # noqa: E402
 
 CHILDREN, TOGETHER, FEW, MANY = 10, 100, 20, 60
 FEW_SETS, MANY_SETS = 2_000, 6_000
 GET_DATA = 4
 COUNTED = re.compile(r"Collected : (\d+)")
+VALGRIND = ["valgrind", "--tool=callgrind", "--callgrind-out-file=/dev/null"]
+# The engine's trees: nodes below the root, and nodes below each of these.
+TREE, MORE = (10, 100), (60, 100)
+NUMBER, CLIENTS, WRITERS = 20_000, 1000, 100
 
 
 def framed(body):
@@ -54,9 +63,8 @@ def instructions(program, pieces, sets):
     """Returns how many instructions the program takes for the tree, so many setDatas and pieces of getDatas."""
     with tempfile.TemporaryDirectory() as room:
         counted, told = os.path.join(room, "counted"), os.path.join(room, "told")
-        words = "valgrind --tool=callgrind --callgrind-out-file=/dev/null"
         with open(counted, "w", encoding="utf-8") as it:
-            it.write(f"#!/bin/sh\nexec {words} '{os.path.realpath(program)}' \"$@\" 2>'{told}'\n")
+            it.write(f"#!/bin/sh\nexec {' '.join(VALGRIND)} '{os.path.realpath(program)}' \"$@\" 2>'{told}'\n")
         os.chmod(counted, 0o755)
         with Server(counted) as server:
             server.take(*transactions(CHILDREN, LONG_CONTENT, sets))
@@ -73,13 +81,54 @@ def figures(program):
     return {"a getData": read, "an INFORM": written}
 
 
+def counted_run(program, words):
+    """Returns how many instructions a run takes."""
+    ran = subprocess.run(VALGRIND + [program] + words, stdin=subprocess.DEVNULL, capture_output=True, encoding="ascii")
+    if ran.returncode:
+        sys.exit(f"{' '.join(words)}: status {ran.returncode} and {ran.stderr[-200:]!r}")
+    return int(COUNTED.search(ran.stderr).group(1))
+
+
+def of_engine(program, load):
+    """Returns how many instructions the measured part of a load takes."""
+    load.once(program)
+    return counted_run(program, load.words) - counted_run(program, ["made"] + load.words)
+
+
+def reads(piece):
+    return loads.Load(["reads", *TREE, CLIENTS, NUMBER // CLIENTS, piece], replies=NUMBER, events=0)
+
+
+def engine_figures(program):
+    """Returns what a transaction, a read and a forwarded write take of the engine alone."""
+    tree, wider = (of_engine(program, loads.informs(*it, 0)) for it in (TREE, MORE))
+    each = NUMBER // CLIENTS
+    alone = {
+        "a getData, in pieces of 26,000 bytes": reads(26_000),
+        "a getData, in pieces of 100 bytes": reads(100),
+        f"a getData of {CLIENTS:,} clients in turn": loads.turns(*TREE, CLIENTS, each, 0),
+        "the same, leaving a watch": loads.turns(*TREE, CLIENTS, each, 1),
+        "a forwarded setData": loads.writes("sets", *TREE, NUMBER, WRITERS, WRITERS),
+        "a forwarded create": loads.writes("creates", *TREE, NUMBER, WRITERS, WRITERS),
+    }
+    created = (MORE[0] - TREE[0]) * (1 + TREE[1])
+    found = {
+        "an INFORM of a setData": (of_engine(program, loads.informs(*TREE, NUMBER)) - tree) / NUMBER,
+        "an INFORM of a create": (wider - tree) / created,
+    }
+    found.update((what, of_engine(program, load) / NUMBER) for what, load in alone.items())
+    return found
+
+
 def main():
     parser = argparse.ArgumentParser(description=__doc__, formatter_class=argparse.RawDescriptionHelpFormatter)
     parser.add_argument("--before", metavar="OTHER")
+    parser.add_argument("--engine", action="store_true", help="the programs are executables of crates/load_runner")
     parser.add_argument("program")
     asked = parser.parse_args()
-    taken = figures(asked.program)
-    other = figures(asked.before) if asked.before else taken
+    figures_of = engine_figures if asked.engine else figures
+    taken = figures_of(asked.program)
+    other = figures_of(asked.before) if asked.before else taken
     for what, count in taken.items():
         beside = f", {count / other[what]:.3f} times the other's {other[what]:.0f}" if asked.before else ""
         print(f"{what}: {count:.0f} instructions{beside}")

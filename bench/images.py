@@ -4,19 +4,17 @@
     bench/images.py LOAD_RUNNER             as bench/images.py crates/load_runner/out/load_runner
 
 A node of an image has a path of 20 bytes, 16 bytes of data and the open ACL list, where nothing else is said. All runs take
-turns, several times, and the least processor time of each is taken; what a load prints must be what it asks for. What it
-takes to make the image's bytes is part of the time. Memory is the resident set at its greatest: behind an image there are
-two trees, the tree and its base. The exit status is 0 where every figure is met that has a bound.
+turns, several times, and the least processor time of each is taken; what a load prints must be what it asks for. The
+image's bytes are made before (bench/loads.py). Memory is what the resident set grew by at most: behind an image there
+are two trees, the tree and its base. The exit status is 0 where every figure is met that has a bound.
 """
 import argparse
-import pathlib
-import re
 import sys
-import tempfile
 
 sys.dont_write_bytecode = True
+import loads  # noqa: E402
 from clients import verdict  # noqa: E402
-from run import PIECES, TWICE, machine, timed  # noqa: E402
+from run import PIECES, TWICE, machine  # noqa: E402
 
 PARENTS, CHILDREN, CONTENT = 1000, 1000, 16
 PIECE, SHORT, WHOLE = 1 << 16, 1 << 10, (1 << 32) - 1
@@ -28,40 +26,29 @@ IMAGE, EPOCH = 2 << 32, 1 << 32
 FRESH = 3
 
 
-class Load:
-    """A load, what it must print, and what its runs took."""
+# An observer's packets to a leader that brings it up to date: OBSERVERINFO, ACKEPOCH, and two ACKs.
+ANSWERS = 4
 
-    def __init__(self, words, transactions, paths, zxid):
-        self.words = [str(it) for it in words]
-        self.wanted = f"transactions={transactions} replies=0 events=0 paths={paths} zxid=0x{zxid:x}\n"
-        self.seconds, self.memory = float("inf"), float("inf")
 
-    def once(self, program, room):
-        output = room / "load.output"
-        with open(output, "wb") as out:
-            status, _, used = timed([program] + self.words, out)
-        written = output.read_text(encoding="ascii", errors="replace")
-        if status or written != self.wanted:
-            sys.exit(f"{' '.join(self.words)}: status {status} and {written[:200]!r}, wanted {self.wanted}")
-        self.seconds = min(self.seconds, used.ru_utime + used.ru_stime)
-        self.memory = min(self.memory, used.ru_maxrss * 1024)
-
-    def row(self):
-        return f"{' '.join(self.words):<44}{self.seconds:>10.2f}{self.memory / 2**20:>8.0f}"
+def load_of(words, transactions, paths, zxid, leaders):
+    packets = ANSWERS * leaders
+    counts = {"transactions": transactions, "replies": 0, "events": 0, "paths": paths, "packets": packets, "bytes": 0}
+    return loads.Load(words, zxid=f"0x{zxid:x}", **counts)
 
 
 def image(parents, children=CHILDREN, content=CONTENT, piece=PIECE, checkpoints=0):
-    return Load(["images", parents, children, content, piece, checkpoints], 0, 1 + parents * (1 + children), IMAGE)
+    words = ["images", parents, children, content, piece, checkpoints]
+    return load_of(words, 0, 1 + parents * (1 + children), IMAGE, 1)
 
 
 def log(parents, kept, times):
     made = parents * (1 + LOGGED)
     left = kept if times else made
     # A primed engine's last zxid is 0 until a transaction comes.
-    return Load(["logs", parents, LOGGED, kept, times], made, FRESH + left, EPOCH + left if left else 0)
+    return load_of(["logs", parents, LOGGED, kept, times], made, FRESH + left, EPOCH + left if left else 0, times)
 
 
-def loads():
+def all_loads():
     made = CREATED * (1 + LOGGED)
     return {
         "nothing": image(0, 0),
@@ -104,12 +91,11 @@ def main():
     parser.add_argument("program")
     options = parser.parse_args()
     machine("before")
-    of = loads()
-    with tempfile.TemporaryDirectory(prefix="bench-") as name:
-        for _ in range(options.rounds):
-            for load in of.values():
-                load.once(options.program, pathlib.Path(name))
-    print(f"{'load':<44}{'processor':>10}{'MiB':>8}")
+    of = all_loads()
+    for _ in range(options.rounds):
+        for load in of.values():
+            load.once(options.program)
+    print(loads.heading())
     for load in of.values():
         print(load.row())
     passes = [verdict(*it) for it in figures(of)]

@@ -3,23 +3,24 @@
 
     bench/run.py PROGRAM [ARG ..]                    as bench/run.py crates/replay_runner/out/replay_runner
     bench/run.py PROGRAM --against OTHER             which of two programs replays the same scripts faster
-    bench/run.py --engine LOAD_RUNNER --against OTHER    the same of two executables of crates/load_runner
+    bench/run.py --engine LOAD_RUNNER                the engine alone, under loads of crates/load_runner
+    bench/run.py --engine LOAD_RUNNER --against OTHER    which of two such executables has the faster engine
 
-It makes scripts by bench/generate.py, and `PROGRAM ARG .. replay SCRIPT` runs on them. The number n of messages
-doubles until a run takes long enough. Three ratios are judged: 2n messages take at most 2.2 times as long as n; the same
-bytes in pieces of 100 bytes take at most 1.5 times as long as in one piece; and where long messages come in such
-pieces, messages twice as long take at most 2.2 times as long. Each time is the least of several runs, of which those
-that are compared take turns. Against another program the scripts, or the engine's load, are the same, both take turns, and
-the processor's times are compared: the ratio is 1 where both are as fast, and above 1 where PROGRAM is faster, which is what
-passes. A program that writes something else than it should, or takes two minutes, is refused.
-Times are of the whole program, so they hold reading the script's hexadecimal digits and printing the replies. The exit
-status is 0 where all pass.
+It makes scripts by bench/generate.py, and `PROGRAM ARG .. replay SCRIPT` runs on them. The number n of messages doubles
+until a run takes long enough. Three ratios are judged: 2n messages take at most 2.2 times as long as n; the same bytes
+in pieces of 100 bytes take at most 1.5 times as long as in one piece; and where long messages come in such pieces,
+messages twice as long take at most 2.2 times as long. Each time is the least of several runs, of which those that are
+compared take turns. An engine alone has to take 300,000 INFORMs a second. Against another program the scripts, or the
+engine's loads, are the same, both take turns, and the processor's times are compared: the ratio is 1 where both are as
+fast, and above 1 where PROGRAM is faster, which is what passes. A program that writes something else than it should, or
+takes two minutes, is refused. Times of a script are of the whole program, so they hold reading its hexadecimal digits
+and printing the replies. Those of an engine hold no making of messages (bench/loads.py). The exit status is 0 where all
+pass.
 """
 import argparse
 import hashlib
 import os
 import pathlib
-import re
 import subprocess
 import sys
 import tempfile
@@ -28,12 +29,19 @@ import time
 
 sys.dont_write_bytecode = True
 import generate  # noqa: E402
+import loads  # noqa: E402
 
 MOST_MESSAGES, MOST_SECONDS = 1 << 23, 120
 TWICE, PIECES, PIECE = 2.2, 1.5, 100
 LONG_ENTRIES = 50_000
-# The engine's load: nodes below the root, nodes below each of these, sets, and no reads.
-LOAD = ["100", "1000", "1000000", "0"]
+# The engine's tree: nodes below the root, and nodes below each of these.
+TREE = 100, 1000
+INFORMS, WRITES, READS = 1_000_000, 400_000, 400_000
+# The clients that write have so many requests under way in all.
+WRITERS, TOGETHER = 100, 100
+READERS, WATCHING = 1000, 10
+# How many INFORMs a second an engine takes at least.
+LEAST_INFORMS = 300_000
 
 
 def timed(words, out):
@@ -164,28 +172,41 @@ def against(options, room):
     return ratios
 
 
-def informs(program, room):
-    """Runs the engine's load once. Returns how many INFORMs it took, and how many in a second of the processor."""
-    output = room / "load.output"
-    with open(output, "wb") as out:
-        status, _, used = timed([program] + LOAD, out)
-    written = output.read_text(encoding="ascii", errors="replace")
-    found = re.match(r"transactions=(\d+) ", written)
-    if status or not found:
-        sys.exit(f"{program}: the load ended with status {status} and {written[:200]!r}")
-    return int(found.group(1)), int(found.group(1)) / (used.ru_utime + used.ru_stime)
+def engine_loads():
+    """Returns the loads of an engine: what each is of, how many there are, and the load."""
+    each = READS // READERS
+    return [
+        ("INFORMs", TREE[0] * (1 + TREE[1]) + INFORMS, loads.informs(*TREE, INFORMS)),
+        ("forwarded setDatas", WRITES, loads.writes("sets", *TREE, WRITES, WRITERS, TOGETHER)),
+        ("forwarded creates", WRITES, loads.writes("creates", *TREE, WRITES, WRITERS, TOGETHER)),
+        (f"getDatas of {READERS:,} clients in turn", READS, loads.turns(*TREE, READERS, each, 0)),
+        (f"the same, one of {WATCHING} watching", READS, loads.turns(*TREE, READERS, each, WATCHING)),
+    ]
 
 
-def engine_against(options, room):
-    """Gives both engines the same load, in turns. Returns how many times as fast the first is."""
-    programs, best = (options.program, options.against), [0.0, 0.0]
+def engine_rates(options):
+    """Gives the engines the same loads, in turns. Returns what each load is of, and each engine's number a second."""
+    programs = [options.program] + ([options.against] if options.against else [])
+    of = {program: engine_loads() for program in programs}
     for _ in range(options.rounds):
-        for place, program in enumerate(programs):
-            number, rate = informs(program, room)
-            best[place] = max(best[place], rate)
-    for program, rate in zip(programs, best):
-        print(f"{program}: {number:,} INFORMs, {rate:,.0f} a second of the processor", flush=True)
-    return [("the engine's INFORMs a second", best[0] / best[1])]
+        for rows in zip(*of.values()):
+            for program, (_, _, load) in zip(programs, rows):
+                load.once(program)
+    names = [what for what, _, _ in of[programs[0]]]
+    return [(what, [number / load.seconds for _, number, load in rows]) for what, rows in zip(names, zip(*of.values()))]
+
+
+def engines(options):
+    """Prints what the engine does in a second. Returns whether INFORMs are enough, or all as fast as the other's."""
+    found = engine_rates(options)
+    for what, rates in found:
+        beside = f" (the other {rates[1]:,.0f})" if options.against else ""
+        print(f"{what}: {rates[0]:,.0f} a second of the processor, {1e6 / rates[0]:.2f} us each{beside}", flush=True)
+    if options.against:
+        return are_faster([(what, rates[0] / rates[1]) for what, rates in found])
+    enough_informs = found[0][1][0] >= LEAST_INFORMS
+    print(f"{'PASS' if enough_informs else 'FAIL'}  INFORMs a second: at least {LEAST_INFORMS:,}", flush=True)
+    return enough_informs
 
 
 def are_faster(ratios):
@@ -223,13 +244,11 @@ def read_options():
     parser.add_argument("--seconds", type=float, default=1.2, help="how long a run of n messages takes at least (1.2)")
     parser.add_argument("--rounds", type=int, default=3, help="how often each script is run (3)")
     parser.add_argument("--against", metavar="OTHER", help="another program, to be compared with")
-    parser.add_argument("--engine", action="store_true", help="the two programs are executables of crates/load_runner")
+    parser.add_argument("--engine", action="store_true", help="the programs are executables of crates/load_runner")
     generate.options(parser)
     parser.add_argument("program")
     parser.add_argument("arguments", nargs="*")
     options = parser.parse_args()
-    if options.engine and not options.against:
-        parser.error("--engine wants --against")
     options.words = [options.program] + options.arguments
     return options
 
@@ -240,7 +259,7 @@ def main():
     with tempfile.TemporaryDirectory(prefix="bench-") as name:
         room = pathlib.Path(name)
         if options.engine:
-            passes = are_faster(engine_against(options, room))
+            passes = engines(options)
         else:
             print(f"{'':<34}{'messages':>10}{'seconds':>10}{'processor':>11}{'MiB':>8}{'messages/s':>14}")
             passes = are_faster(against(options, room)) if options.against else judged_alone(options, room)

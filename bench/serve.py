@@ -14,7 +14,7 @@ does nothing else. Clients are bench/load.c; both are compiled by `cc` into a fo
 - 8 clients with 100 getDatas of 100 bytes under way each, in a tree of 100,103 nodes;
 - the same with 10,000 watches set, alone and while mntr is asked 100 times a second;
 - what 5,000 idle connections take of memory and of a processor;
-- a backlog of 1,100,100 INFORMs over the leader's socket, against the engine alone, which makes their bytes too.
+- a backlog of 1,100,100 INFORMs over the leader's socket, against the engine alone.
 
 What is compared takes turns in one run, several times. Other work on the machine shows in all figures: the load stands
 at both ends, and each figure with the least and the greatest of its rounds. A bound is judged at the best round, since
@@ -36,7 +36,8 @@ import time
 
 sys.dont_write_bytecode = True
 import generate  # noqa: E402
-from run import machine, timed  # noqa: E402
+from loads import informs  # noqa: E402
+from run import machine  # noqa: E402
 
 HERE = pathlib.Path(__file__).resolve().parent
 PARENTS, CHILDREN, SETS, CONTENT, LONG_CONTENT = 100, 1000, 1_000_000, 16, 100
@@ -363,17 +364,15 @@ def idle(server, tools, options, figures):
 
 def backlog(options, figures):
     written, count = transactions(options.children, CONTENT, options.sets)
-    words = [options.engine, str(PARENTS), str(options.children), str(options.sets), "0"]
     for _ in range(options.rounds):
         with Server(options.program) as server:
             figures.add("INFORMs a second over the socket", count / server.take(written, count))
         if options.engine:
-            status, seconds, _ = timed(words, subprocess.DEVNULL)
-            if status:
-                sys.exit(f"{options.engine} has ended with status {status}")
-            figures.add("INFORMs a second of the engine alone", count / seconds)
+            load = informs(PARENTS, options.children, options.sets)
+            load.once(options.engine)
+            figures.add("INFORMs a second of the engine alone", count / load.took)
             over = figures.found["INFORMs a second over the socket"][-1]
-            figures.add("over the socket against the engine alone", over * seconds / count)
+            figures.add("over the socket against the engine alone", over * load.took / count)
     print(f"a backlog of {count:,} INFORMs, {len(written) / 1e6:.0f} MB")
     figures.tell("INFORMs a second over the socket", "{:,.0f}")
     if options.engine:

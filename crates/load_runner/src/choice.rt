@@ -2,8 +2,8 @@
 
 ghost use Rattle.std.specs.Prelude.{◌<◌, ◌≤◌};
 
-/// A fixed sequence of numbers (a linear congruential generator of 64 bits).
-#[derive(Debug, Drop)]
+/// A fixed sequence of numbers (a linear congruential generator of 64 bits). Each copy goes on by itself.
+#[derive(Clone, Copy)]
 pub struct Choice {
     state: u64,
 }

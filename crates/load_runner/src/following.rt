@@ -1,53 +1,36 @@
 //! A leader that replaces another one, and brings the observer up to date.
 
-ghost use Rattle.std.specs.Prelude.{◌≤◌};
-
 use crate::leading::{write_bare, write_leader_info};
-use crate::load::Load;
+use crate::supply::{Sender, Step, Supply};
 use anyhow::Result;
-use observer_core::Event;
 use quorum_packet::PacketKind;
 use std::alloc::Global;
-use values::Bytes;
 
 /// The zxid before the first transaction of the new leaders' epoch.
 pub const NEXT_EPOCH: i64 = 0x2_0000_0000;
 
-impl Load {
-    /// Feeds the leader's bytes in pieces.
-    pub fn follow_in_pieces(&mut self, alloc: Global, bytes: &[u8], piece: usize) -> Result<()>
-        requires { 1 ≤ piece }
-    {
-        for piece in bytes.chunks(piece) {
-            self.happen(alloc, &[Event::LeaderBytes(Bytes::new(piece))])?;
-        }
-        Ok(())
-    }
-
+impl Supply {
     // The leader sends a packet without data.
-    fn follow(&mut self, alloc: Global, kind: PacketKind, zxid: i64) -> Result<()> {
-        let mut packet = Vec::new(alloc);
-        write_bare(kind, zxid, &mut packet)?;
-        self.happen(alloc, &[Event::LeaderBytes(Bytes::new(packet.as_slice()))])
+    fn follow(&mut self, kind: PacketKind, zxid: i64) -> Result<()> {
+        let start = self.bytes.len();
+        write_bare(kind, zxid, &mut self.bytes)?;
+        self.send(Sender::Leader, start)
     }
 
     /// The leader leaves, another one connects and names its epoch, and sends the packet that brings the observer up to
     /// date.
     pub fn meet(&mut self, alloc: Global, kind: PacketKind, zxid: i64) -> Result<()> {
-        let mut naming = Vec::new(alloc);
-        write_leader_info(alloc, NEXT_EPOCH, &mut naming)?;
-        let events = [
-            Event::LeaderEnd,
-            Event::LeaderUp,
-            Event::LeaderBytes(Bytes::new(naming.as_slice())),
-        ];
-        self.happen(alloc, &events)?;
-        self.follow(alloc, kind, zxid)
+        self.add(Step::LeaderEnd)?;
+        self.add(Step::LeaderUp)?;
+        let start = self.bytes.len();
+        write_leader_info(alloc, NEXT_EPOCH, &mut self.bytes)?;
+        self.send(Sender::Leader, start)?;
+        self.follow(kind, zxid)
     }
 
     /// The observer is up to date.
-    pub fn serve(&mut self, alloc: Global) -> Result<()> {
-        self.follow(alloc, PacketKind::NewLeader, NEXT_EPOCH)?;
-        self.follow(alloc, PacketKind::UpToDate, NEXT_EPOCH)
+    pub fn serve(&mut self) -> Result<()> {
+        self.follow(PacketKind::NewLeader, NEXT_EPOCH)?;
+        self.follow(PacketKind::UpToDate, NEXT_EPOCH)
     }
 }

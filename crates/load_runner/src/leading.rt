@@ -81,9 +81,3 @@ pub fn write_node(path: &str, content: &[u8], out: &mut Vec<u8>) -> Result<()>
     };
     Ok(stat.write(out)?)
 }
-
-/// Appends the end of an image. An error may leave a prefix of it appended.
-pub fn write_end(out: &mut Vec<u8>) -> Result<()> {
-    put_string(out, "/")?;
-    Ok(put_string(out, "BenWasHere")?)
-}

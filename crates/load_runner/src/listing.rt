@@ -1,29 +1,22 @@
 //! Long lists of children.
 
-use crate::load::{CONNECTION, Load};
 use crate::messages::{CONTENT, parent_path, write_read};
+use crate::supply::{CONNECTION, Sender, Step, Supply};
 use anyhow::Result;
 use client_records::ReadKind;
 use std::alloc::Global;
 
-/// The sizes of the load.
-#[derive(Clone, Copy, Debug)]
-pub struct Listing {
-    /// The number of nodes created below one parent.
-    pub children: u32,
-    /// How often a client lists them.
-    pub times: u32,
-}
-
-impl Load {
-    /// Creates the children of one node, and then lists them.
-    pub fn list(&mut self, alloc: Global, sizes: &Listing) -> Result<()> {
-        self.make_tree(alloc, 1, sizes.children, CONTENT)?;
+impl Supply {
+    /// Creates so many children of one node; then a client lists them so many times.
+    pub fn list(&mut self, alloc: Global, children: u32, times: u32) -> Result<()> {
+        self.make_tree(alloc, 1, children, CONTENT)?;
+        self.measure_from_here(alloc);
         let path = parent_path(alloc, 0)?;
-        let mut frame = Vec::new(alloc);
-        write_read(alloc, ReadKind::GetChildren, &path, false, &mut frame)?;
-        for _ in 0..sizes.times {
-            self.feed_client(alloc, CONNECTION, frame.as_slice())?;
+        let start = self.bytes.len();
+        write_read(alloc, ReadKind::GetChildren, &path, false, &mut self.bytes)?;
+        let frame = self.since(start);
+        for _ in 0..times {
+            self.add(Step::Bytes(Sender::Client(CONNECTION), frame))?;
         }
         Ok(())
     }

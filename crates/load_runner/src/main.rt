@@ -1,11 +1,24 @@
-//! Feeds the engine with transactions and requests that are made in memory, and prints only counts, so that it can be
-//! timed.
+//! Feeds the engine with transactions and requests that are made in memory, and measures it.
+//!
+//! All messages are made before the measured part begins, so what this takes is what the engine takes, and the counting
+//! of its outputs. Standard output has only counts: of the leader's transactions, of answers and events for clients, of
+//! the tree's paths, the last zxid, of packets to the leader, and of the bytes for clients. Standard error has what the
+//! measured part took: nanoseconds by the clock (`took`) and of the processor (`processor`, up to the last tick), and
+//! by how many KiB the resident set grew at most (`memory`). That of the messages isn't in it.
 //!
 //! `load_runner PARENTS CHILDREN SETS EVERY`: the leader sends PARENTS creates below the root and CHILDREN below each
 //! of these, then SETS setDatas of children; a client reads a child at each EVERY of them, and never if EVERY is 0.
 //!
 //! `load_runner reads PARENTS CHILDREN READS TIMES PIECE`: after such creates, of 100 bytes of data each, a client
 //! makes READS getDatas of children, and sends all of them TIMES times, in pieces of PIECE bytes.
+//!
+//! `load_runner turns PARENTS CHILDREN CONNECTIONS TURNS EVERY`: after such creates, CONNECTIONS connections are
+//! opened; then each makes a getData of a child in its turn, TURNS times. One of EVERY connections watches what it
+//! reads, and none if EVERY is 0.
+//!
+//! `load_runner writes KIND PARENTS CHILDREN WRITES CONNECTIONS TOGETHER`: after creates as at first, CONNECTIONS
+//! connections are opened; then these send WRITES requests in turn, of `creates` of nodes or `sets` of children. The
+//! leader's transactions come when TOGETHER requests have gone to it, and answer them.
 //!
 //! `load_runner watches CONNECTIONS WATCHES NODES SETS OTHERS`: OTHERS watches are left, and CONNECTIONS connections
 //! opened, each of which leaves WATCHES watches; then each of these connections watches the same NODES nodes, and the
@@ -27,10 +40,19 @@
 //! those below the root with CONTENT bytes of data, TIMES events come, each with COUNT transactions of the leader
 //! (`creates` or `sets`) or reads of a client (`gets` or `names`). The engine has WORKERS workers and batches of up to
 //! LENGTH transactions, and spreads only batches with LEAST bytes of data or more and runs of LEAST reads or more; with
-//! 0 workers it does all on the calling thread. Standard error has the nanoseconds that it took for these events.
+//! 0 workers it does all on the calling thread. Of these events `took` has what the engine took, and nothing else is
+//! measured.
+//!
+//! Where creates or connections come first and something happens after them (`reads`, `turns`, `writes`, `lists`,
+//! `spread`), that is the measured part. In the other loads all is measured.
+//!
+//! `load_runner made ..` does the same but for the measured part. The difference is what this takes, by whatever means
+//! it is counted.
 #![tactic(auto)]
 
 mod choice;
+mod counts;
+mod figures;
 mod following;
 mod images;
 mod leading;
@@ -42,238 +64,167 @@ mod pings;
 mod reads;
 mod sets;
 mod spread;
+mod supply;
+mod tree;
+mod turns;
+mod usage;
 mod watches;
+mod words;
+mod writes;
 
-use anyhow::{Context, Result};
+use anyhow::{Result, bail};
 use batcher::{Limits, SpreadThreshold};
-use images::Images;
-use listing::Listing;
+use counts::Counts;
+use figures::{Figures, measured};
 use load::Load;
-use logs::Logs;
 use observer_core::default_limits;
-use pings::Pings;
-use reads::Reads;
-use sets::Sets;
-use spread::{Spread, kind_of};
 use std::alloc::{AllocError, Global};
 use std::env;
-use std::rt::Clock;
+use std::rt::{Clock, Files};
 use std::thread::Threads;
-use std::time::Duration;
-use watches::Watched;
-
-const USAGE: &str =
-    "wanted: PARENTS CHILDREN SETS EVERY, or reads PARENTS CHILDREN READS TIMES PIECE, \
-    or watches CONNECTIONS WATCHES NODES SETS OTHERS, or lists CHILDREN TIMES, or pings CONNECTIONS, \
-    or images PARENTS CHILDREN CONTENT PIECE CHECKPOINTS, or logs PARENTS CHILDREN KEPT TIMES, \
-    or spread KIND PARENTS CHILDREN CONTENT COUNT TIMES WORKERS LENGTH LEAST";
+use supply::Supply;
+use words::{begins_with, make, numbers};
 
 // The most groups of a batch.
 const MOST_GROUPS: usize = 256;
 
 // The words after the program's name.
-fn words(rt: &HostRuntime) -> Result<Vec<String>> {
-    let mut words = Vec::new(rt.alloc());
+fn given_words(rt: &HostRuntime) -> Result<Vec<String>> {
+    let mut given = Vec::new(rt.alloc());
     for word in env::args(rt)?.skip(1) {
-        words.push(word).map_err(AllocError::from)?;
+        given.push(word).map_err(AllocError::from)?;
     }
-    Ok(words)
+    Ok(given)
 }
 
-// One of the numbers of the command line.
-fn number(words: &[String], place: usize) -> Result<u32> {
-    let text = words.get(place).context(USAGE)?;
-    text.as_str().parse::<u32>().context("no number of 32 bits")
-}
-
-fn sets_of(words: &[String]) -> Result<Sets> {
-    Ok(Sets {
-        parents: number(words, 0)?,
-        children: number(words, 1)?,
-        sets: number(words, 2)?,
-        every: number(words, 3)?,
-    })
-}
-
-fn reads_of(words: &[String]) -> Result<Reads> {
-    Ok(Reads {
-        parents: number(words, 1)?,
-        children: number(words, 2)?,
-        reads: number(words, 3)?,
-        times: number(words, 4)?,
-        piece: number(words, 5)?,
-    })
-}
-
-fn watched_of(words: &[String]) -> Result<Watched> {
-    Ok(Watched {
-        connections: number(words, 1)?,
-        watches: number(words, 2)?,
-        nodes: number(words, 3)?,
-        sets: number(words, 4)?,
-        others: number(words, 5)?,
-    })
-}
-
-fn listing_of(words: &[String]) -> Result<Listing> {
-    Ok(Listing {
-        children: number(words, 1)?,
-        times: number(words, 2)?,
-    })
-}
-
-fn pings_of(words: &[String]) -> Result<Pings> {
-    Ok(Pings {
-        connections: number(words, 1)?,
-    })
-}
-
-fn images_of(words: &[String]) -> Result<Images> {
-    Ok(Images {
-        parents: number(words, 1)?,
-        children: number(words, 2)?,
-        content: number(words, 3)?,
-        piece: number(words, 4)?,
-        checkpoints: number(words, 5)?,
-    })
-}
-
-fn logs_of(words: &[String]) -> Result<Logs> {
-    Ok(Logs {
-        parents: number(words, 1)?,
-        children: number(words, 2)?,
-        kept: number(words, 3)?,
-        times: number(words, 4)?,
-    })
-}
-
-fn spread_of(words: &[String]) -> Result<Spread> {
-    let word = words.get(1).context(USAGE)?.as_str();
-    Ok(Spread {
-        kind: kind_of(word).context(USAGE)?,
-        parents: number(words, 2)?,
-        children: number(words, 3)?,
-        content: number(words, 4)?,
-        count: number(words, 5)?,
-        times: number(words, 6)?,
-    })
-}
-
-// Whether the words ask for work that is spread over workers.
-fn is_spread(words: &[String]) -> bool {
-    match words.first() {
-        None => false,
-        Some(word) => word.as_str() == "spread",
+// The engine's limits, and the least work that is spread over workers: for a `spread` those that it names, with one
+// worker in place of none.
+fn limits_of(alloc: Global, words: &[String]) -> Result<(Limits, SpreadThreshold)> {
+    if !begins_with(words, "spread") {
+        return Ok((default_limits(), SpreadThreshold::ALWAYS));
     }
-}
-
-// The engine's limits: for a `spread` those that it names, with one worker in place of none.
-fn limits_of(words: &[String]) -> Result<Limits> {
-    if !is_spread(words) {
-        return Ok(default_limits());
-    }
-    let workers = number(words, 7)?.max(1) as usize;
-    let length = number(words, 8)? as usize;
-    Ok(Limits::new(workers, length, MOST_GROUPS)?)
-}
-
-// The least work that is spread over workers: of any size, but for a `spread`.
-fn threshold_of(words: &[String]) -> Result<SpreadThreshold> {
-    if !is_spread(words) {
-        return Ok(SpreadThreshold::ALWAYS);
-    }
-    let least = number(words, 9)? as usize;
-    Ok(SpreadThreshold {
+    let given = numbers(alloc, words, 7)?;
+    let &[workers, length, least] = given.as_slice() else {
+        bail!("a spread has three numbers too few");
+    };
+    let limits = Limits::new(workers.max(1) as usize, length as usize, MOST_GROUPS)?;
+    let threshold = SpreadThreshold {
         transactions: 0,
-        bytes: least,
-        reads: least,
-    })
+        bytes: least as usize,
+        reads: least as usize,
+    };
+    Ok((limits, threshold))
 }
 
-// Puts the load on the engine that the words ask for.
-fn run<R: Threads + Clock + Sync>(
+// Feeds the steps of the measured part, and measures that.
+fn run<R: Threads + Clock + Files + Sync>(
     rt: &R,
     alloc: Global,
     load: &mut Load,
+    supply: &Supply,
     words: &[String],
-) -> Result<()> {
-    let word = words.first().context(USAGE)?.as_str();
-    if word == "spread" {
-        return load.spread(rt, alloc, &spread_of(words)?, number(words, 7)? > 0);
+) -> Result<Figures> {
+    if !begins_with(words, "spread") {
+        return measured(rt, alloc, load, supply);
     }
-    if word == "reads" {
-        return load.read(alloc, &reads_of(words)?);
-    }
-    if word == "watches" {
-        return load.watch(alloc, &watched_of(words)?);
-    }
-    if word == "lists" {
-        return load.list(alloc, &listing_of(words)?);
-    }
-    if word == "pings" {
-        return load.ping(alloc, &pings_of(words)?);
-    }
-    if word == "images" {
-        return load.load_image(alloc, &images_of(words)?);
-    }
-    if word == "logs" {
-        return load.undo(alloc, &logs_of(words)?);
-    }
-    load.set(alloc, &sets_of(words)?)
+    let is_spread = numbers(alloc, words, 7)?.first() != Some(&0);
+    let took = load.play_spread(rt, alloc, supply, is_spread)?;
+    Ok(Figures {
+        took,
+        processor: None,
+        memory: None,
+    })
 }
 
-// The counts of messages sent and answers got.
-struct Counts {
+// Tells what the measured part took, as far as the system tells that.
+fn tell(rt: &HostRuntime, figures: &Figures) -> Result<()> {
+    let took = figures.took.as_nanos();
+    eprint!(rt; "took={took}")?;
+    if let Some(processor) = figures.processor {
+        eprint!(rt; " processor={processor}")?;
+    }
+    if let Some(memory) = figures.memory {
+        eprint!(rt; " memory={memory}")?;
+    }
+    Ok(eprintln!(rt;)?)
+}
+
+// What is told of a load.
+struct Told {
     transactions: u64,
-    replies: u64,
-    events: u64,
+    counts: Counts,
     paths: usize,
     zxid: i64,
-    took: Duration,
+    // Nothing, if the measured part was only made.
+    figures: Option<Figures>,
 }
 
-// Puts the load on the engine, and counts.
-fn run_and_count<R: Threads + Clock + Sync>(
+// Puts the load on the engine; the measured part may only be made.
+fn put<R: Threads + Clock + Files + Sync>(
     rt: &R,
     alloc: Global,
     load: &mut Load,
+    supply: &Supply,
     words: &[String],
-) -> Result<Counts> {
-    run(rt, alloc, load, words)?;
-    Ok(Counts {
-        transactions: load.transactions,
-        replies: load.replies,
-        events: load.events,
+    is_only_made: bool,
+) -> Result<Told> {
+    load.play(alloc, supply, supply.before.as_slice())?;
+    let (transactions, figures) = if is_only_made {
+        (supply.transactions_before, None)
+    } else {
+        let figures = run(rt, alloc, load, supply, words)?;
+        (supply.transactions, Some(figures))
+    };
+    Ok(Told {
+        transactions,
+        counts: load.counts,
         paths: load.engine.tree().paths(),
         zxid: load.engine.learner().last_zxid(),
-        took: load.took,
+        figures,
     })
 }
 
 // The load is dropped at the single end of this function, since each drop of it is proved anew.
-fn run_load<R: Threads + Clock + Sync>(rt: &R, alloc: Global, words: &[String]) -> Result<Counts> {
-    let limits = limits_of(words)?;
-    let threshold = threshold_of(words)?;
+fn run_load<R: Threads + Clock + Files + Sync>(
+    rt: &R,
+    alloc: Global,
+    supply: &Supply,
+    words: &[String],
+    is_only_made: bool,
+) -> Result<Told> {
+    let (limits, threshold) = limits_of(alloc, words)?;
     let mut load = Load::new(alloc, limits, threshold)?;
-    run_and_count(rt, alloc, &mut load, words)
+    put(rt, alloc, &mut load, supply, words, is_only_made)
 }
 
 fn main(rt: HostRuntime) -> Result<()> {
-    let words = words(&rt)?;
-    let Counts {
+    let given = given_words(&rt)?;
+    let is_only_made = begins_with(given.as_slice(), "made");
+    let words = given
+        .as_slice()
+        .get(usize::from(is_only_made)..)
+        .unwrap_or(&[]);
+    let mut supply = Supply::new(rt.alloc());
+    make(rt.alloc(), words, &mut supply)?;
+    let Told {
         transactions,
-        replies,
-        events,
+        counts,
         paths,
         zxid,
-        took,
-    } = run_load(&rt, rt.alloc(), words.as_slice())?;
+        figures,
+    } = run_load(&rt, rt.alloc(), &supply, words, is_only_made)?;
+    let Counts {
+        replies,
+        events,
+        packets,
+        bytes,
+    } = counts;
     println!(rt;
-        "transactions={transactions} replies={replies} events={events} paths={paths} zxid=0x{zxid:x}"
+        "transactions={transactions} replies={replies} events={events} paths={paths} zxid=0x{zxid:x} \
+        packets={packets} bytes={bytes}"
     )?;
-    if is_spread(words.as_slice()) {
-        let nanoseconds = took.as_nanos();
-        eprintln!(rt; "took={nanoseconds}")?;
+    match figures {
+        None => Ok(()),
+        Some(figures) => tell(&rt, &figures),
     }
-    Ok(())
 }

@@ -6,8 +6,8 @@ ghost use Rattle.txn_codec.specs.Spelling.{body_format};
 use anyhow::{Result, ensure};
 use client_records::codes::PING_XID;
 use client_records::{ConnectRequest, PathAndWatch, ReadKind, RequestKind};
-use jute::codes::open_list;
-use jute::{RequestHeader, WriteRecord, put_bytes};
+use jute::codes::{ALL, open_list};
+use jute::{RequestHeader, WriteRecord, put_bytes, put_int, put_string};
 use paths_and_acls::Path;
 use quorum_packet::{PacketKind, QuorumPacket, write_packet};
 use std::alloc::Global;
@@ -104,13 +104,6 @@ pub fn set_data(alloc: Global, path: Path, content: &[u8]) -> Result<Body>
     })))
 }
 
-/// A createSession.
-pub fn create_session(time_out: i32) -> Body
-    ensures { body_format.Writable result }
-{
-    Body::CreateSession(time_out)
-}
-
 /// Appends the packet by which a leader sends a transaction. An error may leave a prefix of it appended.
 #[tactic(auto, unfolding(quorum_packet::specs::Packet::packet_format))]
 pub fn write_inform(alloc: Global, txn: &Txn, out: &mut Vec<u8>) -> Result<()>
@@ -151,6 +144,68 @@ pub fn write_read(
     };
     request.write(&mut frame)?;
     ensure!(frame.len() <= REQUEST_LIMIT, "a request is too long");
+    Ok(put_bytes(out, frame.as_slice())?)
+}
+
+// Begins the frame of a write: its header, the path and the data.
+#[tactic(auto, unfolding(jute::specs::Records::request_header))]
+fn begin_write(
+    alloc: Global,
+    xid: i32,
+    kind: RequestKind,
+    path: &Path,
+    content: &[u8],
+) -> Result<Vec<u8>>
+    requires { length path.now ≤ PATH_LIMIT }
+{
+    ensure!(content.len() <= CONTENT_LIMIT, "a node's data is too long");
+    let mut frame = Vec::new(alloc);
+    let header = RequestHeader {
+        xid,
+        kind: kind.code(),
+    };
+    header.write(&mut frame)?;
+    put_string(&mut frame, path.as_str())?;
+    put_bytes(&mut frame, content)?;
+    Ok(frame)
+}
+
+/// Appends the frame by which a client creates a node that every client may change: a CreateRequest of zookeeper.jute.
+/// An error may leave a prefix of it appended.
+pub fn write_create(
+    alloc: Global,
+    xid: i32,
+    path: &Path,
+    content: &[u8],
+    out: &mut Vec<u8>,
+) -> Result<()>
+    requires { length path.now ≤ PATH_LIMIT }
+{
+    let mut frame = begin_write(alloc, xid, RequestKind::Create, path, content)?;
+    // A list of one entry, and no flags.
+    put_int(&mut frame, 1)?;
+    put_int(&mut frame, ALL)?;
+    put_string(&mut frame, "world")?;
+    put_string(&mut frame, "anyone")?;
+    put_int(&mut frame, 0)?;
+    ensure!(frame.len() <= FRAME_LIMIT, "a request is too long");
+    Ok(put_bytes(out, frame.as_slice())?)
+}
+
+/// Appends the frame by which a client sets a node's data, whatever its version: a SetDataRequest of zookeeper.jute. An
+/// error may leave a prefix of it appended.
+pub fn write_set_data(
+    alloc: Global,
+    xid: i32,
+    path: &Path,
+    content: &[u8],
+    out: &mut Vec<u8>,
+) -> Result<()>
+    requires { length path.now ≤ PATH_LIMIT }
+{
+    let mut frame = begin_write(alloc, xid, RequestKind::SetData, path, content)?;
+    put_int(&mut frame, -1)?;
+    ensure!(frame.len() <= FRAME_LIMIT, "a request is too long");
     Ok(put_bytes(out, frame.as_slice())?)
 }
 

@@ -1,28 +1,24 @@
 //! Connections that send a frame of the greatest length.
 
-use crate::load::Load;
+ghost use Rattle.std.specs.Prelude.{◌≤◌};
+
 use crate::messages::write_long_ping;
-use crate::watches::FIRST;
+use crate::supply::{Sender, Supply, opened};
 use anyhow::Result;
 use std::alloc::Global;
 
-/// The number of connections opened.
-#[derive(Clone, Copy, Debug)]
-pub struct Pings {
-    pub connections: u32,
-}
+// The length of the pieces in which the frame comes, of which there are two.
+const HALF: usize = 524_290;
 
-impl Load {
-    /// Opens connections, each of which sends one long frame in two pieces.
-    pub fn ping(&mut self, alloc: Global, sizes: &Pings) -> Result<()> {
-        let mut frame = Vec::new(alloc);
-        write_long_ping(alloc, &mut frame)?;
-        let (first, second) = frame.as_slice().split_at(frame.len() / 2);
-        for connection in 0..sizes.connections {
-            let connection = u64::from(connection) + FIRST;
-            self.open(alloc, connection)?;
-            self.feed_client(alloc, connection, first)?;
-            self.feed_client(alloc, connection, second)?;
+impl Supply {
+    /// Opens so many connections, each of which then sends one long frame in two pieces.
+    pub fn ping(&mut self, alloc: Global, connections: u32) -> Result<()> {
+        self.open_all(alloc, connections)?;
+        let start = self.bytes.len();
+        write_long_ping(alloc, &mut self.bytes)?;
+        let frame = self.since(start);
+        for place in 0..connections {
+            self.send_in_pieces(Sender::Client(opened(place)), frame, HALF)?;
         }
         Ok(())
     }

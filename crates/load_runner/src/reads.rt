@@ -3,14 +3,14 @@
 ghost use Rattle.std.specs.Prelude.{◌≤◌};
 
 use crate::choice::Choice;
-use crate::load::{CONNECTION, Load};
 use crate::messages::{LONG_CONTENT, child_path, write_read};
+use crate::supply::{CONNECTION, Sender, Supply};
 use anyhow::{Result, ensure};
 use client_records::ReadKind;
 use std::alloc::Global;
 
 /// The sizes of the load.
-#[derive(Clone, Copy, Debug)]
+#[derive(Drop)]
 pub struct Reads {
     /// The number of nodes created below the root.
     pub parents: u32,
@@ -24,43 +24,35 @@ pub struct Reads {
     pub piece: u32,
 }
 
-// The frames that read the data of children, in a mixed order.
-fn frames_of_reads(alloc: Global, sizes: &Reads) -> Result<Vec<u8>>
-    requires parents { 1 ≤ sizes.now.parents }
-    requires children { 1 ≤ sizes.now.children }
-{
-    let mut choice = Choice::new();
-    let mut frames = Vec::new(alloc);
-    for _ in 0..sizes.reads {
-        let parent = choice.below(sizes.parents);
-        let child = choice.below(sizes.children);
-        let path = child_path(alloc, parent, child)?;
-        write_read(alloc, ReadKind::GetData, &path, false, &mut frames)?;
-    }
-    Ok(frames)
-}
-
-impl Load {
-    // Feeds the client's bytes in pieces.
-    fn feed_in_pieces(&mut self, alloc: Global, bytes: &[u8], piece: usize) -> Result<()>
-        requires { 1 ≤ piece }
+impl Supply {
+    // Writes the frames that read the data of children, in a mixed order.
+    fn write_reads(&mut self, alloc: Global, sizes: &Reads) -> Result<()>
+        requires parents { 1 ≤ sizes.now.parents }
+        requires children { 1 ≤ sizes.now.children }
     {
-        for piece in bytes.chunks(piece) {
-            self.feed_client(alloc, CONNECTION, piece)?;
+        let mut choice = Choice::new();
+        for _ in 0..sizes.reads {
+            let parent = choice.below(sizes.parents);
+            let child = choice.below(sizes.children);
+            let path = child_path(alloc, parent, child)?;
+            write_read(alloc, ReadKind::GetData, &path, false, &mut self.bytes)?;
         }
         Ok(())
     }
 
-    /// Creates the nodes with 100 bytes of data each, and then reads children.
+    /// Creates the nodes with 100 bytes of data each; then a client reads children.
     pub fn read(&mut self, alloc: Global, sizes: &Reads) -> Result<()> {
         ensure!(
             sizes.parents > 0 && sizes.children > 0 && sizes.piece > 0,
             "there is nothing to be read"
         );
         self.make_tree(alloc, sizes.parents, sizes.children, LONG_CONTENT)?;
-        let frames = frames_of_reads(alloc, sizes)?;
+        self.measure_from_here(alloc);
+        let start = self.bytes.len();
+        self.write_reads(alloc, sizes)?;
+        let frames = self.since(start);
         for _ in 0..sizes.times {
-            self.feed_in_pieces(alloc, frames.as_slice(), sizes.piece as usize)?;
+            self.send_in_pieces(Sender::Client(CONNECTION), frames, sizes.piece as usize)?;
         }
         Ok(())
     }

@@ -3,15 +3,15 @@
 ghost use Rattle.std.specs.Prelude.{◌≤◌, length};
 
 use crate::choice::Choice;
-use crate::load::{CONNECTION, Load};
 use crate::messages::{CONTENT, PATH_LIMIT, child_path, set_data, write_read};
+use crate::supply::{CONNECTION, Sender, Supply};
 use anyhow::Result;
 use client_records::ReadKind;
 use paths_and_acls::Path;
 use std::alloc::Global;
 
 /// The sizes of the load.
-#[derive(Clone, Copy, Debug)]
+#[derive(Drop)]
 pub struct Sets {
     /// The number of nodes created below the root.
     pub parents: u32,
@@ -23,33 +23,22 @@ pub struct Sets {
     pub every: u32,
 }
 
-// Whether a node is read before the set with this number.
-fn is_read(every: u32, set: u32) -> bool {
-    every != 0 && set % every == 0
+/// Whether this number is one of every so many; 0 means none.
+pub fn is_due(every: u32, number: u32) -> bool {
+    every != 0 && number % every == 0
 }
 
-impl Load {
-    // The client reads a node's data.
-    fn ask(&mut self, alloc: Global, path: &Path) -> Result<()>
+impl Supply {
+    /// A client reads a node's data, and may watch it.
+    pub fn get(&mut self, alloc: Global, connection: u64, path: &Path, watch: bool) -> Result<()>
         requires { length path.now ≤ PATH_LIMIT }
     {
-        let mut frame = Vec::new(alloc);
-        write_read(alloc, ReadKind::GetData, path, false, &mut frame)?;
-        self.feed_client(alloc, CONNECTION, frame.as_slice())
+        let start = self.bytes.len();
+        write_read(alloc, ReadKind::GetData, path, watch, &mut self.bytes)?;
+        self.send(Sender::Client(connection), start)
     }
 
-    // Sets a node's data, and may read it before.
-    fn set_one(&mut self, alloc: Global, path: Path, is_read: bool) -> Result<()>
-        requires { length path ≤ PATH_LIMIT }
-    {
-        if is_read {
-            self.ask(alloc, &path)?;
-        }
-        let body = set_data(alloc, path, CONTENT)?;
-        self.tell(alloc, body)
-    }
-
-    // Sets the data of children, and reads some of them.
+    // Sets the data of children, and reads some of them before.
     fn set_children(&mut self, alloc: Global, sizes: &Sets) -> Result<()>
         requires parents { 1 ≤ sizes.now.parents }
         requires children { 1 ≤ sizes.now.children }
@@ -59,7 +48,11 @@ impl Load {
             let parent = choice.below(sizes.parents);
             let child = choice.below(sizes.children);
             let path = child_path(alloc, parent, child)?;
-            self.set_one(alloc, path, is_read(sizes.every, set))?;
+            if is_due(sizes.every, set) {
+                self.get(alloc, CONNECTION, &path, false)?;
+            }
+            let body = set_data(alloc, path, CONTENT)?;
+            self.tell(alloc, body)?;
         }
         Ok(())
     }

@@ -2,18 +2,14 @@
 
 ghost use Rattle.std.specs.Prelude.{◌≤◌};
 
-use crate::load::{CONNECTION, Load, add_count};
 use crate::messages::{CONTENT, child_path, create, parent_path, set_data, write_read};
+use crate::supply::{CONNECTION, SESSION, Sender, Step, Supply};
 use anyhow::{Result, ensure};
 use client_records::ReadKind;
-use observer_core::Event;
 use std::alloc::Global;
-use std::rt::Clock;
-use std::thread::Threads;
-use values::Bytes;
 
-/// The work of an event.
-#[derive(Clone, Copy, Debug)]
+/// The work of a load.
+#[derive(Drop)]
 pub enum Kind {
     /// Creates of nodes below each parent in turn.
     Creates,
@@ -43,7 +39,7 @@ pub fn kind_of(word: &str) -> Option<Kind> {
 }
 
 /// The sizes of the load.
-#[derive(Clone, Copy, Debug)]
+#[derive(Drop)]
 pub struct Spread {
     pub kind: Kind,
     /// The number of nodes below the root.
@@ -58,94 +54,72 @@ pub struct Spread {
     pub times: u32,
 }
 
-impl Load {
-    // The leader's bytes for the transactions of an event, after this many of such events.
-    fn write_txns(&mut self, alloc: Global, sizes: &Spread, turn: u32) -> Result<()>
+impl Supply {
+    // The leader sends the transactions of an event, after this many of such events.
+    fn send_txns(&mut self, alloc: Global, sizes: &Spread, content: &[u8], turn: u32) -> Result<()>
         requires { 1 ≤ sizes.now.parents }
     {
-        let content = Vec::from_elem(alloc, b'x', sizes.content as usize)?;
-        self.clear_message();
+        let start = self.bytes.len();
         for number in 0..sizes.count {
             let parent = number % sizes.parents;
             let body = match sizes.kind {
                 Kind::Creates => {
                     let child = turn.wrapping_mul(sizes.count).wrapping_add(number);
                     let path = child_path(alloc, parent, child)?;
-                    create(alloc, path, content.as_slice())?
+                    create(alloc, path, content)?
                 }
-                _ => set_data(alloc, parent_path(alloc, parent)?, content.as_slice())?,
+                _ => set_data(alloc, parent_path(alloc, parent)?, content)?,
             };
-            self.add_inform(alloc, body)?;
+            self.write_txn(alloc, SESSION, 1, body)?;
+        }
+        self.send(Sender::Leader, start)
+    }
+
+    // The leader sends the transactions of all events.
+    fn send_all_txns(&mut self, alloc: Global, sizes: &Spread, content: &[u8]) -> Result<()>
+        requires { 1 ≤ sizes.now.parents }
+    {
+        for turn in 0..sizes.times {
+            self.send_txns(alloc, sizes, content, turn)?;
         }
         Ok(())
     }
 
-    // The leader sends the transactions of all events.
-    fn send_txns<R: Threads + Clock + Sync>(
-        &mut self,
-        rt: &R,
-        alloc: Global,
-        sizes: &Spread,
-        is_spread: bool,
-    ) -> Result<()>
+    // Writes the frames that read the parents in turn.
+    fn write_gets(&mut self, alloc: Global, request: ReadKind, sizes: &Spread) -> Result<()>
         requires { 1 ≤ sizes.now.parents }
     {
-        for turn in 0..sizes.times {
-            self.write_txns(alloc, sizes, turn)?;
-            self.send_message(rt, alloc, is_spread)?;
+        for number in 0..sizes.count {
+            let path = parent_path(alloc, number % sizes.parents)?;
+            write_read(alloc, request, &path, false, &mut self.bytes)?;
         }
         Ok(())
     }
 
     // A client sends the reads of all events.
-    fn send_reads<R: Threads + Clock + Sync>(
-        &mut self,
-        rt: &R,
-        alloc: Global,
-        request: ReadKind,
-        sizes: &Spread,
-        is_spread: bool,
-    ) -> Result<()>
+    fn send_gets(&mut self, alloc: Global, request: ReadKind, sizes: &Spread) -> Result<()>
         requires { 1 ≤ sizes.now.parents }
     {
-        let frames = frames_of_reads(alloc, request, sizes)?;
+        let start = self.bytes.len();
+        self.write_gets(alloc, request, sizes)?;
+        let frames = self.since(start);
         for _ in 0..sizes.times {
-            let events = [Event::ClientBytes(CONNECTION, Bytes::new(frames.as_slice()))];
-            self.time_feed(rt, alloc, &events, is_spread)?;
-            let sent = self.take_sent()?;
-            self.replies = add_count(self.replies, sent)?;
+            self.add(Step::Bytes(Sender::Client(CONNECTION), frames))?;
         }
         Ok(())
     }
 
-    /// Creates the nodes, and then feeds the events; `is_spread` says whether the engine may use its workers.
-    pub fn spread<R: Threads + Clock + Sync>(
-        &mut self,
-        rt: &R,
-        alloc: Global,
-        sizes: &Spread,
-        is_spread: bool,
-    ) -> Result<()> {
+    /// Creates the nodes; then the events come.
+    pub fn spread(&mut self, alloc: Global, sizes: &Spread) -> Result<()> {
         ensure!(sizes.parents > 0, "there is no node");
         let content = Vec::from_elem(alloc, b'x', sizes.content as usize)?;
         self.make_parents(alloc, sizes.parents, content.as_slice())?;
-        self.make_children_of_all(alloc, sizes.parents, sizes.children, CONTENT)?;
+        self.make_children(alloc, sizes.parents, sizes.children, CONTENT)?;
+        self.measure_from_here(alloc);
         match sizes.kind {
-            Kind::Creates | Kind::Sets => self.send_txns(rt, alloc, sizes, is_spread),
-            Kind::Reads => self.send_reads(rt, alloc, ReadKind::GetData, sizes, is_spread),
-            Kind::Lists => self.send_reads(rt, alloc, ReadKind::GetChildren, sizes, is_spread),
+            Kind::Creates | Kind::Sets => self.send_all_txns(alloc, sizes, content.as_slice()),
+            Kind::Reads => self.send_gets(alloc, ReadKind::GetData, sizes),
+            Kind::Lists => self.send_gets(alloc, ReadKind::GetChildren, sizes),
         }
     }
-}
-
-// The frames that read the parents in turn.
-fn frames_of_reads(alloc: Global, request: ReadKind, sizes: &Spread) -> Result<Vec<u8>>
-    requires { 1 ≤ sizes.now.parents }
-{
-    let mut frames = Vec::new(alloc);
-    for number in 0..sizes.count {
-        let path = parent_path(alloc, number % sizes.parents)?;
-        write_read(alloc, request, &path, false, &mut frames)?;
-    }
-    Ok(frames)
 }
