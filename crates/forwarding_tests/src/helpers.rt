@@ -1,7 +1,7 @@
 //! The steps of a test, and what each tells, in words.
 //!
-//! The calls are in functions without contracts, so no proof computes what a step tells. A test is a table of steps: one
-//! loop asserts for all of them, and is proved once.
+//! The calls are in functions without contracts, so no proof computes what a step tells. A test is a table of steps:
+//! one loop asserts for all of them, and is proved once.
 
 ghost use Rattle.std.specs.Prelude.{Some, None, if◌then◌else◌};
 ghost use Rattle.std.specs.Ordering.{int_eq};

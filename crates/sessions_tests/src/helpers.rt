@@ -1,7 +1,7 @@
 //! The steps of a test, and what each tells, in words.
 //!
-//! The calls are in functions without contracts, so no proof computes what a step tells. A test is a table of steps: one
-//! loop asserts for all of them, and one function owns the sessions.
+//! The calls are in functions without contracts, so no proof computes what a step tells. A test is a table of steps:
+//! one loop asserts for all of them, and one function owns the sessions.
 
 use sessions::{Connected, Passwords, SessionRequest, SessionResponse, Sessions};
 use settings::{FirstCounter, Secret, ServerId, TimeoutBounds};
