@@ -1,0 +1,2 @@
+-- Places in a list, and in what a function makes of it.
+pub mod Places
