@@ -3,7 +3,11 @@
 ghost use Rattle.std.specs.Prelude.{◌≡◌, ◌++◌, [], ◌↔◌, OnOk, OnErr, IfOk, IsTrue, not, map, String, string_bytes, codes};
 ghost use Rattle.std.specs.Option.{option_copied, option_map};
 ghost use Rattle.std.specs.FinMap as finmap;
+ghost use Rattle.std.specs.List.{IsDistinct};
+ghost use Rattle.std.specs.List.Sorted.{IsPermutation};
+ghost use Rattle.std.specs.Map.{keys_of};
 ghost use Rattle.std.specs.Map.Iter.{ShowsInOrder, deref_pair};
+ghost use Rattle.std.specs.Ordering.{eq_by_cmp};
 ghost use Rattle.node_map.specs.declared.node.Node.{Node as TheNode};
 ghost use Rattle.node_map.specs.Agreement.{has_node};
 ghost use Rattle.node_map.specs.Stats.{stat_of, children_of};
@@ -18,7 +22,7 @@ ghost use Rattle.data_tree.specs.Cells.{cells_at, without_cells, with_cells, Has
 ghost use Rattle.data_tree.specs.Refused.{IsAfterFront};
 ghost use Rattle.data_tree.specs.Refused.{IsPartlyDone, IsLeftByRefused};
 ghost use Rattle.data_tree.specs.Inner.Doing.{DoesEffect};
-ghost use Rattle.ephemerals.specs.Orders.{sorted_names};
+ghost use Rattle.ephemerals.specs.Orders.{path_cmp, sorted_names};
 
 use crate::multi::{failed_outcome, first_error};
 use crate::outcome::{
@@ -26,13 +30,13 @@ use crate::outcome::{
 };
 use crate::sessions::Timeouts;
 use ephemerals::{Ephemerals, TextSet};
+use indexmap::map::Iter;
 use jute::Stat;
 use jute::codes::{NO_NODE, NODE_EXISTS};
 use node_map::{AddedChild, Node, NodeMap};
 use paths_and_acls::{Path, name_of, parent_of};
 use settings::Dialect;
 use std::alloc::Global;
-use std::collections::btree_map::Iter;
 use std::marker::Model;
 use txn_codec::{Body, Create, Operation, SetAcl, SetData, Txn, TxnHeader, has_error};
 use values::{Listed, NoMemory, Text};
@@ -522,9 +526,11 @@ impl Tree {
         self.nodes.len()
     }
 
-    /// The nodes with their paths, in ascending order of the paths' bytes.
+    /// The nodes with their paths, each once, in no order that a caller may rely on.
     pub fn nodes(&self) -> Iter<'_, String, Node>
-        ensures entries { map (λ e. (string_bytes e.0, e.1)) result ≡ finmap.entries self.now.nodes }
+        ensures nodes { finmap.from_entries (map (λ e. (string_bytes e.0, e.1)) result) ≡ self.now.nodes }
+        ensures once { IsDistinct (eq_by_cmp path_cmp) (keys_of (map (λ e. (string_bytes e.0, e.1)) result)) }
+        ensures entries { IsPermutation (finmap.entries self.now.nodes) (map (λ e. (string_bytes e.0, e.1)) result) }
         ensures runs { ShowsInOrder (deref_pair {K = String Global} {X = TheNode}) }
     {
         self.nodes.iter()

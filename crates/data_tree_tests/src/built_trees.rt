@@ -142,10 +142,20 @@ fn copied(alloc: Global) -> Result<(bool, bool), Fail> {
     copy_and_tree(alloc, &mut tree)
 }
 
-// The paths of a tree's nodes, each after a blank.
+// How many nodes a tree shows, and their paths in ascending order, each after a blank.
 fn paths(alloc: Global, tree: &Tree) -> Result<String, Fail> {
-    let mut text = String::new(alloc);
+    let mut count: u32 = 0;
+    let mut paths = TextSet::new(alloc);
     for (path, _) in tree.nodes() {
+        count = count.wrapping_add(1);
+        paths.insert(path.clone()?)?;
+    }
+    listed(alloc, count, &paths)
+}
+
+fn listed(alloc: Global, count: u32, paths: &TextSet) -> Result<String, Fail> {
+    let mut text = format!(in alloc; "{count}:")?;
+    for path in paths.iter() {
         text.push_str(" ")?;
         text.push_str(path)?;
     }
@@ -163,8 +173,8 @@ fn made_paths(alloc: Global) -> Result<String, Fail> {
 }
 
 #[test]
-fn nodes_come_in_order(rt: HostRuntime) -> Result<(), Fail> {
-    assert_eq!(rt; made_paths(rt.alloc())?.as_str(), " / /a /b");
+fn each_node_comes_once(rt: HostRuntime) -> Result<(), Fail> {
+    assert_eq!(rt; made_paths(rt.alloc())?.as_str(), "3: / /a /b");
     Ok(())
 }
 

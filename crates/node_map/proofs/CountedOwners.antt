@@ -1,11 +1,9 @@
 -- The nodes that a loop has visited, each with its pair, and how many of them are owned.
 use Rattle.std.proofs.Common.{◌≡◌, ℕ, ℤ, pos, ◌+◌, ◌<◌, ◌^◌, List, [], ◌∷◌, ◌++◌, true, false, not, ◌&&◌, Some, IsTrue, refl, sym, ap, subst, ◌∙◌, ◌↔◌, length, string_bytes, append-nil, length-append, ◌≤◌, arith, if◌then◌else◌}
 use mathlib.Core.Bool.{true≢false}
-use Rattle.std.specs.Map.{lookup, keys_of}
-use Rattle.std.specs.List.Sorted.{IsStrictlySortedBy}
+use Rattle.std.specs.Map.{lookup}
 use Rattle.std.specs.Ordering.{is_eq, int_eq}
 use Rattle.std.specs.Cmp.{tied_itself, int_cmp_total}
-use Rattle.std.specs.String.{string_cmp}
 use Rattle.std.specs.declared.string.String.{String}
 use Rattle.std.specs.FinMap as finmap
 use Rattle.std.specs.FinSet as set
@@ -16,6 +14,7 @@ use Rattle.node_map.specs.Agreement.{is_owner, AreOwned}
 use Rattle.node_map.specs.declared.node.Node.{Node}
 use Rattle.ephemerals.proofs.Totals.{pair_total, pair_exact}
 use Rattle.values.proofs.Keyed.{query, get-text_map_of}
+use Rattle.node_map.proofs.HashedNodes.{AreApart}
 use Rattle.node_map.proofs.Counting.{AreDistinct, AreIn, as_many, all_counted}
 use Rattle.ephemerals.proofs.Ties.{same_session}
 use Rattle.node_map.proofs.OwnersOfNodes.{with_owner, owners, owners-any, owners-distinct, owners-push, found-at}
@@ -34,19 +33,19 @@ module _ {Z : Type 0} where
   pub record AreCounted (nodes : Nodes) (pairs : OwnerPairs) (rest : List (String Z × Node)) (owned : ℕ) : Type 0 where
     pub before : List (String Z × Node)
     pub all : nodes ≡ nodes_of (before ++ rest)
-    pub sorted : IsStrictlySortedBy string_cmp (keys_of (before ++ rest))
+    pub apart : AreApart (before ++ rest)
     pub fits : length (before ++ rest) < 2 ^ 63
     pub listed : AreIn {R = pair_cmp} pairs (owners before)
     pub counted : owned ≡ length (owners before)
     pub few : owned ≤ length before
 
-  pub counted-first : (es : List (String Z × Node)) → IsStrictlySortedBy string_cmp (keys_of es) → length es < 2 ^ 63
+  pub counted-first : (es : List (String Z × Node)) → AreApart es → length es < 2 ^ 63
       → (rest : List (String Z × Node)) → rest ≡ es
       → (nodes : Nodes) → nodes_of es ≡ nodes → (pairs : OwnerPairs) → AreCounted nodes pairs rest 0
-  counted-first es sorted fits rest is nodes view pairs = record {
+  counted-first es apart fits rest is nodes view pairs = record {
     before = [];
     all = sym view ∙ ap nodes_of (sym is);
-    sorted = subst (λ xs. IsStrictlySortedBy string_cmp (keys_of xs)) (sym is) sorted;
+    apart = subst (λ xs. AreApart xs) (sym is) apart;
     fits = subst (λ xs. length xs < 2 ^ 63) (sym is) fits;
     listed = tt;
     counted = refl;
@@ -76,7 +75,7 @@ module _ {Z : Type 0} where
         record {
           before = c.before ++ e ∷ [];
           all = c.all ∙ ap nodes_of (moved c.before e rest);
-          sorted = subst (λ xs. IsStrictlySortedBy string_cmp (keys_of xs)) (moved c.before e rest) c.sorted;
+          apart = subst (λ xs. AreApart xs) (moved c.before e rest) c.apart;
           fits = subst (λ (xs : List (String Z × Node)). length xs < 2 ^ 63) (moved c.before e rest) c.fits;
           listed =
               subst (AreIn {R = pair_cmp} pairs) (sym all_owners) (both_in pairs (owners c.before) ps c.listed here);
@@ -118,7 +117,7 @@ module _ {Z : Type 0} where
         here : finmap.get nodes (string_bytes e.0) ≡ Some e.1
         here = ap (λ ns. finmap.get ns (string_bytes e.0)) c.all
             ∙ get-text_map_of (c.before ++ e ∷ rest) (string_bytes e.0)
-            ∙ found-at c.before e rest c.sorted
+            ∙ found-at c.before e rest c.apart
 
         itself : int_eq e.1.stat.ephemeral_owner e.1.stat.ephemeral_owner ≡ true
         itself =
@@ -130,21 +129,21 @@ module _ {Z : Type 0} where
   all_owned nodes pairs n c = (
     (λ same session path.
         as_many pair_total pair_exact pairs (owners c.before) distinct c.listed (sym c.counted ∙ same) (session, path)
-        ∙ owners-any c.before sorted session path ∙ ap (is_owner session) (found path)),
+        ∙ owners-any c.before apart session path ∙ ap (is_owner session) (found path)),
     (λ owned.
         c.counted
         ∙ all_counted pair_total pair_exact pairs (owners c.before) distinct
-        (λ q. owned q.0 q.1 ∙ sym (owners-any c.before sorted q.0 q.1 ∙ ap (is_owner q.0) (found q.1)))),
+        (λ q. owned q.0 q.1 ∙ sym (owners-any c.before apart q.0 q.1 ∙ ap (is_owner q.0) (found q.1)))),
   )
     where
       whole : c.before ++ [] ≡ c.before
       whole = append-nil c.before
 
-      sorted : IsStrictlySortedBy string_cmp (keys_of c.before)
-      sorted = subst (λ (es : List (String Z × Node)). IsStrictlySortedBy string_cmp (keys_of es)) whole c.sorted
+      apart : AreApart c.before
+      apart = subst (λ (es : List (String Z × Node)). AreApart es) whole c.apart
 
       distinct : AreDistinct pair_cmp (owners c.before)
-      distinct = owners-distinct c.before sorted
+      distinct = owners-distinct c.before apart
 
       found : (path : Bytes) → lookup (query path) c.before ≡ finmap.get nodes path
       found path =

@@ -4,7 +4,9 @@ pub mod NodeUpdates
 pub mod MovedNodes
 -- A loop that stops at the first item that fails.
 pub mod Deciding
--- The entries of a map are its nodes, and how they are linked.
+-- The entries of a hash map are its nodes, each once.
+pub mod HashedNodes
+-- How the nodes of a map are linked.
 pub mod Links
 -- Items of a set that are as many as the set.
 pub mod Counting

@@ -1,13 +1,10 @@
--- The entries of a map are its nodes, and how they are linked.
+-- What holds of each entry holds of each node of a map, and how nodes are linked.
 use Rattle.std.proofs.Common.{◌≡◌, suc, ◌<◌, List, [], ◌∷◌, Bool, true, false, cond, Option, Some, None, refl, sym, ap, subst, ◌∙◌, ◌||◌, ◌↔◌, map, length, string_bytes, is_some, arith}
 use mathlib.Core.Bool.{true≢false}
-use Rattle.std.specs.BTreeMap as tree
-use Rattle.std.specs.BTreeMap.{BTreeMap}
 use Rattle.std.specs.Map.{lookup}
 use Rattle.std.specs.List.{list_any, All, AllByRecursion}
 use Rattle.std.specs.Ordering.{eq_by_cmp, is_eq}
 use Rattle.std.specs.Cmp.{tied_itself}
-use Rattle.std.specs.String.{string_cmp}
 use Rattle.std.specs.declared.string.String.{String}
 use Rattle.std.proofs.lemmas.Map.Lookups.{exact_bytes}
 use Rattle.std.proofs.lemmas.Map.Views.{tells_apart}
@@ -22,6 +19,7 @@ use Rattle.node_map.specs.Children.{HasItsChildren}
 use Rattle.node_map.specs.declared.node.Node.{Node}
 use Rattle.ephemerals.proofs.Totals.{path_total}
 use Rattle.node_map.proofs.Deciding.{Decides}
+use Rattle.node_map.proofs.HashedNodes.{AreApart, IsFound, each_found}
 use Rattle.values.proofs.Keyed.{query, get-text_map_of}
 
 pub each_of_all : {A : Type 0} (P : A → Type 0) (xs : List A) → All P xs → AllByRecursion P xs
@@ -91,16 +89,13 @@ module _ {Z : Type 0} (P : Bytes → Node → Type 0) where
           (subst (λ p. P p e.1) (sym (tells_apart exact_bytes q (string_bytes e.0) t)) all.0)
       by rest false t found = rest found
 
-  pub all_nodes : (m : BTreeMap (String Z) Node)
-      → All (λ (e : String Z × Node). tree.get string_cmp m e.0 ≡ Some e.1) m.entries
-      → AllByRecursion (λ (e : String Z × Node). P (string_bytes e.0) e.1) m.entries
-      ↔ ((path : Bytes) (node : Node) → finmap.get (nodes_of m.entries) path ≡ Some node → P path node)
-  all_nodes m found = (
-    (λ all path node is. each_entry path node m.entries all (sym (get-text_map_of m.entries path) ∙ is)),
-    (λ each. all_map (λ (e : String Z × Node). tree.get string_cmp m e.0 ≡ Some e.1)
-        (λ (e : String Z × Node). P (string_bytes e.0) e.1)
-        (λ e is. each (string_bytes e.0) e.1 (get-text_map_of m.entries (string_bytes e.0) ∙ is))
-        m.entries (each_of_all (λ (e : String Z × Node). tree.get string_cmp m e.0 ≡ Some e.1) m.entries found)),
+  pub all_nodes : (es : List (String Z × Node)) → AreApart es
+      → AllByRecursion (λ (e : String Z × Node). P (string_bytes e.0) e.1) es
+      ↔ ((path : Bytes) (node : Node) → finmap.get (nodes_of es) path ≡ Some node → P path node)
+  all_nodes es apart = (
+    (λ all path node is. each_entry path node es all (sym (get-text_map_of es path) ∙ is)),
+    (λ each. all_map (IsFound (nodes_of es)) (λ (e : String Z × Node). P (string_bytes e.0) e.1)
+        (λ e is. each (string_bytes e.0) e.1 is) es (each_found es apart)),
   )
 
 -- What a node contributes to the agreement of nodes and names.
@@ -133,14 +128,13 @@ linked-is nodes = (
     children each path name None is one = absurd (true≢false (sym one))
     children each path name (Some node) is one = (each path node is).1 name one
 
-pub linked-entries : {Z : Type 0} (m : BTreeMap (String Z) Node)
-    → All (λ (e : String Z × Node). tree.get string_cmp m e.0 ≡ Some e.1) m.entries
-    → (rest : List (String Z × Node)) → rest ≡ m.entries → (nodes : Nodes) → nodes_of m.entries ≡ nodes
+pub linked-entries : {Z : Type 0} (es : List (String Z × Node)) → AreApart es
+    → (rest : List (String Z × Node)) → rest ≡ es → (nodes : Nodes) → nodes_of es ≡ nodes
     → Decides (λ (e : String Z × Node). IsLinked nodes (string_bytes e.0) e.1) (AreLinked nodes) rest
-linked-entries {Z} m found rest all nodes is =
+linked-entries {Z} es apart rest all nodes is =
     subst (λ ns. Decides (λ (e : String Z × Node). IsLinked ns (string_bytes e.0) e.1) (AreLinked ns) rest) is
-    (subst (λ es. Decides (λ (e : String Z × Node). IsLinked (nodes_of m.entries) (string_bytes e.0) e.1)
-    (AreLinked (nodes_of m.entries)) es) (sym all) (
-      (λ each. (linked-is (nodes_of m.entries)).0 ((all_nodes (IsLinked (nodes_of m.entries)) m found).0 each)),
-      (λ linked. (all_nodes (IsLinked (nodes_of m.entries)) m found).1 ((linked-is (nodes_of m.entries)).1 linked)),
+    (subst (λ xs. Decides (λ (e : String Z × Node). IsLinked (nodes_of es) (string_bytes e.0) e.1)
+    (AreLinked (nodes_of es)) xs) (sym all) (
+      (λ each. (linked-is (nodes_of es)).0 ((all_nodes (IsLinked (nodes_of es)) es apart).0 each)),
+      (λ linked. (all_nodes (IsLinked (nodes_of es)) es apart).1 ((linked-is (nodes_of es)).1 linked)),
     ))

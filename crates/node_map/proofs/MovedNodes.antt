@@ -7,11 +7,7 @@ use Rattle.std.specs.Ordering.{eq_by_cmp}
 use Rattle.std.specs.FinMap as finmap
 use Rattle.std.specs.FinSet as set
 use mathlib.Core.Bool.{true≢false}
-use Rattle.std.specs.Map.{keys_of}
-use Rattle.std.specs.List.Sorted.{IsStrictlySortedBy}
-use Rattle.std.specs.String.{string_cmp}
 use Rattle.std.specs.declared.string.String.{String}
-use Rattle.std.proofs.lemmas.Map.Keys.{sorted_head, sorted_tail}
 use Rattle.std.proofs.lemmas.Map.Lookups.{exact_bytes}
 use Rattle.std.proofs.lemmas.Map.Views.{tells_apart}
 use Rattle.ephemerals.specs.Orders.{Bytes, Names, path_cmp, sorted_names}
@@ -22,7 +18,8 @@ use Rattle.node_map.specs.Agreement.{has_node}
 use Rattle.node_map.specs.Updates.{update_found, with_entries, IsBetween}
 use Rattle.node_map.specs.Inner.Moving.{IsRoomFor, with_replaced_node, without_nodes, with_moved_nodes}
 use Rattle.node_map.specs.declared.node.Node.{Node}
-use Rattle.values.proofs.Keyed.{text_map_of, get-text_map_of, not_found_below}
+use Rattle.values.proofs.Keyed.{text_map_of, get-text_map_of}
+use Rattle.node_map.proofs.HashedNodes.{AreApart, apart_first, apart_rest, not_found_apart}
 
 -- ---- the nodes
 
@@ -194,16 +191,16 @@ room_for_all paths nodes room all q = sym (or-false (has_node room q)) ∙ all q
 
 -- The first nodes with those of the others that aren't left. At each path they are as before, or as with all others.
 pub record IsJoining {Z : Type 0} (others old : Nodes) (left : List (String Z × Node)) (nodes : Nodes) : Type 0 where
-  sorted : IsStrictlySortedBy string_cmp (keys_of left)
+  apart : AreApart left
   same : (q : Bytes) → option_or (finmap.get (text_map_of left) q) (finmap.get nodes q)
       ≡ option_or (finmap.get others q) (finmap.get old q)
   either : (q : Bytes) → (finmap.get nodes q ≡ finmap.get old q)
       ⊎ (finmap.get nodes q ≡ option_or (finmap.get others q) (finmap.get old q))
 
 pub joining : {Z : Type 0} (others old : Nodes) (all : List (String Z × Node))
-    → IsStrictlySortedBy string_cmp (keys_of all) → text_map_of all ≡ others → IsJoining others old all old
-joining others old all sorted is = record {
-  sorted = sorted;
+    → AreApart all → text_map_of all ≡ others → IsJoining others old all old
+joining others old all apart is = record {
+  apart = apart;
   same = λ q. ap (λ m. option_or (finmap.get m q) (finmap.get old q)) is;
   either = λ q. inl refl;
 }
@@ -212,7 +209,7 @@ pub joined_one : {Z : Type 0} (others old nodes new : Nodes) (e : String Z × No
     → IsJoining others old (e ∷ es) nodes → new ≡ finmap.insert nodes (string_bytes e.0) e.1
     → IsJoining others old es new
 joined_one others old nodes new e es before made = record {
-  sorted = sorted_tail string_cmp e.0 (keys_of es) before.sorted;
+  apart = apart_rest e es before.apart;
   same =
       λ q.
       ap (option_or (finmap.get (text_map_of es) q))
@@ -233,7 +230,7 @@ joined_one others old nodes new e es before made = record {
     by q true t = ap (λ o. option_or o (Some e.1))
         (ap (finmap.get (text_map_of es)) (tells_apart exact_bytes q (string_bytes e.0) t)
         ∙ get-text_map_of es (string_bytes e.0)
-        ∙ not_found_below (string_bytes e.0) es (sorted_head string_cmp e.0 (keys_of es) before.sorted))
+        ∙ not_found_apart e.0 es (apart_first e es before.apart))
     by q false t = refl
 
     now_either : (q : Bytes) (b : Bool) → eq_by_cmp path_cmp q (string_bytes e.0) ≡ b

@@ -1,20 +1,18 @@
 -- The owners of a map's nodes with their paths, as a list of pairs.
 use Rattle.std.proofs.Common.{◌≡◌, ℤ, pos, List, [], ◌∷◌, ◌++◌, Bool, true, false, cond, not, ◌&&◌, ◌||◌, Some, None, refl, sym, ap, ◌∙◌, string_bytes, if◌then◌else◌}
-use Rattle.std.specs.Map.{lookup, keys_of}
+use Rattle.std.specs.Map.{lookup}
 use Rattle.std.specs.List.{list_any}
-use Rattle.std.specs.List.Sorted.{IsStrictlySortedBy}
 use Rattle.std.specs.Ordering.{eq_by_cmp, is_eq, int_eq, int_cmp}
 use Rattle.std.specs.Cmp.{tied_itself}
-use Rattle.std.specs.String.{string_cmp}
 use Rattle.std.specs.declared.string.String.{String}
-use Rattle.std.proofs.lemmas.Map.Keys.{sorted_head, sorted_tail}
 use Rattle.std.proofs.lemmas.Map.Lookups.{exact_bytes, exact_signed}
 use Rattle.std.proofs.lemmas.Map.Views.{tells_apart}
 use Rattle.ephemerals.specs.Orders.{Bytes, path_cmp, pair_cmp}
 use Rattle.node_map.specs.Agreement.{is_owner}
 use Rattle.node_map.specs.declared.node.Node.{Node}
 use Rattle.ephemerals.proofs.Totals.{path_total}
-use Rattle.values.proofs.Keyed.{query, not_found_below}
+use Rattle.values.proofs.Keyed.{query}
+use Rattle.node_map.proofs.HashedNodes.{AreApart, apart_first, apart_rest, not_found_apart}
 use Rattle.node_map.proofs.Counting.{AreDistinct}
 use Rattle.std.proofs.Math.Bool.{and-false, and-true, or-false}
 use Rattle.ephemerals.proofs.Ties.{tied_then, same_session}
@@ -30,11 +28,11 @@ module _ {Z : Type 0} where
   owners [] = []
   owners (e ∷ es) = with_owner e (owners es)
 
-  pub owners-any : (es : List (String Z × Node)) → IsStrictlySortedBy string_cmp (keys_of es) → (s : ℤ) (p : Bytes)
+  pub owners-any : (es : List (String Z × Node)) → AreApart es → (s : ℤ) (p : Bytes)
       → list_any (eq_by_cmp pair_cmp (s, p)) (owners es) ≡ is_owner s (lookup (query p) es)
-  owners-any [] sorted s p = refl
-  owners-any (e ∷ es) sorted s p =
-      by (owners-any es (sorted_tail string_cmp e.0 (keys_of es) sorted) s p) (int_eq e.1.stat.ephemeral_owner (pos 0))
+  owners-any [] once s p = refl
+  owners-any (e ∷ es) once s p =
+      by (owners-any es (apart_rest e es once) s p) (int_eq e.1.stat.ephemeral_owner (pos 0))
       refl (eq_by_cmp path_cmp p (string_bytes e.0)) refl
     where
       owner : ℤ
@@ -44,7 +42,7 @@ module _ {Z : Type 0} where
       none_left : eq_by_cmp path_cmp p (string_bytes e.0) ≡ true → lookup (query p) es ≡ None
       none_left t =
           ap (λ q. lookup (query q) es) (tells_apart exact_bytes p (string_bytes e.0) t)
-          ∙ not_found_below (string_bytes e.0) es (sorted_head string_cmp e.0 (keys_of es) sorted)
+          ∙ not_found_apart e.0 es (apart_first e es once)
 
       zero_owns : (o : ℤ) → int_eq o (pos 0) ≡ true → (not (int_eq s (pos 0)) && int_eq o s) ≡ false
       zero_owns o z = apart (int_eq o s) refl
@@ -85,19 +83,19 @@ module _ {Z : Type 0} where
       by rest false z false t =
           (λ i. (pair_is ∙ ap (λ b. int_eq owner s && b) t ∙ and-false (int_eq owner s)) i || rest i)
 
-  pub owners-distinct : (es : List (String Z × Node)) → IsStrictlySortedBy string_cmp (keys_of es)
+  pub owners-distinct : (es : List (String Z × Node)) → AreApart es
       → AreDistinct pair_cmp (owners es)
-  owners-distinct [] sorted = tt
-  owners-distinct (e ∷ es) sorted =
-      by (owners-distinct es (sorted_tail string_cmp e.0 (keys_of es) sorted)) (int_eq e.1.stat.ephemeral_owner (pos 0))
+  owners-distinct [] apart = tt
+  owners-distinct (e ∷ es) apart =
+      by (owners-distinct es (apart_rest e es apart)) (int_eq e.1.stat.ephemeral_owner (pos 0))
     where
       by : AreDistinct pair_cmp (owners es) → (z : Bool)
           → AreDistinct pair_cmp (if z then owners es else (e.1.stat.ephemeral_owner, string_bytes e.0) ∷ owners es)
       by rest true = rest
       by rest false = (
-        owners-any es (sorted_tail string_cmp e.0 (keys_of es) sorted) e.1.stat.ephemeral_owner (string_bytes e.0)
+        owners-any es (apart_rest e es apart) e.1.stat.ephemeral_owner (string_bytes e.0)
             ∙ ap (is_owner e.1.stat.ephemeral_owner)
-            (not_found_below (string_bytes e.0) es (sorted_head string_cmp e.0 (keys_of es) sorted)),
+            (not_found_apart e.0 es (apart_first e es apart)),
         rest,
       )
 
@@ -115,13 +113,13 @@ module _ {Z : Type 0} where
 
   -- An entry in the middle is found.
   pub found-at : (before : List (String Z × Node)) (e : String Z × Node) (rest : List (String Z × Node))
-      → IsStrictlySortedBy string_cmp (keys_of (before ++ e ∷ rest))
+      → AreApart (before ++ e ∷ rest)
       → lookup (query (string_bytes e.0)) (before ++ e ∷ rest) ≡ Some e.1
-  found-at [] e rest sorted =
+  found-at [] e rest apart =
       ap (λ r. cond (is_eq r) (Some e.1) (lookup (query (string_bytes e.0)) rest))
       (tied_itself path_total (string_bytes e.0))
-  found-at (x ∷ before) e rest sorted =
-      by (found-at before e rest (sorted_tail string_cmp x.0 (keys_of (before ++ e ∷ rest)) sorted))
+  found-at (x ∷ before) e rest apart =
+      by (found-at before e rest (apart_rest x (before ++ e ∷ rest) apart))
       (eq_by_cmp path_cmp (string_bytes e.0) (string_bytes x.0)) refl
     where
       by : lookup (query (string_bytes e.0)) (before ++ e ∷ rest) ≡ Some e.1
@@ -129,8 +127,8 @@ module _ {Z : Type 0} where
           → cond t (Some x.1) (lookup (query (string_bytes e.0)) (before ++ e ∷ rest)) ≡ Some e.1
       by found true t =
           let none : lookup (query (string_bytes x.0)) (before ++ e ∷ rest) ≡ None =
-          not_found_below (string_bytes x.0) (before ++ e ∷ rest)
-          (sorted_head string_cmp x.0 (keys_of (before ++ e ∷ rest)) sorted) in
+          not_found_apart x.0 (before ++ e ∷ rest)
+          (apart_first x (before ++ e ∷ rest) apart) in
           let clash : None ≡ Some e.1 =
           sym none
           ∙ ap (λ q. lookup (query q) (before ++ e ∷ rest))

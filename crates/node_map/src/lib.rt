@@ -1,9 +1,9 @@
 //! The nodes of the data tree by path, and what a transaction makes of a node.
 //!
 //! A `Node` has bytes, an access control list, its numbers, and the names of its children; `shown` is its Stat. A
-//! `NodeMap` is a finite map from paths to nodes, iterated in ascending order of the paths' bytes. Its methods change
-//! the node at a path, if there is one, or the names that a parent lists, and return what was done. A refused
-//! allocation leaves the map as it was, except in `append`. `are_named`, `are_linked` and `are_owned` decide whether
+//! `NodeMap` is a finite map from paths to nodes, which it finds by a keyed hash of the path. Its methods change the node
+//! at a path, if there is one, or the names that a parent lists, and return what was done. A refused allocation leaves
+//! the map as it was, except in `append`. `are_named`, `are_linked` and `are_owned` decide whether
 //! paths, names and owners agree (`specs/Agreement.antt`). `data_tree` defines what a transaction does to the whole
 //! tree.
 //!

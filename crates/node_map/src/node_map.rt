@@ -4,6 +4,11 @@ ghost use Rattle.std.specs.Prelude.{◌≡◌, ◌↔◌, ℤ, OnOk, OnErr, IfOk
 ghost use Rattle.std.specs.Option.{option_copied, option_copied_mut};
 ghost use Rattle.std.specs.Borrow.{sem};
 ghost use Rattle.std.specs.FinMap as finmap;
+ghost use Rattle.std.specs.List.{IsDistinct};
+ghost use Rattle.std.specs.List.Sorted.{IsPermutation};
+ghost use Rattle.std.specs.Map.{keys_of};
+ghost use Rattle.std.specs.Ordering.{eq_by_cmp};
+ghost use Rattle.ephemerals.specs.Orders.{path_cmp};
 ghost use Rattle.std.specs.Map.Iter.{ShowsInOrder, deref_pair};
 ghost use Rattle.node_map.specs.declared.node.Node.{Node as TheNode};
 ghost use Rattle.node_map.specs.Inner.NodeMapLends.{LendsNode};
@@ -14,19 +19,24 @@ ghost use Rattle.node_map.specs.Agreement.{has_node, has_parent, AreLinked, AreN
 use crate::added_child::AddedChild;
 use crate::node::{Node, stat_after_delete};
 use ephemerals::{Ephemerals, TextSet};
+use indexmap::IndexMap;
+use indexmap::map::Iter;
 use jute::StatPersisted;
+use names::HashKey;
 use paths_and_acls::{AclList, child_of, is_path, name_of, parent_of};
 use std::alloc::{AllocError, Global};
-use std::collections::BTreeMap;
-use std::collections::btree_map::Iter;
 use std::marker::Model;
 use txn_codec::{Create, SetAcl, SetData, TxnHeader};
-use values::{NoMemory, TextQuery};
+use values::NoMemory;
 
 /// Nodes by path.
+///
+/// A node is found by the hash of its path. The nodes lie one after the other, in an order that depends on what was
+/// inserted and removed, and on no key: a new one comes last, and where one is removed, the last one takes its place. So
+/// nothing is left of a path without a node.
 #[derive(Drop)]
 pub struct NodeMap {
-    map: BTreeMap<String, Node>,
+    map: IndexMap<String, Node, HashKey>,
 }
 
 impl Model for NodeMap {
@@ -74,20 +84,31 @@ fn are_child_names(names: &TextSet) -> bool
 }
 
 impl NodeMap {
-    /// No node. Allocates nothing.
+    /// No node, and a key that everybody knows. Allocates nothing.
     pub fn new(alloc: Global) -> NodeMap
         ensures { result ≡ finmap.empty }
     {
+        NodeMap::keyed(alloc, HashKey::new(0, 0))
+    }
+
+    /// No node yet, and this key, which is to be a secret where clients choose paths. Allocates nothing.
+    pub fn keyed(alloc: Global, key: HashKey) -> NodeMap
+        ensures { result ≡ finmap.empty }
+    {
         NodeMap {
-            map: BTreeMap::new(alloc),
+            map: IndexMap::with_hasher(alloc, key),
         }
+    }
+
+    pub(crate) fn key(&self) -> HashKey {
+        *self.map.hasher()
     }
 
     /// The node at the path.
     pub fn get(&self, path: &str) -> Option<&Node>
         ensures { option_copied result ≡ finmap.get self.now path.now }
     {
-        self.map.get(TextQuery(path))
+        self.map.get(path)
     }
 
     /// The number of nodes.
@@ -97,9 +118,11 @@ impl NodeMap {
         self.map.len()
     }
 
-    /// The nodes with their paths, in ascending order of the paths' bytes.
+    /// The nodes with their paths, each once, in no order that a caller may rely on.
     pub fn iter(&self) -> Iter<'_, String, Node>
-        ensures entries { map (λ e. (string_bytes e.0, e.1)) result ≡ finmap.entries self.now }
+        ensures nodes { finmap.from_entries (map (λ e. (string_bytes e.0, e.1)) result) ≡ self.now }
+        ensures once { IsDistinct (eq_by_cmp path_cmp) (keys_of (map (λ e. (string_bytes e.0, e.1)) result)) }
+        ensures entries { IsPermutation (finmap.entries self.now) (map (λ e. (string_bytes e.0, e.1)) result) }
         ensures runs { ShowsInOrder (deref_pair {K = String Global} {X = TheNode}) }
     {
         self.map.iter()
@@ -132,14 +155,14 @@ impl NodeMap {
         ensures value { result ≡ finmap.get self.old path.now }
         ensures removed { self.new ≡ finmap.remove self.old path.now }
     {
-        self.map.remove(TextQuery(path))
+        self.map.swap_remove(path)
     }
 
     pub(crate) fn get_mut(&mut self, path: &str) -> Option<&mut Node>
         ensures* writes_back { sem 𝓛 (LendsNode self.entry path.now result) }
         ensures value { option_copied_mut result ≡ finmap.get self.old path.now }
     {
-        self.map.get_mut(TextQuery(path))
+        self.map.get_mut(path)
     }
 
     // Replaces the node at the path, if there is one.

@@ -1,10 +1,13 @@
-use Rattle.std.proofs.Common.{◌≡◌, List, map, string_bytes, sym, ap, subst, ◌∙◌}
+use Rattle.std.proofs.Common.{◌≡◌, List, [], map, String, Global, string_bytes, sym, ap, subst, ◌∙◌}
 use Rattle.std.specs.FinMap as finmap
-use Rattle.ephemerals.specs.Orders.{Bytes}
+use Rattle.std.specs.List.{IsDistinct}
+use Rattle.std.specs.Map.{keys_of}
+use Rattle.std.specs.Ordering.{eq_by_cmp}
+use Rattle.ephemerals.specs.Orders.{Bytes, path_cmp}
 use Rattle.node_map.specs.declared.node.Node.{Node}
 use Rattle.snapshot_codec.specs.Written.{walk_cmp}
 use Rattle.snapshot_codec.specs.Writes.{shown_rows}
-use Rattle.snapshot_codec.proofs.DepthFirst.{SoFar, begins, takes}
+use Rattle.snapshot_codec.proofs.DepthFirst.{SoFar, begins, takes, ends}
 use Rattle.snapshot_codec.proofs.Tables.{seen-insert}
 use Rattle.snapshot_codec.proofs.depth_first.depth_first.Goals as goal
 
@@ -15,8 +18,11 @@ loop-path-init c = (
   begins c.args.tree.now.nodes (shown_rows c.new-rows.result.entries)
       (map (λ e. (string_bytes e.0, e.1)) c.into_iter-path-iterator.result)
       (ap shown_rows c.new-rows.ensures.empty)
-      (ap (map (λ e. (string_bytes e.0, e.1))) c.into_iter-path-iterator.ensures.into_iter_gives
-      ∙ c.nodes-path-items.ensures.entries),
+      (ap (λ (es : List (String Global × Node)). finmap.from_entries {R = path_cmp} (map (λ e. (string_bytes e.0, e.1)) es))
+      c.into_iter-path-iterator.ensures.into_iter_gives
+      ∙ c.nodes-path-items.ensures.nodes)
+      (subst (λ (es : List (String Global × Node)). IsDistinct (eq_by_cmp path_cmp) (keys_of (map (λ e. (string_bytes e.0, e.1)) es)))
+      (sym c.into_iter-path-iterator.ensures.into_iter_gives) c.nodes-path-items.ensures.once),
 )
 
 pub loop-path-preserved : goal.loop-path-preserved
@@ -37,3 +43,11 @@ loop-path-preserved c =
           (subst (λ r. SoFar nodes rows (map (λ e. (string_bytes e.0, e.1)) r)) c.in-Some.ensures.steps
           c.loop-path.invariant.2)),
     )
+
+pub returns : goal.returns
+returns c =
+    let nodes = c.args.tree.now.nodes in
+    let rows = shown_rows c.loop-path.rows.entries in
+    ends nodes rows
+    (subst (λ (es : List (String Global × Node)). SoFar nodes rows (map (λ e. (string_bytes e.0, e.1)) es))
+    c.in-None.ensures.steps.0 c.loop-path.invariant.2)

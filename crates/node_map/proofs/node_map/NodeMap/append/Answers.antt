@@ -11,7 +11,7 @@ loop-path-init c =
       tt,
       tt,
       subst (λ es. IsJoining {Z = Global} c.args.others c.args.self.now es c.args.self.now) (sym gives.0)
-          (joining c.args.others c.args.self.now c.others.inside.map.entries gives.5 c.others.view_is),
+          (joining c.args.others c.args.self.now c.others.inside.map.entries gives.4 c.others.view_is),
     )
 
 pub loop-path-preserved : goal.loop-path-preserved

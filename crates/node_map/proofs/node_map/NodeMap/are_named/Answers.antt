@@ -6,7 +6,7 @@ pub loop-path-init : goal.loop-path-init
 loop-path-init c = (
   tt,
   tt,
-  named_entries c.self.inside.map c.iter-path-items.ensures.found c.into_iter-path-iterator.result
+  named_entries c.self.inside.map.entries c.iter-path-items.ensures.unique c.into_iter-path-iterator.result
       (c.into_iter-path-iterator.ensures.into_iter_gives ∙ c.iter-path-items.ensures.rest) c.args.self.now
       c.self.view_is,
 )

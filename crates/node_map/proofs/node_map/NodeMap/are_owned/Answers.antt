@@ -9,7 +9,7 @@ pub loop-path-init : goal.loop-path-init
 loop-path-init c = (
   tt,
   tt,
-  counted-first c.self.inside.map.entries c.iter-path-items.ensures.ordered c.iter-path-items.ensures.fits
+  counted-first c.self.inside.map.entries c.iter-path-items.ensures.unique c.iter-path-items.ensures.fits
       c.into_iter-path-iterator.result
       (c.into_iter-path-iterator.ensures.into_iter_gives ∙ c.iter-path-items.ensures.rest) c.args.self.now
       c.self.view_is c.args.pairs.now,

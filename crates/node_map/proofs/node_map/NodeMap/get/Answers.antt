@@ -1,10 +1,10 @@
 use Rattle.std.proofs.Common.{ap, sym, ◌∙◌}
 use Rattle.std.specs.FinMap as finmap
-use Rattle.values.proofs.Keyed.{get-text_map_of}
+use Rattle.node_map.proofs.HashedNodes.{get-hashed}
 use Rattle.node_map.proofs.node_map.NodeMap.get.Goals as goal
 
 pub returns : goal.returns
 returns c =
     c.get.ensures.value
-    ∙ sym (get-text_map_of c.self.inside.map.entries c.args.path.now)
+    ∙ sym (get-hashed c.self.inside.map.entries c.args.path.now)
     ∙ ap (λ m. finmap.get m c.args.path.now) c.self.view_is
