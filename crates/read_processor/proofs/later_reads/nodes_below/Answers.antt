@@ -29,7 +29,8 @@ module _ (p : Bytes → Bool) where
       sym (counted ys) ∙ sum_by-IsPermutation (λ x. cond (p x) 1 0) xs ys moved ∙ counted xs
 
 paths : {Z : Type 0} (es : List (String Z × Node))
-    → map (λ e. e.0) (map (λ e. (string_bytes e.0, e.1)) es) ≡ map (λ e. string_bytes e.0) es
+    → map (λ (e : Bytes × Node). e.0) (map (λ (e : String Z × Node). (string_bytes e.0, e.1)) es)
+    ≡ map (λ (e : String Z × Node). string_bytes e.0) es
 paths [] = refl
 paths (e ∷ es) = ap (λ ps. string_bytes e.0 ∷ ps) (paths es)
 
@@ -41,16 +42,22 @@ loop-other-init c =
     let nodes = c.args.tree.now.nodes in
     let below = is_below c.args.path.now in
     let all = c.nodes-other-items.result in
-    let listed = map (λ e. (string_bytes e.0, e.1)) all in
-    let same : count_by below (map (λ e. string_bytes e.0) all) ≡ nodes_below c.args.tree.now c.args.path.now =
+    let listed : List (Bytes × Node) = map (λ (e : String Global × Node). (string_bytes e.0, e.1)) all in
+    let same : count_by below (map (λ (e : String Global × Node). string_bytes e.0) all)
+    ≡ nodes_below c.args.tree.now c.args.path.now =
     ap (count_by below) (sym (paths all))
-    ∙ same_count below (finmap.keys nodes) (map (λ e. e.0) listed)
-    (IsPermutation-map (λ e. e.0) (finmap.entries nodes) listed c.nodes-other-items.ensures.entries) in (
+    ∙ same_count below (finmap.keys nodes) (map (λ (e : Bytes × Node). e.0) listed)
+    (IsPermutation-map (λ (e : Bytes × Node). e.0) (finmap.entries nodes) listed
+    c.nodes-other-items.ensures.entries) in (
       tt,
       tt,
-      ap (λ n. n % 2 ^ 32)
-          (none_yet (count_by below (map (λ e. string_bytes e.0) c.into_iter-other-iterator.result))
-          ∙ ap (λ (es : List (String Global × Node)). count_by below (map (λ e. string_bytes e.0) es))
+      ap (λ (n : ℕ). n % 2 ^ 32)
+          (none_yet
+          (count_by below
+          (map (λ (e : String Global × Node). string_bytes e.0) c.into_iter-other-iterator.result))
+          ∙ ap
+          (λ (es : List (String Global × Node)). count_by below
+          (map (λ (e : String Global × Node). string_bytes e.0) es))
           c.into_iter-other-iterator.ensures.into_iter_gives
           ∙ same),
     )
