@@ -28,7 +28,7 @@ mod sessions;
 mod tree;
 
 pub use cells::Cells;
-pub use node_map::Node;
+pub use node_map::{HashKey, Node};
 pub use outcome::{Outcome, PartResult, Trigger, TxnResults};
 pub use sessions::Timeouts;
 pub use tree::Tree;

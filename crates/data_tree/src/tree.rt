@@ -33,7 +33,7 @@ use ephemerals::{Ephemerals, TextSet};
 use indexmap::map::Iter;
 use jute::Stat;
 use jute::codes::{NO_NODE, NODE_EXISTS};
-use node_map::{AddedChild, Node, NodeMap};
+use node_map::{AddedChild, HashKey, Node, NodeMap};
 use paths_and_acls::{Path, name_of, parent_of};
 use settings::Dialect;
 use std::alloc::Global;
@@ -72,12 +72,19 @@ fn with_names(alloc: Global, names: TextSet, paths: &[Path]) -> Result<TextSet, 
 }
 
 impl Tree {
-    /// The tree that every log starts from: /, /zookeeper and /zookeeper/quota, and no session. Fails only if an
-    /// allocation is refused.
+    /// The tree that every log starts from: /, /zookeeper and /zookeeper/quota, and no session. Its nodes are found by
+    /// the default key. Fails only if an allocation is refused.
     pub fn fresh(alloc: Global) -> Result<Tree, NoMemory>
         ensures { IfOk result (λ tree. tree ≡ fresh_state) }
     {
-        let mut nodes = NodeMap::new(alloc);
+        Tree::fresh_with_key(alloc, HashKey::default())
+    }
+
+    /// The same tree, whose nodes are found by this key.
+    pub fn fresh_with_key(alloc: Global, key: HashKey) -> Result<Tree, NoMemory>
+        ensures { IfOk result (λ tree. tree ≡ fresh_state) }
+    {
+        let mut nodes = NodeMap::with_key(alloc, key);
         nodes.insert(
             String::from_str(alloc, "/")?,
             Node::with_child(alloc, "zookeeper")?,
@@ -97,12 +104,20 @@ impl Tree {
         })
     }
 
-    /// A tree without a node and without a session, which an image is loaded into. Allocates nothing.
+    /// A tree without a node and without a session, which an image is loaded into. Its nodes are found by the default
+    /// key. Allocates nothing.
     pub fn empty(alloc: Global) -> Tree
         ensures { result ≡ empty_state }
     {
+        Tree::empty_with_key(alloc, HashKey::default())
+    }
+
+    /// The same tree, whose nodes are found by this key.
+    pub fn empty_with_key(alloc: Global, key: HashKey) -> Tree
+        ensures { result ≡ empty_state }
+    {
         Tree {
-            nodes: NodeMap::new(alloc),
+            nodes: NodeMap::with_key(alloc, key),
             ephemerals: Ephemerals::new(alloc),
             timeouts: Timeouts::new(alloc),
         }
@@ -524,6 +539,11 @@ impl Tree {
         ensures { result ≡ finmap.len self.now.nodes }
     {
         self.nodes.len()
+    }
+
+    /// The key by which the nodes are found.
+    pub fn hash_key(&self) -> HashKey {
+        self.nodes.hash_key()
     }
 
     /// The nodes with their paths, each once, in no order that a caller may rely on.

@@ -25,7 +25,7 @@ impl NodeMap {
     fn room_at(&self, alloc: Global, paths: &TextSet) -> Result<NodeMap, NoMemory>
         ensures { IfOk result (λ room. IsRoomFor paths.now self.now room) }
     {
-        let mut room = NodeMap::keyed(alloc, self.key());
+        let mut room = NodeMap::with_key(alloc, self.hash_key());
         for path in paths.iter() {
             if self.has(path.as_str()) {
                 room.insert(

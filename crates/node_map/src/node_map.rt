@@ -17,12 +17,12 @@ ghost use Rattle.node_map.specs.Children.{with_added_child, added_child, without
 ghost use Rattle.node_map.specs.Agreement.{has_node, has_parent, AreLinked, AreNamed, AreChildNames, AreOwned, is_child_name, is_listed_at};
 
 use crate::added_child::AddedChild;
+use crate::hash_key::HashKey;
 use crate::node::{Node, stat_after_delete};
 use ephemerals::{Ephemerals, TextSet};
 use indexmap::IndexMap;
 use indexmap::map::Iter;
 use jute::StatPersisted;
-use names::HashKey;
 use paths_and_acls::{AclList, child_of, is_path, name_of, parent_of};
 use std::alloc::{AllocError, Global};
 use std::marker::Model;
@@ -32,8 +32,8 @@ use values::NoMemory;
 /// Nodes by path.
 ///
 /// A node is found by the hash of its path. The nodes lie one after the other, in an order that depends on what was
-/// inserted and removed, and on no key: a new one comes last, and where one is removed, the last one takes its place. So
-/// nothing is left of a path without a node.
+/// inserted and removed, and not on the key: a new one comes last, and the last one takes the place of one that is
+/// removed. So nothing is left of a path without a node.
 #[derive(Drop)]
 pub struct NodeMap {
     map: IndexMap<String, Node, HashKey>,
@@ -84,15 +84,15 @@ fn are_child_names(names: &TextSet) -> bool
 }
 
 impl NodeMap {
-    /// No node, and a key that everybody knows. Allocates nothing.
+    /// No node, and the default key. Allocates nothing.
     pub fn new(alloc: Global) -> NodeMap
         ensures { result ≡ finmap.empty }
     {
-        NodeMap::keyed(alloc, HashKey::new(0, 0))
+        NodeMap::with_key(alloc, HashKey::default())
     }
 
-    /// No node yet, and this key, which is to be a secret where clients choose paths. Allocates nothing.
-    pub fn keyed(alloc: Global, key: HashKey) -> NodeMap
+    /// No node, and this key of the hash. Allocates nothing.
+    pub fn with_key(alloc: Global, key: HashKey) -> NodeMap
         ensures { result ≡ finmap.empty }
     {
         NodeMap {
@@ -100,7 +100,8 @@ impl NodeMap {
         }
     }
 
-    pub(crate) fn key(&self) -> HashKey {
+    /// The key of the hash.
+    pub fn hash_key(&self) -> HashKey {
         *self.map.hasher()
     }
 

@@ -7,18 +7,20 @@ ghost use Rattle.settings.specs.Settings.{epoch_pair, timeout_pair};
 ghost use Rattle.settings.specs.Settings.{is_server_id, are_epochs, are_timeouts, is_secret, default_first_counter};
 
 use batcher::{Limits, SpreadThreshold};
+use data_tree::HashKey;
 use settings::{Dialect, Epochs, FirstCounter, Secret, ServerId, TimeoutBounds};
 use thiserror::Error;
 use values::{Blob, Text};
 use world::Settings;
 
-/// The settings of an observer, the limits on what it does at once, and the least work that it spreads over threads. No
-/// answer depends on the limits and the threshold.
+/// The settings of an observer, the limits on what it does at once, the least work that it spreads over threads, and the
+/// key by which it finds nodes. No answer depends on the last three.
 #[derive(Drop)]
 pub struct Config {
     pub settings: Settings,
     pub limits: Limits,
     pub threshold: SpreadThreshold,
+    pub hash_key: HashKey,
 }
 
 /// A setting is outside its bounds.
@@ -40,7 +42,7 @@ impl Config {
     /// Checks each setting against its bounds. Timeouts are in milliseconds. Session ids begin with the counter 1; for
     /// any other first counter see [`Config::from_settings`]. The dialect is that of ZooKeeper 3.4, see
     /// [`Config::with_dialect`]. No client is a super user, see [`Config::with_super_digest`]. All work is spread, see
-    /// [`Config::with_threshold`].
+    /// [`Config::with_threshold`]. Nodes are found by the default key, see [`Config::with_hash_key`].
     ///
     /// Fails with [`BadConfig`] if a setting is outside its bounds; `settings` has the bounds.
     pub fn new(
@@ -92,7 +94,7 @@ impl Config {
     }
 
     /// Builds a configuration from settings that were checked already. All work is spread, see
-    /// [`Config::with_threshold`].
+    /// [`Config::with_threshold`]. Nodes are found by the default key, see [`Config::with_hash_key`].
     pub fn from_settings(settings: Settings, limits: Limits) -> Config
         ensures settings { result.settings ≡ settings }
         ensures limits { result.limits ≡ limits }
@@ -102,6 +104,7 @@ impl Config {
             settings,
             limits,
             threshold: SpreadThreshold::ALWAYS,
+            hash_key: HashKey::default(),
         }
     }
 
@@ -132,5 +135,15 @@ impl Config {
         ensures { result ≡ record self { threshold = threshold } }
     {
         Config { threshold, ..self }
+    }
+
+    /// The same, but nodes are found by this key, which clients are not to know.
+    pub fn with_hash_key(self, key: HashKey) -> Config
+        ensures { result ≡ record self { hash_key = key } }
+    {
+        Config {
+            hash_key: key,
+            ..self
+        }
     }
 }

@@ -104,7 +104,7 @@ impl Engine {
         ensures { IfOk result (λ e. e ≡ Some (new_machine config.settings)) }
     {
         let settings = &config.settings;
-        let replica = Replica::new(alloc, settings.dialect, settings.epochs)?;
+        let replica = Replica::new(alloc, config.hash_key, settings.dialect, settings.epochs)?;
         let clients = Clients::new(alloc, settings)?;
         Ok(Engine::started(alloc, config, replica, None, clients))
     }
@@ -120,10 +120,10 @@ impl Engine {
         let mut clients = Clients::new(alloc, settings)?;
         let session = open_first(alloc, settings, &mut clients)?;
         let time_out = settings.timeouts.greatest();
-        let replica = Replica::primed(alloc, settings.dialect, session, time_out)?;
+        let replica = Replica::primed(alloc, config.hash_key, settings.dialect, session, time_out)?;
         let leader = Leader {
             feed: PacketFeed::in_dialect(settings.dialect, alloc),
-            loader: Loader::in_dialect(settings.dialect, alloc),
+            loader: Loader::with_key(settings.dialect, alloc, config.hash_key),
         };
         Ok(Engine::started(alloc, config, replica, Some(leader), clients))
     }
@@ -141,6 +141,7 @@ impl Engine {
             settings,
             limits,
             threshold,
+            hash_key: _,
         } = config;
         let world = World {
             settings,

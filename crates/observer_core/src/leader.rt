@@ -244,9 +244,10 @@ pub(crate) fn meet_leader(alloc: Global, machine: &mut Machine) -> Result<(), No
     let server_id = machine.stage.world.settings.server_id;
     let dialect = machine.stage.world.replica.learner().dialect();
     let replies = machine.stage.world.replica.start(alloc, server_id)?;
+    let key = machine.stage.world.replica.tree().hash_key();
     machine.leader = Some(Leader {
         feed: PacketFeed::in_dialect(dialect, alloc),
-        loader: Loader::in_dialect(dialect, alloc),
+        loader: Loader::with_key(dialect, alloc, key),
     });
     send_each(alloc, replies.as_slice(), &mut machine.stage.outputs)
 }

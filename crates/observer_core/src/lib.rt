@@ -44,6 +44,7 @@ mod timeouts;
 
 pub use client_service::CLIENT_FRAME_LIMIT;
 pub use config::{BadConfig, Config, default_limits};
+pub use data_tree::HashKey;
 pub use engine::{Engine, Stop};
 pub use event::Event;
 pub use law::{

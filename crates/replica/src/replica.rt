@@ -8,7 +8,7 @@ ghost use Rattle.data_tree.specs.Making.{empty_state};
 ghost use Rattle.replica.specs.Replica.{replica_at, new_replica, primed_replica};
 ghost use Rattle.replica.specs.Taking.{follow_leader, without_leader, checkpoint_replica, is_serving};
 
-use data_tree::Tree;
+use data_tree::{HashKey, Tree};
 use learner_sync::{Act, Learner, Phase};
 use quorum_packet::QuorumPacket;
 use settings::{Dialect, Epochs, ServerId};
@@ -38,37 +38,43 @@ impl Model for Replica {
 
 impl Replica {
     /// A replica that hasn't followed a leader yet: the tree before any transaction. Its leaders will speak this
-    /// dialect. Fails only if an allocation is refused.
-    pub fn new(alloc: Global, dialect: Dialect, epochs: Epochs) -> Result<Replica, NoMemory>
+    /// dialect, and its nodes are found by this key. Fails only if an allocation is refused.
+    pub fn new(
+        alloc: Global,
+        key: HashKey,
+        dialect: Dialect,
+        epochs: Epochs,
+    ) -> Result<Replica, NoMemory>
         ensures { IfOk result (λ r. r ≡ new_replica dialect epochs) }
     {
-        Replica::fresh(alloc, Learner::new(alloc, dialect, epochs))
+        Replica::fresh(alloc, key, Learner::new(alloc, dialect, epochs))
     }
 
     /// A replica that serves in epoch 1, and whose tree has one session with this timeout in milliseconds. Its leaders
-    /// speak this dialect. Fails only if an allocation is refused.
+    /// speak this dialect, and its nodes are found by this key. Fails only if an allocation is refused.
     pub fn primed(
         alloc: Global,
+        key: HashKey,
         dialect: Dialect,
         session: i64,
         time_out: i32,
     ) -> Result<Replica, NoMemory>
         ensures { IfOk result (λ r. r ≡ primed_replica dialect session time_out) }
     {
-        let mut replica = Replica::fresh(alloc, Learner::primed(alloc, dialect))?;
+        let mut replica = Replica::fresh(alloc, key, Learner::primed(alloc, dialect))?;
         replica.base.put_session(session, time_out)?;
         replica.tree.put_session(session, time_out)?;
         Ok(replica)
     }
 
     // The tree and the base before any transaction.
-    fn fresh(alloc: Global, learner: Learner) -> Result<Replica, NoMemory>
+    fn fresh(alloc: Global, key: HashKey, learner: Learner) -> Result<Replica, NoMemory>
         ensures { IfOk result (λ r. r ≡ replica_at learner fresh_state) }
     {
         Ok(Replica {
             learner,
-            base: Tree::fresh(alloc)?,
-            tree: Tree::fresh(alloc)?,
+            base: Tree::fresh_with_key(alloc, key)?,
+            tree: Tree::fresh_with_key(alloc, key)?,
         })
     }
 

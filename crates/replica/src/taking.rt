@@ -60,7 +60,7 @@ impl Replica {
             (self.new ≡ record self.old { base = loader.old.made.state; tree = loader.old.made.state }) }
         ensures loader { OnOk result (loader.new ≡ nothing_loaded self.old.learner.dialect) }
     {
-        let next = Loader::in_dialect(self.learner.dialect(), alloc);
+        let next = Loader::with_key(self.learner.dialect(), alloc, self.tree.hash_key());
         let loaded = mem::replace(loader, next);
         // Tree and base are dropped before the new base is made, so that no more than two trees take memory.
         self.base = Tree::empty(alloc);
@@ -126,7 +126,7 @@ impl Replica {
             Act::LoadPart(part) => return loader.part(alloc, part),
             Act::LoadImage => return Ok(self.load_image(alloc, loader)?),
             Act::DropImage => {
-                *loader = Loader::in_dialect(self.learner.dialect(), alloc);
+                *loader = Loader::with_key(self.learner.dialect(), alloc, self.tree.hash_key());
                 return Ok(());
             }
             Act::Truncate(_) => return Ok(self.rebuild(alloc)?),

@@ -1,5 +1,6 @@
 //! The events of a replica, and the view of it afterwards.
 
+use data_tree::HashKey;
 use jute::{StatPersisted, put_int, put_long};
 use paths_and_acls::Path;
 use quorum_packet::{Item, LentItem, Packet, PacketKind, QuorumPacket};
@@ -275,11 +276,12 @@ fn play(
 
 /// The view of a replica that starts like this, after these events.
 pub fn after(alloc: Global, start: Start, events: &[Event]) -> Result<Seen, NoMemory> {
+    let key = HashKey::default();
     let mut replica = match start {
-        Start::New => Replica::new(alloc, Dialect::Zk34, Epochs::default())?,
-        Start::Primed => Replica::primed(alloc, Dialect::Zk34, 4, 10_000)?,
-        Start::LaterNew => Replica::new(alloc, Dialect::Zk38, Epochs::default())?,
-        Start::LaterPrimed => Replica::primed(alloc, Dialect::Zk38, 4, 10_000)?,
+        Start::New => Replica::new(alloc, key, Dialect::Zk34, Epochs::default())?,
+        Start::Primed => Replica::primed(alloc, key, Dialect::Zk34, 4, 10_000)?,
+        Start::LaterNew => Replica::new(alloc, key, Dialect::Zk38, Epochs::default())?,
+        Start::LaterPrimed => Replica::primed(alloc, key, Dialect::Zk38, 4, 10_000)?,
     };
     let mut loader = Loader::in_dialect(replica.learner().dialect(), alloc);
     play(alloc, &mut replica, &mut loader, events)

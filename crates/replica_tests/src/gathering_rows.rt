@@ -4,7 +4,7 @@ ghost use Rattle.std.specs.Prelude.{◌≡◌, OnOk, IfOk};
 ghost use Rattle.data_tree.specs.Meaning.{state_after, outcomes_of_txns};
 
 use crate::events::at;
-use data_tree::{Outcome, Tree};
+use data_tree::{HashKey, Outcome, Tree};
 use jute::Stat;
 use quorum_packet::{LentItem, Packet, PacketKind};
 use replica::{Replica, brings_txns};
@@ -101,7 +101,7 @@ fn view(alloc: Global, replica: &mut Replica) -> Result<GatheredView, NoMemory> 
 
 // The view of a primed replica.
 fn gathered(alloc: Global) -> Result<GatheredView, NoMemory> {
-    let mut replica = Replica::primed(alloc, Dialect::Zk34, 4, 10_000)?;
+    let mut replica = Replica::primed(alloc, HashKey::default(), Dialect::Zk34, 4, 10_000)?;
     view(alloc, &mut replica)
 }
 

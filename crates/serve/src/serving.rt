@@ -61,6 +61,17 @@ fn first_counter<R: Clock>(rt: &R, options: &Options<'_>) -> io::Result<FirstCou
     Ok(FirstCounter::from_clock(milliseconds))
 }
 
+fn random_number<R: RandomSource>(rt: &R) -> io::Result<u64> {
+    let mut bytes = [0; 8];
+    rt.fill_bytes(&mut bytes)?;
+    Ok(u64::from_le_bytes(bytes))
+}
+
+// The key by which nodes are found. It is random, so that no client can choose paths whose hashes collide.
+fn hash_key<R: RandomSource>(rt: &R) -> io::Result<HashKey> {
+    Ok(HashKey::new(random_number(rt)?, random_number(rt)?))
+}
+
 // The observer's settings. Those without an option have the defaults of a script.
 fn config_of(
     alloc: Global,
@@ -309,7 +320,7 @@ pub(crate) fn try_serve_on<
     let file = create_record(rt, alloc, options)?;
     let mut record = Record::new(alloc, file);
     let port = listener.local_addr()?.port();
-    let config = config_of(alloc, options, secret, first_counter)?;
+    let config = config_of(alloc, options, secret, first_counter)?.with_hash_key(hash_key(rt)?);
     record.begin(&config.settings);
     let prepared = prepare(rt, alloc, options, origin, listener)?;
     let Logging {

@@ -7,7 +7,7 @@ ghost use Rattle.snapshot_codec.specs.Reads.{TakesPart};
 use crate::acl_table::AclTable;
 use crate::owner::{comes_late, loaded_stat, mark_in, or_missing};
 use crate::part::{ImageAcl, ImageNode, ImagePart, ImageSession};
-use data_tree::{Node, Tree};
+use data_tree::{HashKey, Node, Tree};
 use ephemerals::TextSet;
 use paths_and_acls::AclList;
 use settings::Dialect;
@@ -53,9 +53,16 @@ impl Loader {
     pub fn in_dialect(dialect: Dialect, alloc: Global) -> Loader
         ensures { result ≡ record { made = no_parts_in dialect; ended = false } }
     {
+        Loader::with_key(dialect, alloc, HashKey::default())
+    }
+
+    /// The same, where the nodes of the tree are found by this key.
+    pub fn with_key(dialect: Dialect, alloc: Global, key: HashKey) -> Loader
+        ensures { result ≡ record { made = no_parts_in dialect; ended = false } }
+    {
         Loader {
             dialect,
-            tree: Tree::empty(alloc),
+            tree: Tree::empty_with_key(alloc, key),
             lists: AclTable::new(alloc),
             ended: false,
         }

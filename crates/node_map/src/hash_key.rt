@@ -2,8 +2,9 @@
 
 use std::hash::{BuildHasher, DefaultHasher, Hasher};
 
-/// The key of the hash of paths. Nobody who chooses paths should know it. What it is shows in no answer, so no contract
-/// speaks of it.
+/// The key of the hash by which nodes are found. Clients choose paths: where they know the key, they can choose such as
+/// collide, which makes each look-up slow. So a server draws it at random. It shows in no answer, so no contract speaks
+/// of it. The default is known to everybody.
 #[derive(Clone, Copy, Drop)]
 pub struct HashKey {
     // The hasher after the key's two numbers.
@@ -16,6 +17,12 @@ impl HashKey {
         start.write_u64(first);
         start.write_u64(second);
         HashKey { start }
+    }
+}
+
+impl Default for HashKey {
+    fn default() -> HashKey {
+        HashKey::new(0, 0)
     }
 }
 

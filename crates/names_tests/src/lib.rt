@@ -1,8 +1,0 @@
-//! Tests of paths by number, over public calls alone. They are a crate of their own, since a crate with tests is proved
-//! twice.
-#![tactic(auto)]
-
-#[cfg(test)]
-mod keys;
-#[cfg(test)]
-mod numbers;
