@@ -8,8 +8,8 @@ pub loop-path-init : goal.loop-path-init
 loop-path-init c = (
   tt,
   tt,
-  no_room_yet c.args.paths.now c.args.self.now c.keyed-room.result (map string_bytes c.into_iter-path-iterator.result)
-      c.keyed-room.ensures
+  no_room_yet c.args.paths.now c.args.self.now c.with_key-room.result (map string_bytes c.into_iter-path-iterator.result)
+      c.with_key-room.ensures
       (ap (map string_bytes) c.into_iter-path-iterator.ensures.into_iter_gives ∙ c.iter-path-items.ensures.texts),
 )
 

@@ -9,7 +9,7 @@ returns c =
       c.started.ensures,
       c.in_ok-replica.ensures,
       c.in_dialect.ensures,
-      c.in_dialect-2.ensures,
+      c.with_key.ensures,
       c.in_ok-session.ensures.clients,
       same_id,
       c.in_ok-session.ensures.session,

@@ -1,12 +1,12 @@
 use Rattle.std.proofs.Common.{◌∙◌}
 use Rattle.std.specs.FinMap as finmap
-use Rattle.data_tree.proofs.tree.Tree.fresh.Goals as goal
+use Rattle.data_tree.proofs.tree.Tree.fresh_with_key.Goals as goal
 
 pub returns : goal.returns
 returns c =
     let one =
     c.in_ok-insert.ensures.ok
-    ∙ (λ i. finmap.insert (c.new-nodes.ensures i) (c.in_ok-from_str.ensures.ok i) (c.in_ok-with_child.ensures i)) in
+    ∙ (λ i. finmap.insert (c.with_key-nodes.ensures i) (c.in_ok-from_str.ensures.ok i) (c.in_ok-with_child.ensures i)) in
     let two =
     c.in_ok-insert-2.ensures.ok
     ∙ (λ i. finmap.insert (one i) (c.in_ok-from_str-2.ensures.ok i) (c.in_ok-with_child-2.ensures i)) in
