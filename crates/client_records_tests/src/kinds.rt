@@ -1,5 +1,6 @@
 //! The codes of requests.
 
+use crate::helpers::expect;
 use client_records::{ReadKind, RequestKind};
 use settings::Dialect;
 use std::test::*;
@@ -42,21 +43,36 @@ const LATER: [(RequestKind, i32); 13] = [
     (RequestKind::WhoAmI, 107),
 ];
 
+// The code of a type, and whether the code is of this type in ZooKeeper 3.4, and in later versions.
+fn there_and_back(kind: RequestKind, code: i32) -> (i32, bool, bool) {
+    (
+        kind.code(),
+        RequestKind::from_code(Dialect::Zk34, code) == Some(kind),
+        RequestKind::from_code(Dialect::Zk38, code) == Some(kind),
+    )
+}
+
+// A code, and whether it is no type's in ZooKeeper 3.4, and in later versions.
+fn unknown(code: i32) -> (i32, bool, bool) {
+    (
+        code,
+        RequestKind::from_code(Dialect::Zk34, code).is_none(),
+        RequestKind::from_code(Dialect::Zk38, code).is_none(),
+    )
+}
+
 #[test]
 fn codes_there_and_back(rt: HostRuntime) {
     for (kind, code) in CODES {
-        assert_eq!(rt; kind.code(), code);
-        assert!(rt; RequestKind::from_code(Dialect::Zk34, code) == Some(kind));
-        assert!(rt; RequestKind::from_code(Dialect::Zk38, code) == Some(kind));
+        expect(&rt, &there_and_back(kind, code), &(code, true, true));
     }
 }
 
 #[test]
 fn later_codes(rt: HostRuntime) {
     for (kind, code) in LATER {
-        assert_eq!(rt; kind.code(), code);
-        assert!(rt; RequestKind::from_code(Dialect::Zk34, code).is_none());
-        assert!(rt; RequestKind::from_code(Dialect::Zk38, code) == Some(kind));
+        expect(&rt, &there_and_back(kind, code), &(code, false, true));
+        expect(&rt, &unknown(code), &(code, true, false));
     }
 }
 
@@ -64,7 +80,6 @@ fn later_codes(rt: HostRuntime) {
 #[test]
 fn other_codes(rt: HostRuntime) {
     for code in [0, 10, 23, 99, 108, -1, -10, i32::MAX, i32::MIN] {
-        assert!(rt; RequestKind::from_code(Dialect::Zk34, code).is_none());
-        assert!(rt; RequestKind::from_code(Dialect::Zk38, code).is_none());
+        expect(&rt, &unknown(code), &(code, true, true));
     }
 }

@@ -1,12 +1,12 @@
 //! The requests of later clients and their responses. The bytes are those of a client of ZooKeeper 3.8 and of its server.
 
-use crate::is_read;
+use crate::helpers::{expect, expect_spelled, expect_written};
 use client_records::{
     Boxed, ClientInfo, ErrorResponse, GetAllChildrenNumberResponse, MultiHeader, Name, PathAndKind,
     ReadKind, ReadPart, SaslRequest, SaslResponse, SetWatches, SetWatches2, WhoAmIResponse,
     read_parts,
 };
-use jute::{Reader, WriteRecord};
+use jute::Reader;
 use std::alloc::Global;
 use std::test::Fail;
 use values::{Bytes, Fault, Listed, ReadError, Str};
@@ -33,11 +33,7 @@ fn set_watches2(rt: HostRuntime) -> Result<(), Fail> {
         persistent_watches: Listed::from_vec(vec![in alloc; Name::new("/p")]?),
         recursive_watches: Listed::from_vec(vec![in alloc; Name::new("/r")]?),
     };
-    assert!(rt; is_read(alloc, bytes, &expected)?);
-    let mut out = Vec::new(alloc);
-    expected.write(&mut out)?;
-    assert_eq!(rt; out.as_slice(), &bytes[..58]);
-    Ok(())
+    expect_spelled(&rt, alloc, bytes, &expected)
 }
 
 /// A record in a box is the record.
@@ -57,11 +53,7 @@ fn path_and_kind(rt: HostRuntime) -> Result<(), Fail> {
         path: Some(Str::new("/a")),
         kind: 3,
     };
-    assert!(rt; is_read(rt.alloc(), bytes, &expected)?);
-    let mut out = Vec::new(rt.alloc());
-    expected.write(&mut out)?;
-    assert_eq!(rt; out.as_slice(), &bytes[..10]);
-    Ok(())
+    expect_spelled(&rt, rt.alloc(), bytes, &expected)
 }
 
 #[test]
@@ -71,11 +63,7 @@ fn sasl_request(rt: HostRuntime) -> Result<(), Fail> {
     let expected = SaslRequest {
         token: Some(Bytes::new(b"abc")),
     };
-    assert!(rt; is_read(rt.alloc(), bytes, &expected)?);
-    let mut out = Vec::new(rt.alloc());
-    expected.write(&mut out)?;
-    assert_eq!(rt; out.as_slice(), &bytes[..7]);
-    Ok(())
+    expect_spelled(&rt, rt.alloc(), bytes, &expected)
 }
 
 /// The header of a getData in a multiRead.
@@ -88,11 +76,7 @@ fn multi_header(rt: HostRuntime) -> Result<(), Fail> {
         done: false,
         err: -1,
     };
-    assert!(rt; is_read(rt.alloc(), bytes, &expected)?);
-    let mut out = Vec::new(rt.alloc());
-    expected.write(&mut out)?;
-    assert_eq!(rt; out.as_slice(), &bytes[..9]);
-    Ok(())
+    expect_spelled(&rt, rt.alloc(), bytes, &expected)
 }
 
 // Whether a part is of this kind and path.
@@ -107,15 +91,23 @@ const PARTS: [u8; 42] = *b"\x00\x00\x00\x04\x00\xff\xff\xff\xff\x00\x00\x00\x02/
     \x00\x00\x00\x08\x00\xff\xff\xff\xff\x00\x00\x00\x02/b\x01\
     \xff\xff\xff\xff\x01\xff\xff\xff\xff\x07";
 
+// How many parts are read, whether they are a getData of /a and a getChildren of /b, and whether the last byte is left.
+fn two_parts(alloc: Global) -> Result<(usize, bool, bool, bool), Fail> {
+    let mut reader = Reader::new(&PARTS);
+    let parts = read_parts(alloc, &mut reader)?;
+    let parts = parts.as_slice();
+    Ok((
+        parts.len(),
+        is_part(parts.first(), ReadKind::GetData, "/a"),
+        is_part(parts.get(1), ReadKind::GetChildren, "/b"),
+        reader.rest() == b"\x07".as_slice(),
+    ))
+}
+
 /// A getData and a getChildren, and a byte after the end.
 #[test]
 fn parts_of_a_multi_read(rt: HostRuntime) -> Result<(), Fail> {
-    let mut reader = Reader::new(&PARTS);
-    let parts = read_parts(rt.alloc(), &mut reader)?;
-    assert_eq!(rt; parts.as_slice().len(), 2);
-    assert!(rt; is_part(parts.as_slice().first(), ReadKind::GetData, "/a"));
-    assert!(rt; is_part(parts.as_slice().get(1), ReadKind::GetChildren, "/b"));
-    assert_eq!(rt; reader.rest(), b"\x07".as_slice());
+    expect(&rt, &two_parts(rt.alloc())?, &(2, true, true, true));
     Ok(())
 }
 
@@ -130,22 +122,27 @@ fn are_refused(alloc: Global, bytes: &[u8], fault: Fault) -> bool {
 /// Without the end, and with an exists.
 #[test]
 fn other_parts(rt: HostRuntime) {
-    assert!(rt; are_refused(rt.alloc(), &PARTS[..32], Fault::Short));
-    assert!(rt; are_refused(rt.alloc(), &[], Fault::Short));
     let exists = b"\x00\x00\x00\x03\x00\xff\xff\xff\xff\x00\x00\x00\x02/a\x00";
-    assert!(rt; are_refused(rt.alloc(), exists, Fault::BadTxnType));
+    let others: [(&[u8], Fault); 3] = [
+        (&PARTS[..32], Fault::Short),
+        (&[], Fault::Short),
+        (exists, Fault::BadTxnType),
+    ];
+    for (bytes, fault) in others {
+        assert!(rt; are_refused(rt.alloc(), bytes, fault));
+    }
 }
 
 #[test]
 #[tactic(auto, unfolding(client_records::specs::Responses::error_response, client_records::specs::Responses::all_children_number_response, client_records::specs::Responses::sasl_response))]
 fn short_responses(rt: HostRuntime) -> Result<(), Fail> {
-    let mut out = Vec::new(rt.alloc());
-    ErrorResponse { err: -101 }.write(&mut out)?;
-    GetAllChildrenNumberResponse { total_number: 4 }.write(&mut out)?;
-    SaslResponse { token: None }.write(&mut out)?;
-    let expected = b"\xff\xff\xff\x9b\x00\x00\x00\x04\xff\xff\xff\xff";
-    assert_eq!(rt; out.as_slice(), expected.as_slice());
-    Ok(())
+    let alloc = rt.alloc();
+    let error = ErrorResponse { err: -101 };
+    expect_written(&rt, alloc, &error, b"\xff\xff\xff\x9b")?;
+    let number = GetAllChildrenNumberResponse { total_number: 4 };
+    expect_written(&rt, alloc, &number, b"\x00\x00\x00\x04")?;
+    let sasl = SaslResponse { token: None };
+    expect_written(&rt, alloc, &sasl, b"\xff\xff\xff\xff")
 }
 
 /// A client that has shown one digest.
@@ -160,9 +157,6 @@ fn who_am_i_response(rt: HostRuntime) -> Result<(), Fail> {
     let response = WhoAmIResponse {
         client_info: Listed::from_vec(vec![in alloc; alice]?),
     };
-    let mut out = Vec::new(alloc);
-    response.write(&mut out)?;
-    let expected = b"\x00\x00\x00\x01\x00\x00\x00\x06digest\x00\x00\x00\x05alice";
-    assert_eq!(rt; out.as_slice(), expected.as_slice());
-    Ok(())
+    let bytes = b"\x00\x00\x00\x01\x00\x00\x00\x06digest\x00\x00\x00\x05alice";
+    expect_written(&rt, alloc, &response, bytes)
 }

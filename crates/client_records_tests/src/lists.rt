@@ -1,5 +1,6 @@
 //! Lists, and names in a set.
 
+use crate::helpers::expect;
 use client_records::{Name, put_list, put_names, read_list};
 use jute::Reader;
 use std::alloc::Global;
@@ -13,7 +14,7 @@ fn names_of_an_empty_set(rt: HostRuntime) -> Result<(), Fail> {
     let names: BTreeSet<String> = BTreeSet::new(rt.alloc());
     let mut out = Vec::new(rt.alloc());
     put_names(&mut out, names.iter())?;
-    assert_eq!(rt; out.as_slice(), b"\x00\x00\x00\x00".as_slice());
+    expect(&rt, &out.as_slice(), &b"\x00\x00\x00\x00".as_slice());
     Ok(())
 }
 
@@ -33,9 +34,14 @@ fn are_read<'a>(alloc: Global, bytes: &'a [u8], texts: &[&'a str]) -> Result<boo
 fn a_list_is_read(rt: HostRuntime) -> Result<(), Fail> {
     let alloc = rt.alloc();
     let three = b"\x00\x00\x00\x03\x00\x00\x00\x02/b\x00\x00\x00\x02/a\x00\x00\x00\x02/b\x07";
-    assert!(rt; are_read(alloc, three, &["/b", "/a", "/b"])?);
-    assert!(rt; are_read(alloc, b"\x00\x00\x00\x00\x07", &[])?);
-    assert!(rt; are_read(alloc, b"\xff\xff\xff\xff\x07", &[])?);
+    let lists: [(&[u8], &[&str]); 3] = [
+        (three, &["/b", "/a", "/b"]),
+        (b"\x00\x00\x00\x00\x07", &[]),
+        (b"\xff\xff\xff\xff\x07", &[]),
+    ];
+    for (bytes, texts) in lists {
+        assert!(rt; are_read(alloc, bytes, texts)?);
+    }
     Ok(())
 }
 
@@ -49,9 +55,10 @@ fn is_refused(alloc: Global, bytes: &[u8]) -> bool {
 /// A count below -1, and one that exceeds the bytes.
 #[test]
 fn a_list_is_refused(rt: HostRuntime) {
-    let alloc = rt.alloc();
-    assert!(rt; is_refused(alloc, b"\xff\xff\xff\xfe"));
-    assert!(rt; is_refused(alloc, b"\x00\x00\x00\x02\x00\x00\x00\x02/a"));
+    let lists: [&[u8]; 2] = [b"\xff\xff\xff\xfe", b"\x00\x00\x00\x02\x00\x00\x00\x02/a"];
+    for bytes in lists {
+        assert!(rt; is_refused(rt.alloc(), bytes));
+    }
 }
 
 /// Without a name the list is empty, and not null.
@@ -62,9 +69,7 @@ fn a_list_is_written(rt: HostRuntime) -> Result<(), Fail> {
     put_list(&mut out, [Name::new("/b"), Name::new("/a")].as_slice())?;
     let none: &[Name<'_>] = &[];
     put_list(&mut out, none)?;
-    assert_eq!(rt;
-        out.as_slice(),
-        b"\x00\x00\x00\x02\x00\x00\x00\x02/b\x00\x00\x00\x02/a\x00\x00\x00\x00".as_slice()
-    );
+    let bytes = b"\x00\x00\x00\x02\x00\x00\x00\x02/b\x00\x00\x00\x02/a\x00\x00\x00\x00";
+    expect(&rt, &out.as_slice(), &bytes.as_slice());
     Ok(())
 }

@@ -1,10 +1,9 @@
 //! The requests of clients.
 
-use crate::is_read;
+use crate::helpers::{expect_read, expect_spelled};
 use client_records::{
     AddWatch, AuthPacket, ConnectRequest, Name, PathAlone, PathAndWatch, SetWatches,
 };
-use jute::WriteRecord;
 use std::alloc::Global;
 use std::test::Fail;
 use values::{Bytes, Listed, NoMemory, Str};
@@ -28,11 +27,7 @@ fn connect_request(rt: HostRuntime) -> Result<(), Fail> {
         session_id: 5,
         passwd: Some(Bytes::new(&[0; 16])),
     };
-    assert!(rt; is_read(rt.alloc(), CONNECT.as_slice(), &expected)?);
-    let mut out = Vec::new(rt.alloc());
-    expected.write(&mut out)?;
-    assert_eq!(rt; out.as_slice(), &CONNECT[..44]);
-    Ok(())
+    expect_spelled(&rt, rt.alloc(), CONNECT.as_slice(), &expected)
 }
 
 /// A path and a watch, and a byte after them.
@@ -44,16 +39,12 @@ fn path_and_watch(rt: HostRuntime) -> Result<(), Fail> {
         path: Some(Str::new("/")),
         watch: true,
     };
-    assert!(rt; is_read(rt.alloc(), bytes, &expected)?);
-    let mut out = Vec::new(rt.alloc());
-    expected.write(&mut out)?;
-    assert_eq!(rt; out.as_slice(), &bytes[..6]);
+    expect_spelled(&rt, rt.alloc(), bytes, &expected)?;
     let null = PathAndWatch {
         path: None,
         watch: false,
     };
-    assert!(rt; is_read(rt.alloc(), b"\xff\xff\xff\xff\x00\x07", &null)?);
-    Ok(())
+    expect_read(&rt, rt.alloc(), b"\xff\xff\xff\xff\x00\x07", &null)
 }
 
 #[test]
@@ -63,11 +54,7 @@ fn get_acl_request(rt: HostRuntime) -> Result<(), Fail> {
     let expected = PathAlone {
         path: Some(Str::new("/a")),
     };
-    assert!(rt; is_read(rt.alloc(), bytes, &expected)?);
-    let mut out = Vec::new(rt.alloc());
-    expected.write(&mut out)?;
-    assert_eq!(rt; out.as_slice(), &bytes[..6]);
-    Ok(())
+    expect_spelled(&rt, rt.alloc(), bytes, &expected)
 }
 
 #[test]
@@ -79,11 +66,7 @@ fn auth_packet(rt: HostRuntime) -> Result<(), Fail> {
         scheme: Some(Str::new("digest")),
         auth: Some(Bytes::new(b"super:admin")),
     };
-    assert!(rt; is_read(rt.alloc(), bytes, &expected)?);
-    let mut out = Vec::new(rt.alloc());
-    expected.write(&mut out)?;
-    assert_eq!(rt; out.as_slice(), &bytes[..29]);
-    Ok(())
+    expect_spelled(&rt, rt.alloc(), bytes, &expected)
 }
 
 /// Mode 1 at /a, and a byte after the record.
@@ -95,16 +78,17 @@ fn add_watch(rt: HostRuntime) -> Result<(), Fail> {
         path: Some(Str::new("/a")),
         mode: 1,
     };
-    assert!(rt; is_read(rt.alloc(), bytes, &expected)?);
-    let mut out = Vec::new(rt.alloc());
-    expected.write(&mut out)?;
-    assert_eq!(rt; out.as_slice(), &bytes[..10]);
+    expect_spelled(&rt, rt.alloc(), bytes, &expected)?;
     let null = AddWatch {
         path: None,
         mode: -1,
     };
-    assert!(rt; is_read(rt.alloc(), b"\xff\xff\xff\xff\xff\xff\xff\xff\x07", &null)?);
-    Ok(())
+    expect_read(
+        &rt,
+        rt.alloc(),
+        b"\xff\xff\xff\xff\xff\xff\xff\xff\x07",
+        &null,
+    )
 }
 
 // The list of one name.
@@ -116,19 +100,6 @@ const WATCHES: [u8; 38] = *b"\x00\x00\x00\x00\x00\x00\x00\x00\
     \x00\x00\x00\x01\x00\x00\x00\x02/a\
     \x00\x00\x00\x01\x00\x00\x00\x02/q\
     \x00\x00\x00\x01\x00\x00\x00\x01/\x07";
-
-#[test]
-fn set_watches_are_read(rt: HostRuntime) -> Result<(), Fail> {
-    let alloc = rt.alloc();
-    let expected = SetWatches {
-        relative_zxid: 0,
-        data_watches: one(alloc, "/a")?,
-        exist_watches: one(alloc, "/q")?,
-        child_watches: one(alloc, "/")?,
-    };
-    assert!(rt; is_read(alloc, WATCHES.as_slice(), &expected)?);
-    Ok(())
-}
 
 /// A null list is read as empty, and a null path as an empty one.
 #[test]
@@ -142,22 +113,18 @@ fn null_watches(rt: HostRuntime) -> Result<(), Fail> {
         exist_watches: one(alloc, "")?,
         child_watches: Listed::from_vec(Vec::new(alloc)),
     };
-    assert!(rt; is_read(alloc, bytes, &expected)?);
-    Ok(())
+    expect_read(&rt, alloc, bytes, &expected)
 }
 
 #[test]
 #[tactic(auto, unfolding(client_records::specs::Requests::set_watches))]
-fn set_watches_are_written(rt: HostRuntime) -> Result<(), Fail> {
+fn set_watches(rt: HostRuntime) -> Result<(), Fail> {
     let alloc = rt.alloc();
-    let watches = SetWatches {
+    let expected = SetWatches {
         relative_zxid: 0,
         data_watches: Listed::from_vec(vec![in alloc; Name::new("/a")]?),
         exist_watches: Listed::from_vec(vec![in alloc; Name::new("/q")]?),
         child_watches: Listed::from_vec(vec![in alloc; Name::new("/")]?),
     };
-    let mut out = Vec::new(alloc);
-    watches.write(&mut out)?;
-    assert_eq!(rt; out.as_slice(), &WATCHES[..37]);
-    Ok(())
+    expect_spelled(&rt, alloc, WATCHES.as_slice(), &expected)
 }

@@ -1,12 +1,13 @@
 //! The responses and events for clients.
 
-use crate::is_read;
+use crate::helpers::{expect_read, expect_spelled, expect_written};
 use client_records::{
     Acls, ConnectResponse, Create2Response, ExistsResponse, GetAclResponse, GetChildren2Response,
     GetChildrenResponse, GetDataResponse, Name, PathResponse, WatcherEvent,
 };
-use jute::{Acl, Id, ReadRecord, Reader, Stat, WriteRecord, read_vector};
+use jute::{Acl, Id, ReadRecord, Reader, Stat, read_vector};
 use std::alloc::Global;
+use std::process::Abort;
 use std::test::Fail;
 use values::{Blob, Bytes, Listed, NoMemory, Str};
 
@@ -42,11 +43,12 @@ fn with_root(alloc: Global, front: &[u8]) -> Result<Vec<u8>, NoMemory> {
     Ok(bytes)
 }
 
-// Whether the bytes are those of `with_root` except for the last one.
-fn are_with_root(alloc: Global, bytes: &[u8], front: &[u8]) -> Result<bool, NoMemory> {
-    let mut bytes = Vec::from_slice(alloc, bytes)?;
-    bytes.push(7)?;
-    Ok(bytes.as_slice() == with_root(alloc, front)?.as_slice())
+// All bytes but the last one.
+fn without_last(bytes: &[u8]) -> &[u8] {
+    match bytes.split_last() {
+        Some((_, front)) => front,
+        None => bytes,
+    }
 }
 
 #[test]
@@ -61,11 +63,7 @@ fn connect_response(rt: HostRuntime) -> Result<(), Fail> {
         session_id: 0x300_0000_0000_0001,
         passwd: Some(Blob::new(alloc, b"pw")?),
     };
-    assert!(rt; is_read(alloc, bytes, &expected)?);
-    let mut out = Vec::new(alloc);
-    expected.write(&mut out)?;
-    assert_eq!(rt; out.as_slice(), &bytes[..22]);
-    Ok(())
+    expect_spelled(&rt, alloc, bytes, &expected)
 }
 
 #[test]
@@ -74,20 +72,21 @@ fn exists_response(rt: HostRuntime) -> Result<(), Fail> {
     let alloc = rt.alloc();
     let bytes = with_root(alloc, b"")?;
     let expected = ExistsResponse { stat: root() };
-    assert!(rt; is_read(alloc, bytes.as_slice(), &expected)?);
-    let mut out = Vec::new(alloc);
-    expected.write(&mut out)?;
-    assert!(rt; are_with_root(alloc, out.as_slice(), b"")?);
-    Ok(())
+    expect_spelled(&rt, alloc, bytes.as_slice(), &expected)
 }
 
-// Whether the bytes are read as the reply to getData with this data.
-fn is_read_as<'a>(alloc: Global, bytes: &'a [u8], data: &'a [u8]) -> Result<bool, Fail> {
+// Ends the test unless the bytes are read as the reply to getData with this data.
+fn expect_data<'a, R: Abort>(
+    rt: &R,
+    alloc: Global,
+    bytes: &'a [u8],
+    data: &'a [u8],
+) -> Result<(), Fail> {
     let expected = GetDataResponse {
         bytes: Some(Bytes::new(data)),
         stat: root(),
     };
-    is_read(alloc, bytes, &expected)
+    expect_read(rt, alloc, bytes, &expected)
 }
 
 #[test]
@@ -95,15 +94,12 @@ fn is_read_as<'a>(alloc: Global, bytes: &'a [u8], data: &'a [u8]) -> Result<bool
 fn get_data_response(rt: HostRuntime) -> Result<(), Fail> {
     let alloc = rt.alloc();
     let bytes = with_root(alloc, b"\x00\x00\x00\x02hi")?;
-    assert!(rt; is_read_as(alloc, bytes.as_slice(), b"hi")?);
     let expected = GetDataResponse {
         bytes: Some(Bytes::new(b"hi")),
         stat: root(),
     };
-    let mut out = Vec::new(alloc);
-    expected.write(&mut out)?;
-    assert!(rt; are_with_root(alloc, out.as_slice(), b"\x00\x00\x00\x02hi")?);
-    Ok(())
+    expect_data(&rt, alloc, bytes.as_slice(), b"hi")?;
+    expect_written(&rt, alloc, &expected, without_last(bytes.as_slice()))
 }
 
 /// The names of two children, and a byte after them.
@@ -117,26 +113,23 @@ fn get_children_response(rt: HostRuntime) -> Result<(), Fail> {
     let expected = GetChildrenResponse {
         children: Listed::from_vec(names),
     };
-    let mut out = Vec::new(alloc);
-    expected.write(&mut out)?;
-    assert_eq!(rt; out.as_slice(), &CHILDREN[..22]);
-    assert!(rt; is_read(alloc, CHILDREN.as_slice(), &expected)?);
-    Ok(())
+    expect_spelled(&rt, alloc, CHILDREN.as_slice(), &expected)
 }
 
-// Whether the bytes are read as the reply to getChildren2 that lists these names.
-fn lists_them<'a>(
+// Ends the test unless the bytes are read as the reply to getChildren2 that lists these names.
+fn expect_names<'a, R: Abort>(
+    rt: &R,
     alloc: Global,
     bytes: &'a [u8],
     first: &'a str,
     second: &'a str,
-) -> Result<bool, Fail> {
+) -> Result<(), Fail> {
     let names = vec![in alloc; Name::new(first), Name::new(second)]?;
     let expected = GetChildren2Response {
         children: Listed::from_vec(names),
         stat: root(),
     };
-    is_read(alloc, bytes, &expected)
+    expect_read(rt, alloc, bytes, &expected)
 }
 
 #[test]
@@ -148,12 +141,9 @@ fn get_children2_response(rt: HostRuntime) -> Result<(), Fail> {
         children: Listed::from_vec(names),
         stat: root(),
     };
-    let mut out = Vec::new(alloc);
-    expected.write(&mut out)?;
-    assert!(rt; are_with_root(alloc, out.as_slice(), &CHILDREN[..22])?);
-    let bytes = with_root(alloc, &CHILDREN[..22])?;
-    assert!(rt; lists_them(alloc, bytes.as_slice(), "a", "zookeeper")?);
-    Ok(())
+    let bytes = with_root(alloc, without_last(CHILDREN.as_slice()))?;
+    expect_names(&rt, alloc, bytes.as_slice(), "a", "zookeeper")?;
+    expect_written(&rt, alloc, &expected, without_last(bytes.as_slice()))
 }
 
 // Whether the bytes are these entries and the root's Stat, read field by field.
@@ -182,11 +172,11 @@ fn get_acl_response(rt: HostRuntime) -> Result<(), Fail> {
         acl: Acls::new(list.as_slice()),
         stat: root(),
     };
-    let mut out = Vec::new(alloc);
-    response.write(&mut out)?;
     let front = b"\x00\x00\x00\x01\x00\x00\x00\x1f\x00\x00\x00\x05world\x00\x00\x00\x06anyone";
-    assert!(rt; are_with_root(alloc, out.as_slice(), front)?);
-    assert!(rt; are_read(alloc, out.as_slice(), list.as_slice())?);
+    let bytes = with_root(alloc, front)?;
+    let bytes = without_last(bytes.as_slice());
+    expect_written(&rt, alloc, &response, bytes)?;
+    assert!(rt; are_read(alloc, bytes, list.as_slice())?);
     Ok(())
 }
 
@@ -199,11 +189,7 @@ fn watcher_event(rt: HostRuntime) -> Result<(), Fail> {
         state: 3,
         path: Some(Str::new("/a/f")),
     };
-    assert!(rt; is_read(rt.alloc(), bytes, &expected)?);
-    let mut out = Vec::new(rt.alloc());
-    expected.write(&mut out)?;
-    assert_eq!(rt; out.as_slice(), &bytes[..16]);
-    Ok(())
+    expect_spelled(&rt, rt.alloc(), bytes, &expected)
 }
 
 #[test]
@@ -212,10 +198,7 @@ fn path_response(rt: HostRuntime) -> Result<(), Fail> {
     let response = PathResponse {
         path: Some(Str::new("/a/f")),
     };
-    let mut out = Vec::new(rt.alloc());
-    response.write(&mut out)?;
-    assert_eq!(rt; out.as_slice(), b"\x00\x00\x00\x04/a/f".as_slice());
-    Ok(())
+    expect_written(&rt, rt.alloc(), &response, b"\x00\x00\x00\x04/a/f")
 }
 
 /// The path comes first, the Stat after it.
@@ -227,8 +210,6 @@ fn create2_response(rt: HostRuntime) -> Result<(), Fail> {
         path: Some(Str::new("/p2")),
         stat: root(),
     };
-    let mut out = Vec::new(alloc);
-    response.write(&mut out)?;
-    assert!(rt; are_with_root(alloc, out.as_slice(), b"\x00\x00\x00\x03/p2")?);
-    Ok(())
+    let bytes = with_root(alloc, b"\x00\x00\x00\x03/p2")?;
+    expect_written(&rt, alloc, &response, without_last(bytes.as_slice()))
 }
