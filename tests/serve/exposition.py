@@ -31,6 +31,8 @@ FAMILIES = [
     ("observer_log_transactions", "gauge", WHOLE),
     ("observer_leader_silence_seconds", "gauge", DECIMAL),
     ("process_resident_memory_bytes", "gauge", WHOLE),
+    ("open_file_descriptor_count", "gauge", WHOLE),
+    ("max_file_descriptor_count", "gauge", WHOLE),
     ("observer_answer_seconds", "histogram", ""),
     ("observer_turn_seconds", "histogram", ""),
 ]

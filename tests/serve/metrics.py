@@ -3,6 +3,7 @@ scrapers that ask for what isn't there, are slow, or hang while it ends."""
 import json
 import os
 import re
+import resource
 import signal
 import socket
 import time
@@ -198,6 +199,17 @@ def test_figures_of_time_and_memory():
         server.ends()
 
 
+def test_figures_of_descriptors():
+    with Metered(limit=lambda: resource.setrlimit(resource.RLIMIT_NOFILE, words.limit_of(200))) as server:
+        for count in (0, 10, 0):
+            clients = [server.client() for _ in range(count)]
+            assert server.tells(num_alive_connections=count)
+            assert words.tells_descriptors(server, 200, lambda it: figures(it.metrics)), figures(server.metrics)
+            for it in clients:
+                it.close()
+        server.ends()
+
+
 def named(expression):
     """The metrics that an expression of PromQL names."""
     plain = re.sub(r"\{[^}]*\}|\[[^\]]*\]|\b(?:by|on|group_right) ?\([^)]*\)", " ", expression)
@@ -209,7 +221,7 @@ def test_figures_that_the_dashboard_and_the_alerts_name():
         panels = json.load(it)["panels"]
     with open(os.path.join(TOP, "contrib", "alerts.yml"), encoding="utf-8") as it:
         expressions = re.findall(r"^ +expr: (.+)$", it.read(), re.M)
-    assert len(panels) >= 15 and len(expressions) == 3, (len(panels), expressions)
+    assert len(panels) >= 15 and len(expressions) == 4, (len(panels), expressions)
     for panel in panels:
         assert panel["title"] and panel["description"] and panel["fieldConfig"]["defaults"]["unit"], panel
         expressions += [it["expr"] for it in panel["targets"]]

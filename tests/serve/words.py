@@ -2,6 +2,7 @@
 and while it doesn't, and that no message and no record has them."""
 import os
 import re
+import resource
 import socket
 import tempfile
 import time
@@ -23,6 +24,7 @@ STATE = (
 MNTR = (
     "version server_state peer_state uptime avg_latency max_latency min_latency packets_received packets_sent"
     " num_alive_connections outstanding_requests connection_rejected znode_count watch_count ephemerals_count"
+    " open_file_descriptor_count max_file_descriptor_count"
 ).split()
 
 
@@ -119,6 +121,40 @@ def test_requests_that_wait_are_outstanding():
         assert is_figure(server, "outstanding_requests", 1)
         client.close()
         assert is_figure(server, "outstanding_requests", 0)
+        server.ends()
+
+
+def limit_of(most):
+    """The limits of a process that may have so many descriptors."""
+    return (most, resource.getrlimit(resource.RLIMIT_NOFILE)[1])
+
+
+def tells_descriptors(server, most, told=figures):
+    """Whether the server soon tells how many descriptors it has, and that it may have so many. It counts them once a
+    second, and whoever asks just then is among them."""
+
+    def is_now():
+        time.sleep(0.3)
+        count, found = server.descriptors(), told(server)
+        return int(found["open_file_descriptor_count"]) == count and int(found["max_file_descriptor_count"]) == most
+
+    return wait_until(is_now, 4)
+
+
+def test_descriptors():
+    with Server(limit=lambda: resource.setrlimit(resource.RLIMIT_NOFILE, limit_of(300))) as server:
+        assert server.is_at_base()
+        assert tells_descriptors(server, 300), figures(server)
+        before = int(figures(server)["open_file_descriptor_count"])
+        clients = [server.client() for _ in range(20)]
+        assert tells_descriptors(server, 300), figures(server)
+        # Each takes three.
+        assert int(figures(server)["open_file_descriptor_count"]) >= before + 60, (before, figures(server))
+        for it in clients:
+            it.close()
+        resource.prlimit(server.program.pid, resource.RLIMIT_NOFILE, limit_of(400))
+        assert server.is_at_base()
+        assert tells_descriptors(server, 400), figures(server)
         server.ends()
 
 

@@ -14,6 +14,7 @@ use rtrb::Consumer;
 use serve_bounds::{Accepted, Door, Pause, Stopwatch, TurnBudget, address_text};
 use serve_failures::Failure;
 use serve_journal::Journal;
+use serve_metrics::DescriptorCount;
 use serve_record::Record;
 use server_tally::{ClientTally, Tally, TurnFigures};
 use session_streams::{Sides, split};
@@ -22,6 +23,7 @@ use std::collections::BTreeMap;
 use std::collections::btree_map::Entry;
 use std::io::Write;
 use std::net::{Net, SocketAddr};
+use std::rt::Files;
 use std::sync::{Arc, Mutex, Wait};
 use std::thread::Threads;
 use std::time::{Clock, Duration};
@@ -59,6 +61,7 @@ pub struct Hub<L, W> {
     // The watches of all clients, as far as they were counted.
     pub(crate) watches: u64,
     pub(crate) tally: Arc<Tally, Global>,
+    descriptors: DescriptorCount,
     // How many were ended because of their watches.
     pub(crate) watching_ended: u64,
     from_acceptor: Consumer<Accepted>,
@@ -78,6 +81,7 @@ pub struct Parts {
     pub bounds: Bounds,
     pub ahead: Arc<ReadsAhead, Global>,
     pub tally: Arc<Tally, Global>,
+    pub descriptors: DescriptorCount,
     pub from_acceptor: Consumer<Accepted>,
     pub door: Arc<Door, Global>,
 }
@@ -97,6 +101,7 @@ impl<L: Log, W: Write + Drop> Hub<L, W> {
             bounds,
             ahead,
             tally,
+            descriptors,
             from_acceptor,
             door,
         } = parts;
@@ -116,6 +121,7 @@ impl<L: Log, W: Write + Drop> Hub<L, W> {
             slow_ended: 0,
             watches: 0,
             tally,
+            descriptors,
             watching_ended: 0,
             from_acceptor,
             door,
@@ -307,7 +313,7 @@ impl<L: Log, W: Write + Drop> Hub<L, W> {
     }
 
     /// Serves until the last leader is gone, or until it is to end for another reason.
-    pub fn serve<R: Threads + Wait + Net + Clock + Copy + Send + Sync + 'static>(
+    pub fn serve<R: Threads + Wait + Net + Clock + Files + Copy + Send + Sync + 'static>(
         &mut self,
         rt: &R,
     ) -> Result<(), Failure> {
@@ -320,11 +326,12 @@ impl<L: Log, W: Write + Drop> Hub<L, W> {
                 break;
             }
             let by_log = self.look_at_log();
+            let by_count = self.descriptors.count(rt, &*self.tally, self.clock.last());
             self.relieve();
             self.tell_closed();
             // What came during the turn ends the wait at once.
             if !found && !self.desk.is_behind() {
-                self.wait(rt, by_leader.min(by_log));
+                self.wait(rt, by_leader.min(by_log).min(by_count));
             }
         }
         Ok(())

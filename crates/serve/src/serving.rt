@@ -11,7 +11,7 @@ use crate::telling::tally_of;
 use batcher::SpreadThreshold;
 use connection_loop::ReadsAhead;
 use following::Finding;
-use intake::Desk;
+use intake::{Desk, Waker};
 use leader_search::{Finder, find_all, search_among};
 use log::Log;
 use mio::net::TcpListener;
@@ -20,7 +20,7 @@ use serve_bounds::{Accepting, Acceptor, Stopwatch, accept_all, open_door};
 use serve_config::{FileLines, create_record, read_secret};
 use serve_failures::{Failure, servers_of};
 use serve_journal::Journal;
-use serve_metrics::{STATUS, start_scraping};
+use serve_metrics::{DescriptorCount, STATUS, start_scraping};
 use serve_options::{Address, Options, Servers};
 use serve_record::Record;
 use settings::{Epochs, FirstCounter, Secret, TimeoutBounds};
@@ -165,12 +165,26 @@ fn start<
     }
 }
 
+// Starts the thread that accepts clients.
+fn start_accepting<R: Threads + Wait + Net + Clock + Copy + Send + 'static>(
+    rt: &R,
+    acceptor: Acceptor,
+    waker: Arc<Waker, Global>,
+) -> Result<JoinHandle<()>, Failure> {
+    let mine = *rt;
+    match thread::spawn(rt, move || accept_all(&mine, acceptor, &waker)) {
+        Ok(accepting) => Ok(accepting),
+        Err(_) => Err(Failure::NoThread),
+    }
+}
+
 // Serves with a hub that has no connection yet.
 fn serve_hub<
     R: Threads
         + Wait
         + Net<Stream = TcpStream, Listener = net::TcpListener>
         + Clock
+        + Files
         + Copy
         + Send
         + Sync
@@ -181,15 +195,14 @@ fn serve_hub<
     hub.open_leader_port()?;
     let waker = hub.waker()?;
     let finding = start(rt, hub, beginning)?;
-    let mine = *rt;
-    let served = match thread::spawn(rt, move || accept_all(&mine, acceptor, &waker)) {
+    let served = match start_accepting(rt, acceptor, waker) {
         Ok(accepting) => {
             let served = hub.serve(rt);
             hub.door.stop();
             accepting.join(rt);
             served
         }
-        Err(_) => Err(Failure::NoThread),
+        Err(error) => Err(error),
     };
     let ended = hub.end(rt, served);
     if let Some(finding) = finding {
@@ -207,7 +220,7 @@ struct Prepared {
 }
 
 // Prepares to accept clients, and for the first leader.
-fn prepare<R: Net + Clock>(
+fn prepare<R: Net + Clock + Files<File = File>>(
     rt: &R,
     alloc: Global,
     options: &Options<'_>,
@@ -229,13 +242,16 @@ fn prepare<R: Net + Clock>(
         init_limit: options.init_limit,
         sync_limit: options.sync_limit,
     };
+    let tally = tally_of(rt, alloc, options, port, timeouts)?;
+    let descriptors = DescriptorCount::begin(rt, alloc, &*tally);
     let parts = Parts {
         clock,
         leading: Leading::new(source, limits, options.give_up),
         log_keeper: LogKeeper::new(options.checkpoint),
         bounds,
         ahead: Arc::new(alloc, ReadsAhead::new(READS_AHEAD))?,
-        tally: tally_of(rt, alloc, options, port, timeouts)?,
+        tally,
+        descriptors,
         from_acceptor,
         door,
     };
@@ -253,6 +269,7 @@ fn serve_with<
         + Wait
         + Net<Stream = TcpStream, Listener = net::TcpListener>
         + Clock
+        + Files
         + Copy
         + Send
         + Sync

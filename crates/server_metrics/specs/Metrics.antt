@@ -2,6 +2,7 @@
 use Rattle.std.specs.Prelude.{ℕ, ◌/◌, List, [], ◌∷◌, ◌++◌, Option, Some, None, Bool, codes, decimal, if◌then◌else◌}
 use Rattle.std.specs.List.{flat_map}
 use Rattle.server_words.specs.Texts.{node_total}
+use Rattle.server_words.specs.declared.figures.Descriptors.{Descriptors}
 use Rattle.server_words.specs.declared.figures.ServerFigures.{ServerFigures}
 use Rattle.server_metrics.specs.Names.{metric_name}
 use Rattle.server_metrics.specs.Figures.{head_text, figure_text, seconds_text}
@@ -53,6 +54,13 @@ abbrev pub memory_figure : Option ℕ → List Figure
 memory_figure None = []
 memory_figure (Some bytes) = record { metric = metric.Memory; value = Whole bytes } ∷ []
 
+abbrev pub descriptor_figures : Option Descriptors → List Figure
+descriptor_figures None = []
+descriptor_figures (Some d) =
+    record { metric = metric.OpenDescriptors; value = Whole d.count }
+    ∷ record { metric = metric.MostDescriptors; value = Whole d.most }
+    ∷ []
+
 abbrev pub bucket_line : List ℕ → Bucket → List ℕ
 bucket_line name b =
     name ++ codes "_bucket{le=\"" ++ seconds_text b.bound ++ codes "\"} " ++ decimal b.count ++ codes "\n"
@@ -82,6 +90,7 @@ figures_text r =
     server_text r.figures
     ++ flat_map figure_text (leader_figures r)
     ++ flat_map figure_text (memory_figure r.memory)
+    ++ flat_map figure_text (descriptor_figures r.figures.descriptors)
 
 -- All metrics, in their order.
 abbrev pub metrics_text : MetricsReport → List ℕ

@@ -1,7 +1,7 @@
 -- What each metric is called, how it changes, and what it means.
 use Rattle.std.specs.Prelude.{ℕ, List, codes}
 use Rattle.server_metrics.specs.declared.metric.Metric.{Metric}
-use Rattle.server_metrics.specs.declared.metric.Metric.TheVariants.{Uptime, AvgLatency, MaxLatency, MinLatency, PacketsReceived, PacketsSent, Connections, Outstanding, Rejected, Nodes, Watches, Ephemerals, Sessions, Serving, LastZxid, Transactions, Log, Silence, Memory, AnswerTimes, TurnTimes}
+use Rattle.server_metrics.specs.declared.metric.Metric.TheVariants.{Uptime, AvgLatency, MaxLatency, MinLatency, PacketsReceived, PacketsSent, Connections, Outstanding, Rejected, Nodes, Watches, Ephemerals, Sessions, Serving, LastZxid, Transactions, Log, Silence, Memory, OpenDescriptors, MostDescriptors, AnswerTimes, TurnTimes}
 
 abbrev pub metric_name : Metric → List ℕ
 metric_name Uptime = codes "uptime"
@@ -23,6 +23,8 @@ metric_name Transactions = codes "observer_transactions_total"
 metric_name Log = codes "observer_log_transactions"
 metric_name Silence = codes "observer_leader_silence_seconds"
 metric_name Memory = codes "process_resident_memory_bytes"
+metric_name OpenDescriptors = codes "open_file_descriptor_count"
+metric_name MostDescriptors = codes "max_file_descriptor_count"
 metric_name AnswerTimes = codes "observer_answer_seconds"
 metric_name TurnTimes = codes "observer_turn_seconds"
 
@@ -47,6 +49,8 @@ metric_kind Transactions = codes "counter"
 metric_kind Log = codes "gauge"
 metric_kind Silence = codes "gauge"
 metric_kind Memory = codes "gauge"
+metric_kind OpenDescriptors = codes "gauge"
+metric_kind MostDescriptors = codes "gauge"
 metric_kind AnswerTimes = codes "histogram"
 metric_kind TurnTimes = codes "histogram"
 
@@ -70,5 +74,7 @@ metric_help Transactions = codes "The transactions that were applied."
 metric_help Log = codes "The transactions that are kept since the base."
 metric_help Silence = codes "The seconds since the leader was last heard."
 metric_help Memory = codes "The memory of the process, in bytes."
+metric_help OpenDescriptors = codes "The descriptors that the process has open."
+metric_help MostDescriptors = codes "How many descriptors the process may have open."
 metric_help AnswerTimes = codes "The time of an answer to a client."
 metric_help TurnTimes = codes "The time of a turn of the engine."

@@ -25,6 +25,8 @@ pub enum Metric {
     Log,
     Silence,
     Memory,
+    OpenDescriptors,
+    MostDescriptors,
     AnswerTimes,
     TurnTimes,
 }
@@ -53,6 +55,8 @@ impl Metric {
             Metric::Log => "observer_log_transactions",
             Metric::Silence => "observer_leader_silence_seconds",
             Metric::Memory => "process_resident_memory_bytes",
+            Metric::OpenDescriptors => "open_file_descriptor_count",
+            Metric::MostDescriptors => "max_file_descriptor_count",
             Metric::AnswerTimes => "observer_answer_seconds",
             Metric::TurnTimes => "observer_turn_seconds",
         }
@@ -80,7 +84,9 @@ impl Metric {
             | Metric::LastZxid
             | Metric::Log
             | Metric::Silence
-            | Metric::Memory => "gauge",
+            | Metric::Memory
+            | Metric::OpenDescriptors
+            | Metric::MostDescriptors => "gauge",
         }
     }
 
@@ -108,6 +114,8 @@ impl Metric {
             Metric::Log => "The transactions that are kept since the base.",
             Metric::Silence => "The seconds since the leader was last heard.",
             Metric::Memory => "The memory of the process, in bytes.",
+            Metric::OpenDescriptors => "The descriptors that the process has open.",
+            Metric::MostDescriptors => "How many descriptors the process may have open.",
             Metric::AnswerTimes => "The time of an answer to a client.",
             Metric::TurnTimes => "The time of a turn of the engine.",
         }

@@ -4,13 +4,13 @@ ghost use Rattle.std.specs.Prelude.{◌≡◌, ◌++◌, OnOk, OnErr};
 ghost use Rattle.std.specs.List.{flat_map};
 ghost use Rattle.server_metrics.specs.Figures.{figure_text};
 ghost use Rattle.server_metrics.specs.declared.figure.Value.TheVariants.{Whole};
-ghost use Rattle.server_metrics.specs.Metrics.{server_figures, traffic_figures, leader_figures, memory_figure, bucket_line, times_count_line, times_sum_line, sums_text, histogram_text, server_text, figures_text, metrics_text};
+ghost use Rattle.server_metrics.specs.Metrics.{server_figures, traffic_figures, leader_figures, memory_figure, descriptor_figures, bucket_line, times_count_line, times_sum_line, sums_text, histogram_text, server_text, figures_text, metrics_text};
 
 use crate::figure::{Figure, Value, put_figures, put_head};
 use crate::metric::Metric;
 use crate::numbers::Seconds;
 use crate::report::{Bucket, MetricsReport, Times};
-use server_words::ServerFigures;
+use server_words::{Descriptors, ServerFigures};
 use std::io::Write;
 use values::NoMemory;
 
@@ -85,6 +85,21 @@ fn put_memory(out: &mut Vec<u8>, memory: Option<u64>) -> Result<(), NoMemory>
     put_figures(out, &[whole(Metric::Memory, bytes)])
 }
 
+fn put_descriptors(out: &mut Vec<u8>, descriptors: Option<Descriptors>) -> Result<(), NoMemory>
+    ensures { OnOk result (out.new.items ≡ out.old.items ++ flat_map figure_text (descriptor_figures descriptors)) }
+{
+    let Some(descriptors) = descriptors else {
+        return Ok(());
+    };
+    put_figures(
+        out,
+        &[
+            whole(Metric::OpenDescriptors, descriptors.count),
+            whole(Metric::MostDescriptors, descriptors.most),
+        ],
+    )
+}
+
 fn put_bucket(out: &mut Vec<u8>, name: &str, bucket: Bucket) -> Result<(), NoMemory>
     ensures { OnOk result (out.new.items ≡ out.old.items ++ bucket_line name.now bucket) }
 {
@@ -157,7 +172,8 @@ fn put_numbers(out: &mut Vec<u8>, report: &MetricsReport) -> Result<(), NoMemory
 {
     put_server(out, &report.figures)?;
     put_figures(out, &leader_figures(report))?;
-    put_memory(out, report.memory)
+    put_memory(out, report.memory)?;
+    put_descriptors(out, report.figures.descriptors)
 }
 
 fn put_all(out: &mut Vec<u8>, report: &MetricsReport) -> Result<(), NoMemory>

@@ -3,7 +3,9 @@
 use crate::client::Passed;
 use crate::counts::Counts;
 use crate::histogram::Histogram;
-use server_words::{AnsweredWords, Report, ServerFigures, ServerSettings, ServerWord, answer};
+use server_words::{
+    AnsweredWords, Descriptors, Report, ServerFigures, ServerSettings, ServerWord, answer,
+};
 use settings::Dialect;
 use std::alloc::Global;
 use std::collections::BTreeMap;
@@ -68,6 +70,9 @@ pub struct Tally {
     rejected: AtomicU64,
     pub(crate) sessions: AtomicU64,
     pub(crate) log: AtomicU64,
+    // The descriptors of the process; none are open while the system hasn't told.
+    descriptors: AtomicU64,
+    most_descriptors: AtomicU64,
     // The transactions that were applied.
     pub(crate) transactions: AtomicU64,
     // When the leader was last heard, and when the last turn ended, in microseconds since the start.
@@ -106,6 +111,8 @@ impl Tally {
             rejected: AtomicU64::new(0),
             sessions: AtomicU64::new(0),
             log: AtomicU64::new(0),
+            descriptors: AtomicU64::new(0),
+            most_descriptors: AtomicU64::new(0),
             transactions: AtomicU64::new(0),
             heard: AtomicU64::new(0),
             turned: AtomicU64::new(0),
@@ -148,6 +155,24 @@ impl Tally {
         self.log.store(figures.log, Ordering::SeqCst);
     }
 
+    /// Stores what the system told of the process.
+    pub fn store_descriptors(&self, descriptors: Descriptors) {
+        self.most_descriptors
+            .store(descriptors.most, Ordering::SeqCst);
+        self.descriptors.store(descriptors.count, Ordering::SeqCst);
+    }
+
+    // The descriptors of the process, if the system has told.
+    fn descriptors(&self) -> Option<Descriptors> {
+        match self.descriptors.load(Ordering::SeqCst) {
+            0 => None,
+            count => Some(Descriptors {
+                count,
+                most: self.most_descriptors.load(Ordering::SeqCst),
+            }),
+        }
+    }
+
     /// The microseconds since the start. While the clock can't be read, none have passed.
     pub(crate) fn microseconds<T: Clock>(&self, rt: &T) -> u64 {
         match (self.start, Instant::now(rt)) {
@@ -172,6 +197,7 @@ impl Tally {
             watches: self.watches.load(Ordering::SeqCst),
             pairs: self.pairs.load(Ordering::SeqCst),
             uptime: self.microseconds(rt) / 1000,
+            descriptors: self.descriptors(),
         }
     }
 

@@ -1,7 +1,7 @@
 -- Rows that were worked out by hand.
-use Rattle.std.specs.Prelude.{◌≡◌, pos, [], ◌∷◌, ◌++◌, true, false, codes}
+use Rattle.std.specs.Prelude.{◌≡◌, pos, [], ◌∷◌, ◌++◌, Some, None, true, false, codes}
 use Rattle.settings.specs.declared.dialect.Dialect.TheVariants.{Zk34, Zk38}
-use Rattle.server_words.specs.Texts.{answer_text}
+use Rattle.server_words.specs.Texts.{answer_text, mntr_descriptors}
 use Rattle.server_words.specs.declared.figures.Report.{Report}
 use Rattle.server_words.specs.declared.figures.ServerFigures.{ServerFigures}
 use Rattle.server_words.specs.declared.figures.ServerSettings.{ServerSettings}
@@ -22,6 +22,7 @@ worked_figures = record {
   watches = 5;
   pairs = 1;
   uptime = 61500;
+  descriptors = Some (record { count = 31; most = 1024 });
 }
 
 abbrev pub worked_settings : ServerSettings
@@ -67,7 +68,8 @@ pub record WorkedRows : Type 0 where
       ++ codes "zk_uptime\t61500\nzk_avg_latency\t0.6666\nzk_max_latency\t1\nzk_min_latency\t0\n"
       ++ codes "zk_packets_received\t7\nzk_packets_sent\t6\nzk_num_alive_connections\t2\n"
       ++ codes "zk_outstanding_requests\t1\nzk_connection_rejected\t0\nzk_znode_count\t5\nzk_watch_count\t5\n"
-      ++ codes "zk_ephemerals_count\t1\n"
+      ++ codes "zk_ephemerals_count\t1\nzk_open_file_descriptor_count\t31\nzk_max_file_descriptor_count\t1024\n"
+  pub mntr_without_descriptors : mntr_descriptors None ≡ []
   pub conf :
       answer_text Conf worked_report
       ≡ codes "clientPort=2181\ntickTime=2000\nmaxClientCnxns=60\nminSessionTimeout=4000\nmaxSessionTimeout=40000\n"

@@ -1,12 +1,13 @@
 -- The answer to each word. The lines and their order are those of ZooKeeper 3.8; lines are left out whose figures aren't
 -- known here.
-use Rattle.std.specs.Prelude.{◌≡◌, ◌==◌, ℕ, ◌+◌, ◌*◌, ◌/◌, ◌%◌, ℤ, List, ◌++◌, false, if◌then◌else◌, codes, decimal}
+use Rattle.std.specs.Prelude.{◌≡◌, ◌==◌, ℕ, ◌+◌, ◌*◌, ◌/◌, ◌%◌, ℤ, List, [], ◌++◌, Option, Some, None, false, if◌then◌else◌, codes, decimal}
 use Rattle.std.specs.List.{flat_map}
 use Rattle.std.specs.Int.{w64, cast_unsigned}
 use Rattle.std.specs.Fmt.{radix_digits}
 use Rattle.settings.specs.declared.dialect.Dialect.{Dialect}
 use Rattle.settings.specs.declared.dialect.Dialect.TheVariants.{Zk34, Zk38}
 use Rattle.server_words.specs.declared.figures.Latency.{Latency}
+use Rattle.server_words.specs.declared.figures.Descriptors.{Descriptors}
 use Rattle.server_words.specs.declared.figures.ServerFigures.{ServerFigures}
 use Rattle.server_words.specs.declared.figures.ServerSettings.{ServerSettings}
 use Rattle.server_words.specs.declared.figures.ClientFigures.{ClientFigures}
@@ -99,8 +100,19 @@ mntr_tree f =
     ++ codes "\nzk_watch_count\t" ++ decimal f.watches
     ++ codes "\nzk_ephemerals_count\t" ++ decimal f.pairs ++ codes "\n"
 
+abbrev pub descriptor_lines : Descriptors → List ℕ
+descriptor_lines d =
+    codes "zk_open_file_descriptor_count\t" ++ decimal d.count
+    ++ codes "\nzk_max_file_descriptor_count\t" ++ decimal d.most ++ codes "\n"
+
+-- The last lines, where the system tells of descriptors.
+abbrev pub mntr_descriptors : Option Descriptors → List ℕ
+mntr_descriptors None = []
+mntr_descriptors (Some d) = descriptor_lines d
+
 abbrev pub mntr_report : Report → List ℕ
-mntr_report r = mntr_state r.version r.figures ++ mntr_traffic r ++ mntr_tree r.figures
+mntr_report r =
+    mntr_state r.version r.figures ++ mntr_traffic r ++ mntr_tree r.figures ++ mntr_descriptors r.figures.descriptors
 
 -- A server whose peerType is 1 is an observer.
 abbrev pub conf_text : ServerSettings → List ℕ

@@ -12,6 +12,13 @@ pub struct Latency {
     pub most: u64,
 }
 
+/// How many descriptors a process has open, and how many it may have.
+#[derive(Clone, Copy, Debug, PartialEq, Eq)]
+pub struct Descriptors {
+    pub count: u64,
+    pub most: u64,
+}
+
 /// What has gone through a server, and what it holds.
 #[derive(Drop)]
 pub struct ServerFigures {
@@ -37,6 +44,8 @@ pub struct ServerFigures {
     pub pairs: u64,
     /// The milliseconds since the server was started.
     pub uptime: u64,
+    /// The descriptors of the process, if the system tells.
+    pub descriptors: Option<Descriptors>,
 }
 
 /// How a server is set.

@@ -21,6 +21,6 @@ mod word;
 
 pub use answered::AnsweredWords;
 pub use average::Average;
-pub use figures::{ClientFigures, Latency, Report, ServerFigures, ServerSettings};
+pub use figures::{ClientFigures, Descriptors, Latency, Report, ServerFigures, ServerSettings};
 pub use texts::{NOT_SERVING, answer};
 pub use word::ServerWord;

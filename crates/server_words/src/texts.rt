@@ -2,10 +2,10 @@
 
 ghost use Rattle.std.specs.Prelude.{◌≡◌, ◌++◌, OnOk, OnErr, codes};
 ghost use Rattle.std.specs.List.{flat_map};
-ghost use Rattle.server_words.specs.Texts.{answer_text, told_text, version_line, average_text, state_traffic, zxid_line, mode_text, state_text, mntr_state, mntr_traffic, mntr_tree, mntr_report, conf_text, envi_text, client_line, stat_text, srvr_report, cons_text};
+ghost use Rattle.server_words.specs.Texts.{answer_text, told_text, version_line, average_text, state_traffic, zxid_line, mode_text, state_text, mntr_state, mntr_traffic, mntr_tree, descriptor_lines, mntr_descriptors, mntr_report, conf_text, envi_text, client_line, stat_text, srvr_report, cons_text};
 
 use crate::average::Average;
-use crate::figures::{ClientFigures, Report, ServerFigures, ServerSettings};
+use crate::figures::{ClientFigures, Descriptors, Report, ServerFigures, ServerSettings};
 use crate::word::ServerWord;
 use std::io::Write;
 use values::NoMemory;
@@ -177,12 +177,35 @@ fn put_mntr_tree(out: &mut Vec<u8>, report: &Report<'_>) -> Result<(), NoMemory>
     }
 }
 
+fn put_descriptor_lines(out: &mut Vec<u8>, descriptors: Descriptors) -> Result<(), NoMemory>
+    ensures { OnOk result (out.new.items ≡ out.old.items ++ descriptor_lines descriptors) }
+{
+    match write!(
+        out,
+        "zk_open_file_descriptor_count\t{}\nzk_max_file_descriptor_count\t{}\n",
+        descriptors.count, descriptors.most
+    ) {
+        Ok(()) => Ok(()),
+        Err(_) => Err(NoMemory),
+    }
+}
+
+fn put_mntr_descriptors(out: &mut Vec<u8>, descriptors: Option<Descriptors>) -> Result<(), NoMemory>
+    ensures { OnOk result (out.new.items ≡ out.old.items ++ mntr_descriptors descriptors) }
+{
+    match descriptors {
+        None => Ok(()),
+        Some(descriptors) => put_descriptor_lines(out, descriptors),
+    }
+}
+
 fn put_mntr(out: &mut Vec<u8>, report: &Report<'_>) -> Result<(), NoMemory>
     ensures { OnOk result (out.new.items ≡ out.old.items ++ mntr_report report.now) }
 {
     put_mntr_state(out, report)?;
     put_mntr_traffic(out, report)?;
-    put_mntr_tree(out, report)
+    put_mntr_tree(out, report)?;
+    put_mntr_descriptors(out, report.figures.descriptors)
 }
 
 fn put_conf(out: &mut Vec<u8>, settings: &ServerSettings) -> Result<(), NoMemory>

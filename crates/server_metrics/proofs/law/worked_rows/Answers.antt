@@ -7,6 +7,8 @@ unfolding digits
 returns c = record {
   times = refl;
   average = refl;
+  descriptors = refl;
+  no_descriptors = refl;
   healthy = refl;
   silent = refl;
   unbounded = refl;

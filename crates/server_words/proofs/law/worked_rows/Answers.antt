@@ -8,6 +8,7 @@ returns c = record {
   srvr = refl;
   stat = refl;
   mntr = refl;
+  mntr_without_descriptors = refl;
   conf = refl;
   unserved = refl;
   envi = refl;
