@@ -1,7 +1,11 @@
 //! Writes and syncs of a client: they go to the leader, and are answered from its stream.
-use super::*;
+
+use crate::helpers::{are_replies, asked, ends, feed, feed_with_workers, primed, told};
 use crate::rows::{get, reply_of_create, set};
+use observer_core::{Engine, Event, Output};
+use std::alloc::Global;
 use std::test::*;
+use std::thread::Threads;
 
 // A client's create of /a with the data "hi", with xid 4 and no list.
 const CREATE: &[u8] =

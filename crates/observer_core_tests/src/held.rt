@@ -1,9 +1,13 @@
 //! Groups of an event's transactions are applied at the same time.
-use super::*;
-use apply_workers::Gate;
+
+use crate::helpers::{are_replies, asked, blob, config, told};
+use apply_workers::{Gate, OpenGate};
 use batcher::Limits;
+use observer_core::{Config, Engine, Event, Output};
+use std::alloc::Global;
 use std::sync::atomic::{AtomicU64, Ordering};
 use std::test::*;
+use std::thread::Threads;
 
 const MOST_TURNS: u64 = 1_000_000_000;
 

@@ -1,7 +1,12 @@
 //! Reads of several events, with nothing else between them, are answered at the same time.
-use super::*;
+
 use crate::held::{HoldsFirst, creates, with_workers};
+use crate::helpers::{are_replies, asked, told};
+use apply_workers::OpenGate;
+use observer_core::Engine;
+use std::alloc::Global;
 use std::test::*;
+use std::thread::Threads;
 
 // The getData of /a and that of /b.
 const FIRST_ASKED: &[u8] = b"\0\0\0\x0f\0\0\0\x02\0\0\0\x04\0\0\0\x02/a\0";

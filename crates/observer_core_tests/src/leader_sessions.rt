@@ -1,7 +1,11 @@
 //! Sessions of clients: the leader creates them, is told whose clients were heard, and ends them.
-use super::*;
+
+use crate::helpers::{asked, ends, feed, primed, told};
 use crate::rows::get;
+use observer_core::{Engine, Event, Output};
+use std::alloc::Global;
 use std::test::*;
+use values::Bytes;
 
 // The connect of a client that asks for a new session, with a timeout of 10 seconds.
 const CONNECT: &[u8] = b"\0\0\0\x2c\0\0\0\0\0\0\0\0\0\0\0\0\0\0\x27\x10\0\0\0\0\0\0\0\0\

@@ -1,9 +1,13 @@
 //! Whichever group of an event's transactions is applied first, the watchers are told in the order of the transactions.
-use super::*;
+
 use crate::held::{Steps, counts, feed_steps, with_workers};
+use crate::helpers::are_replies;
 use apply_workers::Gate;
+use observer_core::Engine;
+use std::alloc::Global;
 use std::sync::atomic::{AtomicU64, Ordering};
 use std::test::*;
+use std::thread::Threads;
 
 const GROUPS: usize = 3;
 

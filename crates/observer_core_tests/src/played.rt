@@ -1,12 +1,17 @@
 //! Events, and the outputs that they cause.
-use super::*;
+
+use crate::helpers::{
+    are_replies, asked, blob, ends, feed, feed_with_workers, has, idle, primed, told,
+};
 use crate::laws::{
     call_laws_of_clients, call_laws_of_events, call_laws_of_leaders, call_worked_rows,
 };
 use crate::rows::{create, get, introduction, reply_of_create, reply_of_set, set};
-use observer_core::CLIENT_FRAME_LIMIT;
+use observer_core::{CLIENT_FRAME_LIMIT, Engine, Event, Output};
+use std::alloc::Global;
 use std::test::*;
-use values::Fault;
+use std::thread::Threads;
+use values::{Bytes, Fault};
 
 // Whether the engine gives these replies, and ends with this zxid and this many nodes.
 fn replies(

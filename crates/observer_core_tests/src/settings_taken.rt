@@ -1,7 +1,9 @@
 //! Numbers and bytes of settings: those at a bound, and those one beyond it.
-use super::*;
-use observer_core::Settings;
+
+use crate::helpers::{blob, config};
+use observer_core::{Config, Settings, default_limits};
 use settings::{Dialect, Epochs, FirstCounter, Secret, ServerId, TimeoutBounds};
+use std::alloc::Global;
 use std::test::*;
 
 // Whether they are accepted, and the settings hold them. The secret has this many bytes.

@@ -1,6 +1,9 @@
 //! The watches of a connection.
-use super::*;
+
+use crate::helpers::{asked, feed, primed, told};
 use crate::rows::create;
+use observer_core::{Engine, Event};
+use std::alloc::Global;
 use std::test::*;
 
 // The getChildren of the root and the exists of /x, which leave a watch each.
