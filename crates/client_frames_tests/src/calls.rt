@@ -1,6 +1,6 @@
 //! Frames after the first one.
 
-use crate::asked;
+use crate::helpers::asked;
 use std::test::*;
 
 #[test]

@@ -1,6 +1,6 @@
 //! First frames, and their answers.
 
-use crate::{is_answer, is_connect, is_no_connect};
+use crate::helpers::{is_answer, is_connect, is_no_connect};
 use sessions::SessionResponse;
 use std::test::*;
 

@@ -1,6 +1,6 @@
 //! Frames of later clients.
 
-use crate::{asked, asked_in};
+use crate::helpers::{asked, asked_in};
 use client_frames::{forwarded_by_type, worked_calls};
 use settings::Dialect;
 use std::alloc::Global;

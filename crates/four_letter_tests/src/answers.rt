@@ -1,6 +1,6 @@
 //! The answer to each word.
 
-use crate::{answered, listed, spelled_again, tells_of_watches};
+use crate::helpers::{answered, listed, spelled_again, tells_of_watches};
 use std::alloc::Global;
 use std::test::Fail;
 use watch_manager::{WatchMode, Watches};

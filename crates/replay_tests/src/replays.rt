@@ -1,4 +1,4 @@
-use crate::{limited, named, put_lines, replayed};
+use crate::helpers::{limited, named, put_lines, replayed};
 use observer_core::Output;
 use replay::Ending;
 use std::alloc::Global;

@@ -1,4 +1,4 @@
-use crate::{put_digits, read};
+use crate::helpers::{put_digits, read};
 use replay_script::{ScriptError, ScriptEvent};
 use settings::Dialect;
 use std::test::*;
