@@ -17,7 +17,7 @@ use log::Log;
 use mio::net::TcpListener;
 use observer_core::{Config, Settings};
 use serve_bounds::{Accepting, Acceptor, Stopwatch, accept_all, open_door};
-use serve_config::{FileLines, create_record, read_secret};
+use serve_config::{FileLines, create_record, random_hash_key, read_secret};
 use serve_failures::{Failure, servers_of};
 use serve_journal::Journal;
 use serve_metrics::{DescriptorCount, STATUS, start_scraping};
@@ -59,17 +59,6 @@ fn first_counter<R: Clock>(rt: &R, options: &Options<'_>) -> io::Result<FirstCou
         .unwrap_or(Duration::ZERO);
     let milliseconds = u64::try_from(since_1970.as_millis()).unwrap_or(0);
     Ok(FirstCounter::from_clock(milliseconds))
-}
-
-fn random_number<R: RandomSource>(rt: &R) -> io::Result<u64> {
-    let mut bytes = [0; 8];
-    rt.fill_bytes(&mut bytes)?;
-    Ok(u64::from_le_bytes(bytes))
-}
-
-// The key by which nodes are found. It is random, so that no client can choose paths whose hashes collide.
-fn hash_key<R: RandomSource>(rt: &R) -> io::Result<HashKey> {
-    Ok(HashKey::new(random_number(rt)?, random_number(rt)?))
 }
 
 // The observer's settings. Those without an option have the defaults of a script.
@@ -337,7 +326,9 @@ pub(crate) fn try_serve_on<
     let file = create_record(rt, alloc, options)?;
     let mut record = Record::new(alloc, file);
     let port = listener.local_addr()?.port();
-    let config = config_of(alloc, options, secret, first_counter)?.with_hash_key(hash_key(rt)?);
+    let config = config_of(alloc, options, secret, first_counter)?.with_hash_key(random_hash_key(
+        rt,
+    )?);
     record.begin(&config.settings);
     let prepared = prepare(rt, alloc, options, origin, listener)?;
     let Logging {

@@ -1,4 +1,5 @@
-//! The files that a server is started with: the configuration file, with those that it names, the secret, and the record.
+//! What a server is started with: the configuration file, with those that it names, the secret, the record, and a random
+//! key.
 //!
 //! ```text
 //! let read = read_file(rt, alloc, words, "zoo.cfg")?;            // and dataDir/myid, and the dynamicConfigFile
@@ -6,13 +7,16 @@
 //! let options = read.options(alloc, words, given.as_slice())?;   // an option among the words wins
 //! let secret = read_secret(rt, alloc, &options)?;                // the bytes in the file, which others can't read
 //! let record = create_record(rt, alloc, &options)?;
+//! let key = random_hash_key(rt)?;                                // of the hash by which nodes are found
 //! ```
 #![tactic(auto)]
 
+mod hash_key;
 mod read;
 mod record;
 mod secret;
 
+pub use hash_key::random_hash_key;
 pub use read::{FileLines, ReadFile, read_file};
 pub use record::create_record;
 pub use secret::read_secret;
