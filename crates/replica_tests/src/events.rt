@@ -8,6 +8,7 @@ use replica::{ItemOutcome, LeaderNews, Replica};
 use settings::{Dialect, Epochs, ServerId};
 use snapshot_codec::{ImageNode, ImagePart, ImageSession, Loader};
 use std::alloc::Global;
+use std::hash::BuildHasher;
 use values::{Blob, Bytes, Fault, NoMemory, ReadError};
 
 /// An event of a replica. A zxid is given by its counter, and is of epoch 1.
@@ -75,6 +76,8 @@ pub struct Seen {
     pub owner: Option<i64>,
     /// The tree's sessions, in their order.
     pub sessions: Vec<i64>,
+    /// Whether its nodes are found by the key that it was given.
+    pub has_key: bool,
 }
 
 /// The zxid with this counter in epoch 1.
@@ -271,18 +274,24 @@ fn play(
             .node("/c")
             .map(|node| node.shown().ephemeral_owner),
         sessions: sessions(alloc, replica)?,
+        has_key: replica.tree().hash_key().hash_one("/a") == key().hash_one("/a"),
     })
+}
+
+// The key of the hash by which replicas find nodes.
+fn key() -> HashKey {
+    HashKey::new(3, 5)
 }
 
 /// The view of a replica that starts like this, after these events.
 pub fn after(alloc: Global, start: Start, events: &[Event]) -> Result<Seen, NoMemory> {
-    let key = HashKey::default();
+    let key = key();
     let mut replica = match start {
         Start::New => Replica::new(alloc, key, Dialect::Zk34, Epochs::default())?,
         Start::Primed => Replica::primed(alloc, key, Dialect::Zk34, 4, 10_000)?,
         Start::LaterNew => Replica::new(alloc, key, Dialect::Zk38, Epochs::default())?,
         Start::LaterPrimed => Replica::primed(alloc, key, Dialect::Zk38, 4, 10_000)?,
     };
-    let mut loader = Loader::in_dialect(replica.learner().dialect(), alloc);
+    let mut loader = Loader::with_key(replica.learner().dialect(), alloc, key);
     play(alloc, &mut replica, &mut loader, events)
 }

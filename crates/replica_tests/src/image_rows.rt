@@ -111,3 +111,13 @@ fn a_part_that_does_not_fit_is_refused(rt: HostRuntime) -> Result<(), Fail> {
     assert!(rt; doubled.refused == Some(Fault::BadImage) && doubled.last_zxid == 0);
     Ok(())
 }
+
+/// The key by which nodes are found stays: at first, after an image, and after another leader's.
+#[test]
+fn the_hash_key_stays(rt: HostRuntime) -> Result<(), Fail> {
+    let all: [&[Event]; 3] = [&[], &ENDED, &CONTAINERS];
+    for events in all {
+        assert!(rt; after(rt.alloc(), Start::New, events)?.has_key);
+    }
+    Ok(())
+}
