@@ -11,7 +11,7 @@ use crate::error::OptionError;
 use crate::given::{Given, find_given, given_in, spelled};
 use crate::row::{Bounds, Kind, Name};
 use crate::value::{
-    Address, LogFormat, address_of, addresses_of, dialect_of, format_of, has_host, is_digest_text,
+    Address, LogFormat, address_of, addresses_of, dialect_of, format_of, has_colon, is_digest_text,
     level_of, number_within,
 };
 use crate::words::{Words, words_of};
@@ -192,7 +192,7 @@ fn client_in<'a>(given: &[Given<'a>]) -> Result<Address<'a>, OptionError<'a>>
 // Only beside a leader that is a port of this machine may the id be missing.
 fn needs_id(given: &[Given<'_>]) -> bool {
     match spelled(given, Name::Leader) {
-        Some(leader) => has_host(leader),
+        Some(leader) => has_colon(leader),
         None => true,
     }
 }
@@ -283,7 +283,8 @@ fn dialect_in<'a>(given: &[Given<'a>]) -> Result<Dialect, OptionError<'a>>
 
 // The digest of the super user, if there is one.
 fn digest_in<'a>(given: &[Given<'a>]) -> Result<Option<&'a str>, OptionError<'a>>
-    ensures digest { IfOk result (λ digest. option_map (λ text. text.now) digest ≡ value_of Name.SuperDigest given.now) }
+    ensures digest { IfOk result (λ digest.
+        option_map (λ text. text.now) digest ≡ value_of Name.SuperDigest given.now) }
     ensures form { IfOk result (λ digest. IfSome digest (λ text. is_digest_text text.now ≡ true)) }
 {
     let Some(value) = spelled(given, Name::SuperDigest) else {
