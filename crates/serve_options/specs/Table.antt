@@ -15,5 +15,5 @@ abbrev pub option_said : Name → List ℕ × Kind × Option (List ℕ)
 option_said name = (option_word name, option_kind name, option_default name)
 
 -- A row for each option, in their order.
-abbrev pub IsTable : List Row → Type 0
-IsTable rows = map row_said rows ≡ map option_said NAMES
+abbrev pub IsOptionTable : List Row → Type 0
+IsOptionTable rows = map row_said rows ≡ map option_said NAMES

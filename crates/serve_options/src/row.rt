@@ -4,7 +4,7 @@ ghost use Rattle.std.specs.Prelude.{◌≡◌, ◌<◌};
 ghost use Rattle.serve_options.specs.Places.{name_place};
 ghost use Rattle.serve_options.specs.Rows.{option_word, option_kind};
 ghost use Rattle.serve_options.specs.Defaults.{option_default, default_value};
-ghost use Rattle.serve_options.specs.Table.{row_said, option_said, IsTable};
+ghost use Rattle.serve_options.specs.Table.{row_said, option_said, IsOptionTable};
 
 use std::fmt;
 
@@ -437,7 +437,7 @@ pub(crate) static ROWS: [Row; 29] = [
 
 // The row of an option in a table.
 fn row_in(rows: &[Row; 29], name: Name) -> Row
-    ensures { IsTable rows.now → row_said result ≡ option_said name }
+    ensures { IsOptionTable rows.now → row_said result ≡ option_said name }
 {
     rows[name.place()]
 }
