@@ -1,10 +1,9 @@
 -- How addresses, the values that an option may have and the four-letter words are written.
-use Rattle.std.specs.Prelude.{ℕ, ◌^◌, ◌-◌, ◌==◌, List, [], ◌∷◌, ◌++◌, Bool, map, filter, nat_eq, if◌then◌else◌, codes}
+use Rattle.std.specs.Prelude.{ℕ, ◌^◌, ◌-◌, ◌==◌, List, ◌++◌, Bool, nat_eq, if◌then◌else◌, codes}
 use Rattle.std.specs.List.{list_any}
 use Rattle.std.specs.Fmt.{decimal}
 use Rattle.serve_options.specs.declared.row.Kind.{Kind}
 use Rattle.serve_options.specs.declared.row.Kind.TheVariants as kinds
-use Rattle.serve_options.specs.declared.words.Words.{Words}
 
 abbrev pub has_colon : List ℕ → Bool
 has_colon text = list_any (λ letter. letter == 58) text
