@@ -2,7 +2,8 @@
 //! come to them, what a turn may spend, and which threads are to be told.
 //!
 //! No contract says that a hint is right: which threads have sent something, or how much they have written, no proof
-//! can know, and tests check it. What is proved is that a list of ports loses none of them, and which port has each slot.
+//! can know, and tests check it. What is proved is that a list of ports loses none of them, which port has each slot,
+//! and how many bytes were put to clients.
 #![tactic(auto)]
 
 mod budget;

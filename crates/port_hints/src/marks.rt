@@ -10,9 +10,9 @@
 //! is under way.
 
 ghost use Rattle.std.specs.List.Sorted.{IsStrictlyIncreasing};
-ghost use Rattle.std.specs.Prelude.{◌≡◌, [], Some, None, IfOk, OnErr};
+ghost use Rattle.std.specs.Prelude.{◌≡◌, ◌≤◌, ◌+◌, ◌-◌, ◌^◌, min, [], Some, None, IfOk, OnErr};
 ghost use Rattle.port_hints.specs.Lists.{KeepsEach};
-ghost use Rattle.port_hints.specs.Slots.{port_at, GivesSlot, GivesNoSlot};
+ghost use Rattle.port_hints.specs.Slots.{port_at, GivesSlot, GivesNoSlot, put_without};
 
 use crate::waker::Waker;
 use slab::Slab;
@@ -176,20 +176,19 @@ pub struct Marks {
 }
 
 impl Model for Marks {
-    ghost use Rattle.std.specs.Prelude.{List, Option, ℕ};
-    ghost use Rattle.std.specs.Coded.{coded_list, coded_option, coded_ℕ};
+    ghost use Rattle.port_hints.specs.Slots.{Given, given_code};
 
-    ghost Value = { List (Option ℕ) };
+    ghost Value = { Given };
 
-    ghost coded = { coded_list (coded_option coded_ℕ) };
+    ghost coded = { given_code };
 
-    ghost view = { λ m. m.ports.slots };
+    ghost view = { λ m. record { slots = m.ports.slots; put = m.put } };
 }
 
 impl Marks {
     /// No slot is given out yet. Fails only if an allocation is refused.
     pub fn new(alloc: Global) -> Result<Marks, NoMemory>
-        ensures { IfOk result (λ m. m ≡ []) }
+        ensures { IfOk result (λ m. m ≡ record { slots = []; put = 0 }) }
     {
         let shared = Shared {
             waker: Arc::new(alloc, Waker::new())?,
@@ -207,9 +206,10 @@ impl Marks {
 
     /// Gives the port a slot, and returns the slot with its mark.
     pub fn add(&mut self, number: usize) -> Result<(usize, Mark), NoMemory>
-        ensures free { IfOk result (λ given. port_at self.old given.0 ≡ None) }
-        ensures given { IfOk result (λ given. GivesSlot given.0 (Some number) self.old self.new) }
-        ensures err { OnErr result (GivesNoSlot self.old self.new) }
+        ensures free { IfOk result (λ given. port_at self.old.slots given.0 ≡ None) }
+        ensures given { IfOk result (λ given. GivesSlot given.0 (Some number) self.old.slots self.new.slots) }
+        ensures put { self.new.put ≡ self.old.put }
+        ensures err { OnErr result (GivesNoSlot self.old.slots self.new.slots) }
     {
         let slot = self.ports.vacant_key();
         let index = slot / GROUP;
@@ -234,11 +234,15 @@ impl Marks {
 
     /// Frees the slot of a port to which so many bytes were put.
     pub fn remove(&mut self, slot: usize, put: u64)
-        ensures { GivesSlot slot None self.old self.new }
+        ensures freed { GivesSlot slot None self.old.slots self.new.slots }
+        ensures put { self.new.put ≡ put_without (port_at self.old.slots slot) put self.old.put }
     {
         let Some(number) = self.ports.try_remove(slot) else {
             return;
         };
+        if number != 0 {
+            self.put = self.put.saturating_sub(put);
+        }
         let Some(group) = self.groups.get(slot / GROUP) else {
             return;
         };
@@ -248,7 +252,6 @@ impl Marks {
         let written = written.swap(0, Ordering::SeqCst);
         if number != 0 {
             self.shared.written.fetch_sub(written, Ordering::SeqCst);
-            self.put = self.put.saturating_sub(put);
         }
     }
 
@@ -332,19 +335,23 @@ impl Marks {
 
     /// Counts bytes that were put to clients.
     pub fn add_put(&mut self, bytes: usize)
-        ensures { self.new ≡ self.old }
+        ensures { self.new ≡ record self.old { put = min (self.old.put + bytes) (2 ^ 64 - 1) } }
     {
         self.put = self.put.saturating_add(bytes as u64);
     }
 
     /// How many bytes are under way to all clients.
-    pub fn under_way(&self) -> u64 {
+    pub fn under_way(&self) -> u64
+        ensures { result ≤ self.now.put }
+    {
         self.put
             .saturating_sub(self.shared.written.load(Ordering::SeqCst))
     }
 
     /// How many bytes are under way to a port, to which so many were put.
-    pub fn under_way_to(&self, slot: usize, put: u64) -> u64 {
+    pub fn under_way_to(&self, slot: usize, put: u64) -> u64
+        ensures { result ≤ put }
+    {
         let Some(group) = self.groups.get(slot / GROUP) else {
             return 0;
         };

@@ -6,7 +6,8 @@ use Rattle.std.proofs.lemmas.List.{take-append-le, length-append, flat_map_more}
 use Rattle.std.specs.Prelude.{true, false, is_some}
 use Rattle.std.specs.Prelude.{flat_map, All}
 use Rattle.serve_options.specs.Rows.{option_word}
-use Rattle.serve_options.specs.Given.{words_of_value, words_of_option, given_of, name_place, IsOnce}
+use Rattle.serve_options.specs.Given.{words_of_value, words_of_option, given_of, IsOnce}
+use Rattle.serve_options.specs.Places.{name_place}
 use Rattle.serve_options.specs.declared.given.Given.{Given}
 use Rattle.serve_options.specs.declared.row.Name.{Name}
 

@@ -8,6 +8,7 @@ use Rattle.log.specs.declared.level.LevelFilter.TheVariants.{Info}
 use Rattle.serve_options.specs.declared.row.Name.TheVariants as names
 use Rattle.serve_options.specs.declared.given.Given.{Given}
 use Rattle.serve_options.specs.declared.command.Options.{Options}
+use Rattle.serve_options.specs.declared.command.Others.{Others}
 use Rattle.serve_options.specs.declared.command.ConfigFile.{ConfigFile}
 use Rattle.serve_options.specs.declared.command.Servers.{Servers}
 use Rattle.serve_options.specs.declared.command.Servers.TheVariants as followed
@@ -68,6 +69,35 @@ level_given given = unwrap_or (option_map level_of (value_of names.Log given)) (
 
 abbrev pub format_given : List Given → Option LogFormat
 format_given given = unwrap_or (option_map format_of (value_of names.LogFormat given)) (Some Text)
+
+-- The options that follow these servers, and are as these others.
+abbrev pub options_of : Servers → Others → Options
+options_of servers others = record {
+  servers = servers;
+  client = others.client;
+  server_id = others.server_id;
+  default_id = others.default_id;
+  dialect = others.dialect;
+  first_counter = others.first_counter;
+  secret_file = others.secret_file;
+  super_digest = others.super_digest;
+  limits = others.limits;
+  max_clients = others.max_clients;
+  max_per_address = others.max_per_address;
+  max_under_way = others.max_under_way;
+  max_watches = others.max_watches;
+  unconnected = others.unconnected;
+  words = others.words;
+  «record» = others.«record»;
+  log = others.log;
+  log_format = others.log_format;
+  tick = others.tick;
+  init_limit = others.init_limit;
+  sync_limit = others.sync_limit;
+  checkpoint = others.checkpoint;
+  give_up = others.give_up;
+  metrics = others.metrics;
+}
 
 -- Each option sets what it names, and nothing else: as it is spelled, or as its default is.
 pub record IsSetBy (given : List Given) (options : Options) : Type 0 where

@@ -1,12 +1,16 @@
 -- What a configuration file sets, beside the options that are given.
-use Rattle.std.specs.Prelude.{ℕ, List, [], ◌∷◌, Bool, ◌&&◌, not, Option, Some, None, nat_eq, if◌then◌else◌, string_bytes}
-use Rattle.std.specs.Option.{option_map}
+use Rattle.std.specs.Prelude.{ℕ, List, [], ◌∷◌, Bool, ◌&&◌, not, Option, Some, None, nat_eq, if◌then◌else◌, string_bytes, codes}
+use Rattle.std.specs.Option.{option_map, unwrap_or}
 use Rattle.std.specs.Str.{bytes_eq}
 use Rattle.serve_options.specs.declared.row.Name.{Name}
 use Rattle.serve_options.specs.declared.row.Name.TheVariants as names
 use Rattle.serve_options.specs.declared.filed.Filed.{Filed}
 use Rattle.serve_options.specs.declared.given.Given.{Given}
-use Rattle.serve_options.specs.Given.{name_place}
+use Rattle.zoo_config.specs.declared.form.Entry.{Entry}
+use Rattle.zoo_config.specs.declared.server.Server.{Server}
+use Rattle.zoo_config.specs.Keys.{value_in, setting_in, serves_metrics}
+use Rattle.serve_options.specs.Places.{name_place}
+use Rattle.serve_options.specs.Texts.{has_colon, place_text}
 
 abbrev pub first_word : List (List ℕ) → Option (List ℕ)
 first_word [] = None
@@ -27,3 +31,34 @@ filed_spelling option = (option.name, Some (string_bytes option.value))
 -- Beside a leader that is given, the servers of a file don't count.
 abbrev pub counts_beside : Bool → Filed → Bool
 counts_beside has_leader option = not (has_leader && nat_eq (name_place option.name) (name_place names.Servers))
+
+-- ---- the values that a file sets
+
+-- An address and a port: all addresses where none is named.
+abbrev pub filed_address : Option (List ℕ) → List ℕ → List ℕ
+filed_address address port = place_text (unwrap_or address (codes "0.0.0.0")) port
+
+-- Where this server serves clients by its own line: at a port, or at an address and a port.
+abbrev pub own_client : Option Server → Option (List ℕ)
+own_client None = None
+own_client (Some server) = option_map (λ client. client.now) server.client
+
+abbrev pub whole_place : List ℕ → List ℕ
+whole_place client = if has_colon client then client else filed_address None client
+
+-- The keys for it go before its own line.
+abbrev pub client_by : List Entry → Option (List ℕ) → Option (List ℕ) → Option (List ℕ)
+client_by entries None own = option_map whole_place own
+client_by entries (Some port) own = Some (filed_address (value_in (codes "clientPortAddress") entries) port)
+
+abbrev pub client_place : List Entry → Option (List ℕ) → Option (List ℕ)
+client_place entries own = client_by entries (value_in (codes "clientPort") entries) own
+
+-- Where metrics are served, if the file asks for it.
+abbrev pub metrics_place : List Entry → Option (List ℕ)
+metrics_place entries =
+    if serves_metrics entries
+    then option_map
+    (filed_address (setting_in (codes "metricsProvider.httpHost") entries))
+    (setting_in (codes "metricsProvider.httpPort") entries)
+    else None

@@ -5,45 +5,14 @@ use Rattle.std.specs.List.{find, starts_with}
 use Rattle.std.specs.Option.{option_map}
 use Rattle.values.specs.Maybe.{◌>>=◌}
 use Rattle.serve_options.specs.declared.row.Name.{Name}
-use Rattle.serve_options.specs.declared.row.Name.TheVariants.{Config, CheckConfig, Leader, Servers, Client, Id, Dialect, Counter, SecretFile, SuperDigest, Workers, Batch, MaxClients, MaxPerAddress, MaxUnderWay, MaxWatches, Unconnected, Words, Tick, InitLimit, SyncLimit, Checkpoint, GiveUp, Metrics, Record, Log, LogFormat, Help, Version}
 use Rattle.serve_options.specs.declared.row.Kind.{Kind}
 use Rattle.serve_options.specs.declared.row.Kind.TheVariants.{Nothing, Level}
 use Rattle.serve_options.specs.declared.error.OptionError.{OptionError}
 use Rattle.serve_options.specs.declared.given.Given.{Given}
 use Rattle.serve_options.specs.Defaults.{option_default}
+use Rattle.serve_options.specs.Places.{name_place}
 use Rattle.serve_options.specs.Rows.{option_word, option_kind, option_bounds}
 use Rattle.serve_options.specs.Values.{number_within}
-
-abbrev pub name_place : Name → ℕ
-name_place Config = 0
-name_place CheckConfig = 1
-name_place Leader = 2
-name_place Servers = 3
-name_place Client = 4
-name_place Id = 5
-name_place Dialect = 6
-name_place Counter = 7
-name_place SecretFile = 8
-name_place SuperDigest = 9
-name_place Workers = 10
-name_place Batch = 11
-name_place MaxClients = 12
-name_place MaxPerAddress = 13
-name_place MaxUnderWay = 14
-name_place MaxWatches = 15
-name_place Unconnected = 16
-name_place Words = 17
-name_place Tick = 18
-name_place InitLimit = 19
-name_place SyncLimit = 20
-name_place Checkpoint = 21
-name_place GiveUp = 22
-name_place Metrics = 23
-name_place Record = 24
-name_place Log = 25
-name_place LogFormat = 26
-name_place Help = 27
-name_place Version = 28
 
 abbrev pub is_named : Name → Given → Bool
 is_named name option = nat_eq (name_place option.name) (name_place name)

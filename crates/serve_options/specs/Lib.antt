@@ -2,6 +2,10 @@ pub mod Commands
 pub mod Defaults
 pub mod Filed
 pub mod Given
+pub mod Near
+pub mod Places
 pub mod Rows
+pub mod Table
+pub mod Texts
 pub mod Values
 pub mod Words

@@ -1,5 +1,5 @@
 -- The four-letter words that a text names.
-use Rattle.std.specs.Prelude.{◌==◌, ℕ, List, Bool, true, false, Option, Some, None, if◌then◌else◌, codes, ◌||◌}
+use Rattle.std.specs.Prelude.{◌==◌, ℕ, List, [], ◌∷◌, Bool, true, false, Option, Some, None, if◌then◌else◌, codes}
 use Rattle.std.specs.List.{list_any, list_all, slice_split}
 use Rattle.std.specs.Str.{bytes_eq}
 use Rattle.serve_options.specs.declared.words.Words.{Words}
@@ -8,16 +8,17 @@ use Rattle.serve_options.specs.declared.words.Words.{Words}
 abbrev pub parts_of : List ℕ → List (List ℕ)
 parts_of text = slice_split (λ letter. letter == 44) text
 
-abbrev pub is_four_letter_word : List ℕ → Bool
-is_four_letter_word text =
-    bytes_eq text (codes "ruok") || bytes_eq text (codes "isro") || bytes_eq text (codes "srvr")
-    || bytes_eq text (codes "stat") || bytes_eq text (codes "mntr") || bytes_eq text (codes "conf")
-    || bytes_eq text (codes "envi") || bytes_eq text (codes "dirs") || bytes_eq text (codes "wchs")
-    || bytes_eq text (codes "wchp") || bytes_eq text (codes "wchc") || bytes_eq text (codes "dump")
-    || bytes_eq text (codes "cons") || bytes_eq text (codes "crst") || bytes_eq text (codes "srst")
-
 abbrev pub is_among : List ℕ → List (List ℕ) → Bool
 is_among word parts = list_any (λ part. bytes_eq part word) parts
+
+abbrev pub four_letter_words : List (List ℕ)
+four_letter_words =
+    codes "ruok" ∷ codes "isro" ∷ codes "srvr" ∷ codes "stat" ∷ codes "mntr" ∷ codes "conf" ∷ codes "envi"
+    ∷ codes "dirs" ∷ codes "wchs" ∷ codes "wchp" ∷ codes "wchc" ∷ codes "dump" ∷ codes "cons" ∷ codes "crst"
+    ∷ codes "srst" ∷ []
+
+abbrev pub is_four_letter_word : List ℕ → Bool
+is_four_letter_word text = is_among text four_letter_words
 
 abbrev pub words_among : List (List ℕ) → Words
 words_among parts = record {
@@ -64,3 +65,12 @@ named_words text =
     else (if bytes_eq text (codes "none") then Some (all_or_none false)
     else (if list_all is_four_letter_word (parts_of text) then Some (words_among (parts_of text))
     else None))
+
+-- Each word, and whether it is answered.
+abbrev pub each_word : Words → List (List ℕ × Bool)
+each_word words =
+    (codes "ruok", words.ruok) ∷ (codes "isro", words.isro) ∷ (codes "srvr", words.srvr)
+    ∷ (codes "stat", words.stat) ∷ (codes "mntr", words.mntr) ∷ (codes "conf", words.conf)
+    ∷ (codes "envi", words.envi) ∷ (codes "dirs", words.dirs) ∷ (codes "wchs", words.wchs)
+    ∷ (codes "wchp", words.wchp) ∷ (codes "wchc", words.wchc) ∷ (codes "dump", words.dump)
+    ∷ (codes "cons", words.cons) ∷ (codes "crst", words.crst) ∷ (codes "srst", words.srst) ∷ []

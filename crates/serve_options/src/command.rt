@@ -5,13 +5,14 @@ ghost use Rattle.serve_options.specs.Rows.{option_bounds, IsWithin};
 ghost use Rattle.serve_options.specs.Values.{number_within, is_digest_text};
 ghost use Rattle.serve_options.specs.Words.{is_among};
 ghost use Rattle.serve_options.specs.Given.{value_of, number_given, number_answer};
-ghost use Rattle.serve_options.specs.Commands.{IsWithinBounds, IsSetBy, IsAddressOf, IsFileOf, AreOptionsOver, AreWordsOf, command_asked, AreServersOf, id_given, words_given, level_given, format_given, dialect_given};
+ghost use Rattle.serve_options.specs.declared.command.Servers.{Servers as Followed};
+ghost use Rattle.serve_options.specs.Commands.{IsWithinBounds, IsSetBy, IsAddressOf, IsFileOf, AreOptionsOver, AreWordsOf, command_asked, AreServersOf, id_given, words_given, level_given, format_given, dialect_given, options_of};
 
 use crate::error::OptionError;
 use crate::given::{Given, find_given, given_in, spelled};
 use crate::row::{Bounds, Kind, Name};
 use crate::value::{
-    Address, LogFormat, address_of, addresses_of, dialect_of, format_of, has_host, is_digest_text,
+    Address, LogFormat, address_of, addresses_of, dialect_of, format_of, has_colon, is_digest_text,
     level_of, number_within,
 };
 use crate::words::{Words, words_of};
@@ -192,7 +193,7 @@ fn client_in<'a>(given: &[Given<'a>]) -> Result<Address<'a>, OptionError<'a>>
 // Only beside a leader that is a port of this machine may the id be missing.
 fn needs_id(given: &[Given<'_>]) -> bool {
     match spelled(given, Name::Leader) {
-        Some(leader) => has_host(leader),
+        Some(leader) => has_colon(leader),
         None => true,
     }
 }
@@ -283,7 +284,8 @@ fn dialect_in<'a>(given: &[Given<'a>]) -> Result<Dialect, OptionError<'a>>
 
 // The digest of the super user, if there is one.
 fn digest_in<'a>(given: &[Given<'a>]) -> Result<Option<&'a str>, OptionError<'a>>
-    ensures digest { IfOk result (λ digest. option_map (λ text. text.now) digest ≡ value_of Name.SuperDigest given.now) }
+    ensures digest { IfOk result (λ digest.
+        option_map (λ text. text.now) digest ≡ value_of Name.SuperDigest given.now) }
     ensures form { IfOk result (λ digest. IfSome digest (λ text. is_digest_text text.now ≡ true)) }
 {
     let Some(value) = spelled(given, Name::SuperDigest) else {
@@ -295,12 +297,40 @@ fn digest_in<'a>(given: &[Given<'a>]) -> Result<Option<&'a str>, OptionError<'a>
     Ok(Some(value))
 }
 
-fn options_in<'a>(alloc: Global, given: &[Given<'a>]) -> Result<Options<'a>, OptionError<'a>>
-    ensures set { IfOk result (IsSetBy given.now) }
-    ensures bounds { IfOk result IsWithinBounds }
+/// The options beside the servers. Nothing of them is owned, so nothing is to be dropped where one is wrong.
+#[derive(Clone, Copy)]
+pub struct Others<'a> {
+    pub client: Address<'a>,
+    pub server_id: ServerId,
+    pub default_id: bool,
+    pub dialect: Dialect,
+    pub first_counter: Option<FirstCounter>,
+    pub secret_file: Option<&'a str>,
+    pub super_digest: Option<&'a str>,
+    pub limits: Limits,
+    pub max_clients: Option<u64>,
+    pub max_per_address: Option<u64>,
+    pub max_under_way: u64,
+    pub max_watches: u64,
+    pub unconnected: u64,
+    pub words: Words,
+    pub record: Option<&'a str>,
+    pub log: LevelFilter,
+    pub log_format: LogFormat,
+    pub tick: u64,
+    pub init_limit: u64,
+    pub sync_limit: u64,
+    pub checkpoint: u64,
+    pub give_up: Option<u64>,
+    pub metrics: Option<Address<'a>>,
+}
+
+fn others_in<'a>(given: &[Given<'a>]) -> Result<Others<'a>, OptionError<'a>>
+    ensures set { IfOk result (λ others. (servers : Followed) → AreServersOf given.now servers
+        → IsSetBy given.now (options_of servers others)) }
+    ensures bounds { IfOk result (λ others. (servers : Followed) → IsWithinBounds (options_of servers others)) }
 {
-    Ok(Options {
-        servers: servers_in(alloc, given)?,
+    Ok(Others {
         client: client_in(given)?,
         server_id: id_in(given)?,
         default_id: find_given(given, Name::Id).is_none(),
@@ -325,6 +355,42 @@ fn options_in<'a>(alloc: Global, given: &[Given<'a>]) -> Result<Options<'a>, Opt
         give_up: number_in(given, Name::GiveUp)?,
         metrics: address_in(given, Name::Metrics)?,
     })
+}
+
+fn options_in<'a>(alloc: Global, given: &[Given<'a>]) -> Result<Options<'a>, OptionError<'a>>
+    ensures set { IfOk result (IsSetBy given.now) }
+    ensures bounds { IfOk result IsWithinBounds }
+{
+    let servers = servers_in(alloc, given)?;
+    match others_in(given) {
+        Ok(others) => Ok(Options {
+            servers,
+            client: others.client,
+            server_id: others.server_id,
+            default_id: others.default_id,
+            dialect: others.dialect,
+            first_counter: others.first_counter,
+            secret_file: others.secret_file,
+            super_digest: others.super_digest,
+            limits: others.limits,
+            max_clients: others.max_clients,
+            max_per_address: others.max_per_address,
+            max_under_way: others.max_under_way,
+            max_watches: others.max_watches,
+            unconnected: others.unconnected,
+            words: others.words,
+            record: others.record,
+            log: others.log,
+            log_format: others.log_format,
+            tick: others.tick,
+            init_limit: others.init_limit,
+            sync_limit: others.sync_limit,
+            checkpoint: others.checkpoint,
+            give_up: others.give_up,
+            metrics: others.metrics,
+        }),
+        Err(error) => Err(error),
+    }
 }
 
 // The configuration file, if one is given.

@@ -2,12 +2,15 @@
 
 ghost use Rattle.std.specs.Prelude.{◌≡◌, IfOk, map, filter, string_bytes, option_map};
 ghost use Rattle.serve_options.specs.Rows.{option_word};
-ghost use Rattle.serve_options.specs.Filed.{word_after, given_spelling, filed_spelling, counts_beside};
+ghost use Rattle.serve_options.specs.Texts.{place_text};
+ghost use Rattle.serve_options.specs.Filed.{word_after, given_spelling, filed_spelling, counts_beside, filed_address, client_place, own_client, metrics_place};
 
 use crate::given::Given;
 use crate::row::Name;
+use crate::value::has_colon;
 use crate::words::is_word;
 use std::alloc::{AllocError, Global};
+use std::fmt;
 use texts::number_up_to;
 use zoo_config::{
     BadLine, ConfigError, Entry, Reason, Server, server_in, serves_metrics, setting_in, value_in,
@@ -136,12 +139,44 @@ fn own_server<'a>(servers: &[Server<'a>], id: u64) -> Result<Option<Server<'a>>,
     Ok(None)
 }
 
+// A host and a port. A host that has colons, as those of IPv6 have, is in brackets.
+#[derive(Clone, Copy)]
+struct Place<'a> {
+    host: &'a str,
+    port: &'a str,
+}
+
+impl<'a> fmt::Display for Place<'a> {
+    ghost use Rattle.std.specs.Prelude.{Some};
+    ghost use Rattle.serve_options.specs.Texts.{place_text};
+
+    ghost output = { λ place. Some (place_text place.host.now place.port.now) };
+
+    fn fmt<W: fmt::Write>(&self, f: &mut fmt::Formatter<W>) -> fmt::Result {
+        let Place { host, port } = self;
+        if has_colon(host) {
+            write!(f, "[{host}]:{port}")
+        } else {
+            write!(f, "{host}:{port}")
+        }
+    }
+}
+
+fn place_text(alloc: Global, host: &str, port: &str) -> Result<String, AllocError>
+    ensures { IfOk result (λ text. string_bytes text ≡ place_text host.now port.now) }
+{
+    let place = Place { host, port };
+    format!(in alloc; "{place}")
+}
+
 // An address and a port; all addresses where none is named, as ZooKeeper does.
-fn address_text(alloc: Global, address: Option<&str>, port: &str) -> Result<String, AllocError> {
+fn address_text(alloc: Global, address: Option<&str>, port: &str) -> Result<String, AllocError>
+    ensures { IfOk result (λ text.
+        string_bytes text ≡ filed_address (option_map (λ host. host.now) address.entry) port.now) }
+{
     match address {
-        None => format!(in alloc; "0.0.0.0:{port}"),
-        Some(address) if address.contains(":") => format!(in alloc; "[{address}]:{port}"),
-        Some(address) => format!(in alloc; "{address}:{port}"),
+        Some(host) => place_text(alloc, host, port),
+        None => place_text(alloc, "0.0.0.0", port),
     }
 }
 
@@ -150,7 +185,9 @@ fn client_of(
     alloc: Global,
     entries: &[Entry],
     own: Option<Server<'_>>,
-) -> Result<Option<String>, AllocError> {
+) -> Result<Option<String>, AllocError>
+    ensures { IfOk result (λ place. option_map string_bytes place ≡ client_place entries.now (own_client own.entry)) }
+{
     if let Some(port) = value_in(entries, "clientPort") {
         let address = value_in(entries, "clientPortAddress");
         return Ok(Some(address_text(alloc, address, port)?));
@@ -161,13 +198,15 @@ fn client_of(
     };
     match client {
         None => Ok(None),
-        Some(client) if client.contains(":") => Ok(Some(String::from_str(alloc, client)?)),
+        Some(client) if has_colon(client) => Ok(Some(String::from_str(alloc, client)?)),
         Some(port) => Ok(Some(address_text(alloc, None, port)?)),
     }
 }
 
 // Where metrics are served, if the file asks for it.
-fn metrics_of(alloc: Global, entries: &[Entry]) -> Result<Option<String>, AllocError> {
+fn metrics_of(alloc: Global, entries: &[Entry]) -> Result<Option<String>, AllocError>
+    ensures { IfOk result (λ place. option_map string_bytes place ≡ metrics_place entries.now) }
+{
     if !serves_metrics(entries) {
         return Ok(None);
     }
@@ -236,7 +275,8 @@ pub fn given_by<'a>(
     filed: &'a [Filed],
     has_leader: bool,
 ) -> Result<Vec<Given<'a>>, AllocError>
-    ensures { IfOk result (λ given. map given_spelling given.items ≡ map filed_spelling (filter (counts_beside has_leader) filed.now)) }
+    ensures { IfOk result (λ given.
+        map given_spelling given.items ≡ map filed_spelling (filter (counts_beside has_leader) filed.now)) }
 {
     let mut given = Vec::with_capacity(alloc, filed.len())?;
     for option in filed {

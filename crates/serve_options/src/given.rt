@@ -51,7 +51,8 @@ fn begins_as_option(word: &str) -> bool
 
 // The first word and those after it, if it is a value.
 fn first_value(words: &[String]) -> Option<(&str, &[String])>
-    ensures { IfSome result (λ found. IsFirstValue (map string_bytes words.now) found.0.now (map string_bytes found.1.now)) }
+    ensures { IfSome result (λ found.
+        IsFirstValue (map string_bytes words.now) found.0.now (map string_bytes found.1.now)) }
 {
     let (first, rest) = words.split_first()?;
     let value = first.as_str();
@@ -70,7 +71,8 @@ struct ReadOption<'a> {
 
 // The option of this name, which is followed by these words: its value is the first of them, if it takes one.
 fn option_before<'a>(name: Name, words: &'a [String]) -> Result<ReadOption<'a>, OptionError<'a>>
-    ensures { IfOk result (λ read. IsReadOption name (map string_bytes words.now) read.option (map string_bytes read.rest.now)) }
+    ensures { IfOk result (λ read.
+        IsReadOption name (map string_bytes words.now) read.option (map string_bytes read.rest.now)) }
 {
     let alone = ReadOption {
         option: Given { name, value: None },

@@ -2,7 +2,8 @@
 //!
 //! `row` has one table of the options, a row for each: its name, what its value may be, its default and what it is for.
 //! The words are read by it (`given`, `value`, `command`), and it is the text of `serve --help` (`listing`), so neither
-//! has an option that the other misses. What is wrong with a command line is an [`OptionError`], which names the option.
+//! has an option that the other misses. What is wrong with a command line is an [`OptionError`], which names the
+//! option.
 //!
 //! ```text
 //! match command_of(alloc, words) {

@@ -1,8 +1,10 @@
 //! The options of `serve`: a row for each.
 
-ghost use Rattle.std.specs.Prelude.{◌≡◌};
+ghost use Rattle.std.specs.Prelude.{◌≡◌, ◌<◌};
+ghost use Rattle.serve_options.specs.Places.{name_place};
 ghost use Rattle.serve_options.specs.Rows.{option_word, option_kind};
 ghost use Rattle.serve_options.specs.Defaults.{option_default, default_value};
+ghost use Rattle.serve_options.specs.Table.{row_said, option_said, IsOptionTable};
 
 use std::fmt;
 
@@ -116,6 +118,11 @@ macro_rules! from_to {
 }
 
 impl fmt::Display for Kind {
+    ghost use Rattle.std.specs.Prelude.{Some};
+    ghost use Rattle.serve_options.specs.Texts.{kind_text};
+
+    ghost output = { λ kind. Some (kind_text kind) };
+
     fn fmt<W: fmt::Write>(&self, f: &mut fmt::Formatter<W>) -> fmt::Result {
         match self {
             Kind::Nothing => f.write_str("no value"),
@@ -395,43 +402,61 @@ const VERSION: Row = Row {
     help: "prints the version",
 };
 
+/// The rows of all options, in the order of [`NAMES`].
+pub(crate) static ROWS: [Row; 29] = [
+    CONFIG,
+    CHECK_CONFIG,
+    LEADER,
+    SERVERS,
+    CLIENT,
+    ID,
+    DIALECT,
+    COUNTER,
+    SECRET_FILE,
+    SUPER_DIGEST,
+    WORKERS,
+    BATCH,
+    MAX_CLIENTS,
+    MAX_PER_ADDRESS,
+    MAX_UNDER_WAY,
+    MAX_WATCHES,
+    UNCONNECTED,
+    WORDS,
+    TICK,
+    INIT_LIMIT,
+    SYNC_LIMIT,
+    CHECKPOINT,
+    GIVE_UP,
+    METRICS,
+    RECORD,
+    LOG,
+    LOG_FORMAT,
+    HELP,
+    VERSION,
+];
+
+// The row of an option in a table.
+fn row_in(rows: &[Row; 29], name: Name) -> Row
+    ensures { IsOptionTable rows.now → row_said result ≡ option_said name }
+{
+    rows[name.place()]
+}
+
 impl Name {
+    // The place of the option among all.
+    fn place(self) -> usize
+        ensures place { result ≡ name_place self }
+        ensures bound { result < 29 }
+    {
+        self as usize
+    }
+
     /// What there is to know of the option.
     pub fn row(self) -> Row
         ensures word { result.word.now ≡ option_word self }
         ensures kind { result.kind ≡ option_kind self }
         ensures default { default_value result.without ≡ option_default self }
     {
-        match self {
-            Name::Config => CONFIG,
-            Name::CheckConfig => CHECK_CONFIG,
-            Name::Leader => LEADER,
-            Name::Servers => SERVERS,
-            Name::Client => CLIENT,
-            Name::Id => ID,
-            Name::Dialect => DIALECT,
-            Name::Counter => COUNTER,
-            Name::SecretFile => SECRET_FILE,
-            Name::SuperDigest => SUPER_DIGEST,
-            Name::Workers => WORKERS,
-            Name::Batch => BATCH,
-            Name::MaxClients => MAX_CLIENTS,
-            Name::MaxPerAddress => MAX_PER_ADDRESS,
-            Name::MaxUnderWay => MAX_UNDER_WAY,
-            Name::MaxWatches => MAX_WATCHES,
-            Name::Unconnected => UNCONNECTED,
-            Name::Words => WORDS,
-            Name::Tick => TICK,
-            Name::InitLimit => INIT_LIMIT,
-            Name::SyncLimit => SYNC_LIMIT,
-            Name::Checkpoint => CHECKPOINT,
-            Name::GiveUp => GIVE_UP,
-            Name::Metrics => METRICS,
-            Name::Record => RECORD,
-            Name::Log => LOG,
-            Name::LogFormat => LOG_FORMAT,
-            Name::Help => HELP,
-            Name::Version => VERSION,
-        }
+        row_in(&ROWS, self)
     }
 }

@@ -3,6 +3,7 @@
 ghost use Rattle.std.specs.Prelude.{◌≡◌, ◌≤◌, ◌==◌, ℕ, Some, IfSome, IfOk, map, vec_len};
 ghost use Rattle.std.specs.List.{list_any};
 ghost use Rattle.serve_options.specs.Rows.{IsWithin};
+ghost use Rattle.serve_options.specs.Texts.{has_colon};
 ghost use Rattle.serve_options.specs.Words.{parts_of};
 ghost use Rattle.serve_options.specs.Values.{number_within, port_number_of, SpellsHost, SpellsPlace, SpellsAddress, ArePlaces, level_of, format_of, dialect_of, is_digest_text};
 
@@ -21,9 +22,14 @@ pub struct Address<'a> {
 }
 
 impl<'a> fmt::Display for Address<'a> {
+    ghost use Rattle.std.specs.Prelude.{Some};
+    ghost use Rattle.serve_options.specs.Texts.{address_text};
+
+    ghost output = { λ address. Some (address_text address.host.now address.port) };
+
     fn fmt<W: fmt::Write>(&self, f: &mut fmt::Formatter<W>) -> fmt::Result {
         let Address { host, port } = self;
-        if host.contains(":") {
+        if has_colon(host) {
             write!(f, "[{host}]:{port}")
         } else {
             write!(f, "{host}:{port}")
@@ -83,9 +89,11 @@ fn host_of(text: &str) -> Option<&str>
     Some(host)
 }
 
-/// Whether a text names a host beside its port.
-pub(crate) fn has_host(text: &str) -> bool {
-    text.contains(":")
+/// Whether a text has a colon: an address that names a host has, and so has a host of IPv6.
+pub(crate) fn has_colon(text: &str) -> bool
+    ensures { result ≡ has_colon text.now }
+{
+    text.as_bytes().contains(&b':')
 }
 
 // The address that a text spells as HOST:PORT.
@@ -103,7 +111,7 @@ fn place_of(text: &str) -> Option<Address<'_>>
 pub(crate) fn address_of(text: &str) -> Option<Address<'_>>
     ensures { IfSome result (λ address. SpellsAddress text.now address.host.now address.port) }
 {
-    if has_host(text) {
+    if has_colon(text) {
         return place_of(text);
     }
     Some(Address {
@@ -124,7 +132,8 @@ pub(crate) fn addresses_of(
     text: &str,
 ) -> Result<Option<Vec<Address<'_>>>, AllocError>
     ensures spelled { IfOk result (λ found. IfSome found (λ addresses. ArePlaces (parts_of text.now) addresses.items)) }
-    ensures length { IfOk result (λ found. IfSome found (λ addresses. (1 ≤ vec_len addresses) × (vec_len addresses ≤ 64))) }
+    ensures length { IfOk result (λ found. IfSome found (λ addresses.
+        (1 ≤ vec_len addresses) × (vec_len addresses ≤ 64))) }
 {
     let parts = parts_of(alloc, text)?;
     if parts.len() > MOST_SERVERS {

@@ -1,8 +1,8 @@
 //! The four-letter words that are answered.
 
-ghost use Rattle.std.specs.Prelude.{◌≡◌};
+ghost use Rattle.std.specs.Prelude.{◌≡◌, map};
 ghost use Rattle.std.specs.List.{list_all};
-ghost use Rattle.serve_options.specs.Words.{parts_of, is_four_letter_word, is_among, all_or_none, named_words};
+ghost use Rattle.serve_options.specs.Words.{parts_of, is_four_letter_word, is_among, all_or_none, named_words, each_word};
 
 use std::fmt;
 
@@ -26,24 +26,27 @@ pub struct Words {
     pub srst: bool,
 }
 
+const WORDS: [&str; 15] = [
+    "ruok", "isro", "srvr", "stat", "mntr", "conf", "envi", "dirs", "wchs", "wchp", "wchc", "dump",
+    "cons", "crst", "srst",
+];
+
+// Whether a text is one of some words.
+fn is_one_of(text: &str, words: &[&str]) -> bool
+    ensures { result ≡ is_among text.now (map (λ word. word.now) words.now) }
+{
+    for word in words {
+        if *word == text {
+            return true;
+        }
+    }
+    false
+}
+
 pub(crate) fn is_word(text: &str) -> bool
     ensures { result ≡ is_four_letter_word text.now }
 {
-    text == "ruok"
-        || text == "isro"
-        || text == "srvr"
-        || text == "stat"
-        || text == "mntr"
-        || text == "conf"
-        || text == "envi"
-        || text == "dirs"
-        || text == "wchs"
-        || text == "wchp"
-        || text == "wchc"
-        || text == "dump"
-        || text == "cons"
-        || text == "crst"
-        || text == "srst"
+    is_one_of(text, &WORDS)
 }
 
 // Whether each part of a text is a word.
@@ -118,7 +121,9 @@ pub fn words_of(text: &str) -> Option<Words>
 
 impl Words {
     /// Each word, and whether it is answered.
-    pub fn each(self) -> [(&'static str, bool); 15] {
+    pub fn each(self) -> [(&'static str, bool); 15]
+        ensures { map (λ word. (word.0.now, word.1)) result ≡ each_word self }
+    {
         [
             ("ruok", self.ruok),
             ("isro", self.isro),

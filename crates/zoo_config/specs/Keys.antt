@@ -1,6 +1,6 @@
 -- What a key means to an observer.
 use Rattle.std.specs.Prelude.{ℕ, ◌==◌, ◌||◌, ◌&&◌, not, List, [], ◌∷◌, Bool, false, Option, Some, None, is_some, position, nat_eq, if◌then◌else◌, codes}
-use Rattle.std.specs.List.{starts_with}
+use Rattle.std.specs.List.{list_any, starts_with}
 use Rattle.std.specs.Option.{option_map, unwrap_or}
 use Rattle.std.specs.Str.{bytes_eq}
 use Rattle.zoo_config.specs.declared.form.Entry.{Entry}
@@ -9,6 +9,12 @@ use Rattle.zoo_config.specs.declared.error.Reason.{Reason}
 use Rattle.zoo_config.specs.declared.error.Reason.TheVariants.{Escape, Tls, Sasl, LocalSessions, Digests}
 use Rattle.zoo_config.specs.declared.key.Meaning.{Meaning}
 use Rattle.zoo_config.specs.declared.key.Meaning.TheVariants.{Taken, Idle, Unheeded, Unknown, Refused}
+
+abbrev pub is_one_of : List (List ℕ) → List ℕ → Bool
+is_one_of all text = list_any (λ one. bytes_eq one text) all
+
+abbrev pub begins_as_one_of : List (List ℕ) → List ℕ → Bool
+begins_as_one_of fronts text = list_any (λ front. starts_with nat_eq text front) fronts
 
 -- ---- what is refused
 
@@ -25,14 +31,15 @@ asks_for_tls key value =
 
 abbrev pub is_sasl_switch : List ℕ → Bool
 is_sasl_switch key =
-    bytes_eq key (codes "quorum.auth.enableSasl") || bytes_eq key (codes "quorum.auth.learnerRequireSasl")
-    || bytes_eq key (codes "quorum.auth.serverRequireSasl") || bytes_eq key (codes "sessionRequireClientSASLAuth")
+    is_one_of
+    (codes "quorum.auth.enableSasl" ∷ codes "quorum.auth.learnerRequireSasl" ∷ codes "quorum.auth.serverRequireSasl"
+    ∷ codes "sessionRequireClientSASLAuth" ∷ [])
+    key
 
 abbrev pub asks_for_sasl : List ℕ → List ℕ → Bool
 asks_for_sasl key value =
-    starts_with nat_eq key (codes "authProvider") || starts_with nat_eq key (codes "enforce.auth.")
-    || starts_with nat_eq key (codes "kerberos.") || bytes_eq key (codes "requireClientAuthScheme")
-    || (is_sasl_switch key && not (is_off value))
+    begins_as_one_of (codes "authProvider" ∷ codes "enforce.auth." ∷ codes "kerberos." ∷ []) key
+    || bytes_eq key (codes "requireClientAuthScheme") || (is_sasl_switch key && not (is_off value))
 
 abbrev pub reason_of : List ℕ → List ℕ → Option Reason
 reason_of key value =
@@ -47,12 +54,12 @@ reason_of key value =
 
 abbrev pub is_taken : List ℕ → Bool
 is_taken key =
-    starts_with nat_eq key (codes "server.") || bytes_eq key (codes "dynamicConfigFile")
-    || bytes_eq key (codes "dataDir") || bytes_eq key (codes "clientPort") || bytes_eq key (codes "clientPortAddress")
-    || bytes_eq key (codes "tickTime") || bytes_eq key (codes "initLimit") || bytes_eq key (codes "syncLimit")
-    || bytes_eq key (codes "maxClientCnxns") || bytes_eq key (codes "maxCnxns")
-    || bytes_eq key (codes "4lw.commands.whitelist")
-    || bytes_eq key (codes "DigestAuthenticationProvider.superDigest")
+    starts_with nat_eq key (codes "server.")
+    || is_one_of
+    (codes "dynamicConfigFile" ∷ codes "dataDir" ∷ codes "clientPort" ∷ codes "clientPortAddress" ∷ codes "tickTime"
+    ∷ codes "initLimit" ∷ codes "syncLimit" ∷ codes "maxClientCnxns" ∷ codes "maxCnxns" ∷ codes "4lw.commands.whitelist"
+    ∷ codes "DigestAuthenticationProvider.superDigest" ∷ [])
+    key
 
 -- The class that serves metrics over HTTP.
 abbrev pub is_prometheus : List ℕ → Bool
@@ -75,9 +82,11 @@ sets_metrics key value =
 -- It has a meaning for an observer, but none here.
 abbrev pub is_unheeded : List ℕ → Bool
 is_unheeded key =
-    starts_with nat_eq key (codes "metricsProvider.") || bytes_eq key (codes "minSessionTimeout")
-    || bytes_eq key (codes "maxSessionTimeout") || bytes_eq key (codes "observerMasterPort")
-    || bytes_eq key (codes "skipACL") || bytes_eq key (codes "globalOutstandingLimit")
+    starts_with nat_eq key (codes "metricsProvider.")
+    || is_one_of
+    (codes "minSessionTimeout" ∷ codes "maxSessionTimeout" ∷ codes "observerMasterPort" ∷ codes "skipACL"
+    ∷ codes "globalOutstandingLimit" ∷ [])
+    key
 
 abbrev pub asks_for_reconfiguration : List ℕ → List ℕ → Bool
 asks_for_reconfiguration key value = bytes_eq key (codes "reconfigEnabled") && not (is_off value)
@@ -85,25 +94,27 @@ asks_for_reconfiguration key value = bytes_eq key (codes "reconfigEnabled") && n
 -- It speaks of voters, of elections, of files, or of what is off.
 abbrev pub is_of_servers : List ℕ → Bool
 is_of_servers key =
-    starts_with nat_eq key (codes "group.") || starts_with nat_eq key (codes "weight.")
-    || starts_with nat_eq key (codes "observer.") || bytes_eq key (codes "peerType")
-    || bytes_eq key (codes "standaloneEnabled") || bytes_eq key (codes "electionAlg")
-    || bytes_eq key (codes "quorumListenOnAllIPs") || bytes_eq key (codes "reconfigEnabled")
-    || bytes_eq key (codes "leaderServes") || bytes_eq key (codes "version")
+    begins_as_one_of (codes "group." ∷ codes "weight." ∷ codes "observer." ∷ []) key
+    || is_one_of
+    (codes "peerType" ∷ codes "standaloneEnabled" ∷ codes "electionAlg" ∷ codes "quorumListenOnAllIPs"
+    ∷ codes "reconfigEnabled" ∷ codes "leaderServes" ∷ codes "version" ∷ [])
+    key
 
 abbrev pub is_of_files : List ℕ → Bool
 is_of_files key =
-    starts_with nat_eq key (codes "autopurge.") || starts_with nat_eq key (codes "snapshot.")
-    || starts_with nat_eq key (codes "admin.") || bytes_eq key (codes "syncEnabled")
-    || bytes_eq key (codes "dataLogDir") || bytes_eq key (codes "snapCount")
-    || bytes_eq key (codes "preAllocSize") || bytes_eq key (codes "commitLogCount")
-    || bytes_eq key (codes "snapSizeLimitInKb")
+    begins_as_one_of (codes "autopurge." ∷ codes "snapshot." ∷ codes "admin." ∷ []) key
+    || is_one_of
+    (codes "syncEnabled" ∷ codes "dataLogDir" ∷ codes "snapCount" ∷ codes "preAllocSize" ∷ codes "commitLogCount"
+    ∷ codes "snapSizeLimitInKb" ∷ [])
+    key
 
 abbrev pub is_switched_off : List ℕ → Bool
 is_switched_off key =
-    bytes_eq key (codes "sslQuorum") || starts_with nat_eq key (codes "quorum.auth.")
-    || bytes_eq key (codes "sessionRequireClientSASLAuth") || bytes_eq key (codes "localSessionsEnabled")
-    || bytes_eq key (codes "digest.enabled")
+    starts_with nat_eq key (codes "quorum.auth.")
+    || is_one_of
+    (codes "sslQuorum" ∷ codes "sessionRequireClientSASLAuth" ∷ codes "localSessionsEnabled" ∷ codes "digest.enabled"
+    ∷ [])
+    key
 
 abbrev pub meaning_of : List ℕ → List ℕ → Meaning
 meaning_of key value =

@@ -28,7 +28,8 @@ fn first_refused(entries: &[Entry]) -> Option<BadLine>
 pub fn parse(alloc: Global, text: &str) -> Result<Vec<Entry>, ConfigError>
     ensures entries { IfOk result (λ entries. entries.items ≡ entries_of text.now) }
     ensures allowed { IfOk result (λ entries. first_refused (entries_of text.now) ≡ None) }
-    ensures bad { (line : BadLine) → result ≡ Err (ConfigError.Bad line) → first_refused (entries_of text.now) ≡ Some line }
+    ensures bad { (line : BadLine)
+        → result ≡ Err (ConfigError.Bad line) → first_refused (entries_of text.now) ≡ Some line }
 {
     let entries = entries_of(alloc, text)?;
     match first_refused(entries.as_slice()) {

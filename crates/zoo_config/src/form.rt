@@ -153,7 +153,8 @@ fn take_line(
     line: &str,
 ) -> Result<Option<Joined>, NoMemory>
     ensures after { IfOk result (λ after. after ≡ line_behind (part_of before number (trim_start line.now))) }
-    ensures entries { OnOk result (entries.new.items ≡ entries.old.items ++ ended_entries (part_of before number (trim_start line.now))) }
+    ensures entries { OnOk result (
+        entries.new.items ≡ entries.old.items ++ ended_entries (part_of before number (trim_start line.now))) }
 {
     match part_of(alloc, before, number, line.trim_start())? {
         Part::Remark => Ok(None),

@@ -1,8 +1,8 @@
 //! What a key means to an observer.
 
-ghost use Rattle.std.specs.Prelude.{◌≡◌, ◌==◌, nat_eq, position};
+ghost use Rattle.std.specs.Prelude.{◌≡◌, ◌==◌, nat_eq, map, position};
 ghost use Rattle.std.specs.List.{starts_with};
-ghost use Rattle.zoo_config.specs.Keys.{is_off, has_escape, asks_for_tls, is_sasl_switch, asks_for_sasl, reason_of, is_taken, is_prometheus, is_provider, sets_metrics, is_unheeded, asks_for_reconfiguration, is_of_servers, is_of_files, is_switched_off, meaning_of, meaning_with};
+ghost use Rattle.zoo_config.specs.Keys.{is_one_of, begins_as_one_of, is_off, has_escape, asks_for_tls, is_sasl_switch, asks_for_sasl, reason_of, is_taken, is_prometheus, is_provider, sets_metrics, is_unheeded, asks_for_reconfiguration, is_of_servers, is_of_files, is_switched_off, meaning_of, meaning_with};
 
 use crate::error::Reason;
 use std::fmt;
@@ -31,10 +31,96 @@ impl fmt::Display for Meaning {
     }
 }
 
+const SASL_FRONTS: [&str; 3] = ["authProvider", "enforce.auth.", "kerberos."];
+
+const SASL_SWITCHES: [&str; 4] = [
+    "quorum.auth.enableSasl",
+    "quorum.auth.learnerRequireSasl",
+    "quorum.auth.serverRequireSasl",
+    "sessionRequireClientSASLAuth",
+];
+
+const TAKEN: [&str; 11] = [
+    "dynamicConfigFile",
+    "dataDir",
+    "clientPort",
+    "clientPortAddress",
+    "tickTime",
+    "initLimit",
+    "syncLimit",
+    "maxClientCnxns",
+    "maxCnxns",
+    "4lw.commands.whitelist",
+    "DigestAuthenticationProvider.superDigest",
+];
+
+const UNHEEDED: [&str; 5] = [
+    "minSessionTimeout",
+    "maxSessionTimeout",
+    "observerMasterPort",
+    "skipACL",
+    "globalOutstandingLimit",
+];
+
+const SERVER_FRONTS: [&str; 3] = ["group.", "weight.", "observer."];
+
+const SERVER_KEYS: [&str; 7] = [
+    "peerType",
+    "standaloneEnabled",
+    "electionAlg",
+    "quorumListenOnAllIPs",
+    "reconfigEnabled",
+    "leaderServes",
+    "version",
+];
+
+const FILE_FRONTS: [&str; 3] = ["autopurge.", "snapshot.", "admin."];
+
+const FILE_KEYS: [&str; 6] = [
+    "syncEnabled",
+    "dataLogDir",
+    "snapCount",
+    "preAllocSize",
+    "commitLogCount",
+    "snapSizeLimitInKb",
+];
+
+// Switches of what isn't here, where they are off.
+const SWITCHES: [&str; 4] = [
+    "sslQuorum",
+    "sessionRequireClientSASLAuth",
+    "localSessionsEnabled",
+    "digest.enabled",
+];
+
 fn begins(text: &str, front: &str) -> bool
     ensures { result ≡ starts_with nat_eq text.now front.now }
 {
     text.as_bytes().starts_with(front.as_bytes())
+}
+
+// Whether a text is one of some.
+fn is_one_of(text: &str, all: &[&str]) -> bool
+    ensures { result ≡ is_one_of (map (λ one. one.now) all.now) text.now }
+{
+    for one in all {
+        if *one == text {
+            return true;
+        }
+    }
+    false
+}
+
+// Whether a text begins as one of some.
+fn begins_as_one_of(text: &str, fronts: &[&str]) -> bool
+    ensures { result ≡ begins_as_one_of (map (λ front. front.now) fronts.now) text.now }
+{
+    for front in fronts {
+        if begins(text, front) {
+            return true;
+        }
+    }
+    false
 }
 
 fn is_off(value: &str) -> bool
@@ -67,18 +153,13 @@ fn asks_for_tls(key: &str, value: &str) -> bool
 fn is_sasl_switch(key: &str) -> bool
     ensures { result ≡ is_sasl_switch key.now }
 {
-    key == "quorum.auth.enableSasl"
-        || key == "quorum.auth.learnerRequireSasl"
-        || key == "quorum.auth.serverRequireSasl"
-        || key == "sessionRequireClientSASLAuth"
+    is_one_of(key, &SASL_SWITCHES)
 }
 
 fn asks_for_sasl(key: &str, value: &str) -> bool
     ensures { result ≡ asks_for_sasl key.now value.now }
 {
-    begins(key, "authProvider")
-        || begins(key, "enforce.auth.")
-        || begins(key, "kerberos.")
+    begins_as_one_of(key, &SASL_FRONTS)
         || key == "requireClientAuthScheme"
         || (is_sasl_switch(key) && !is_off(value))
 }
@@ -109,18 +190,7 @@ pub(crate) fn reason_of(key: &str, value: &str) -> Option<Reason>
 fn is_taken(key: &str) -> bool
     ensures { result ≡ is_taken key.now }
 {
-    begins(key, "server.")
-        || key == "dynamicConfigFile"
-        || key == "dataDir"
-        || key == "clientPort"
-        || key == "clientPortAddress"
-        || key == "tickTime"
-        || key == "initLimit"
-        || key == "syncLimit"
-        || key == "maxClientCnxns"
-        || key == "maxCnxns"
-        || key == "4lw.commands.whitelist"
-        || key == "DigestAuthenticationProvider.superDigest"
+    begins(key, "server.") || is_one_of(key, &TAKEN)
 }
 
 /// Whether a class is the one of ZooKeeper that serves metrics over HTTP.
@@ -150,12 +220,7 @@ fn sets_metrics(key: &str, value: &str) -> bool
 fn is_unheeded(key: &str) -> bool
     ensures { result ≡ is_unheeded key.now }
 {
-    begins(key, "metricsProvider.")
-        || key == "minSessionTimeout"
-        || key == "maxSessionTimeout"
-        || key == "observerMasterPort"
-        || key == "skipACL"
-        || key == "globalOutstandingLimit"
+    begins(key, "metricsProvider.") || is_one_of(key, &UNHEEDED)
 }
 
 fn asks_for_reconfiguration(key: &str, value: &str) -> bool
@@ -167,40 +232,19 @@ fn asks_for_reconfiguration(key: &str, value: &str) -> bool
 fn is_of_servers(key: &str) -> bool
     ensures { result ≡ is_of_servers key.now }
 {
-    begins(key, "group.")
-        || begins(key, "weight.")
-        || begins(key, "observer.")
-        || key == "peerType"
-        || key == "standaloneEnabled"
-        || key == "electionAlg"
-        || key == "quorumListenOnAllIPs"
-        || key == "reconfigEnabled"
-        || key == "leaderServes"
-        || key == "version"
+    begins_as_one_of(key, &SERVER_FRONTS) || is_one_of(key, &SERVER_KEYS)
 }
 
 fn is_of_files(key: &str) -> bool
     ensures { result ≡ is_of_files key.now }
 {
-    begins(key, "autopurge.")
-        || begins(key, "snapshot.")
-        || begins(key, "admin.")
-        || key == "syncEnabled"
-        || key == "dataLogDir"
-        || key == "snapCount"
-        || key == "preAllocSize"
-        || key == "commitLogCount"
-        || key == "snapSizeLimitInKb"
+    begins_as_one_of(key, &FILE_FRONTS) || is_one_of(key, &FILE_KEYS)
 }
 
 fn is_switched_off(key: &str) -> bool
     ensures { result ≡ is_switched_off key.now }
 {
-    key == "sslQuorum"
-        || begins(key, "quorum.auth.")
-        || key == "sessionRequireClientSASLAuth"
-        || key == "localSessionsEnabled"
-        || key == "digest.enabled"
+    begins(key, "quorum.auth.") || is_one_of(key, &SWITCHES)
 }
 
 /// What a key means here if it has this value.

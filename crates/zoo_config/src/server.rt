@@ -79,7 +79,8 @@ fn server_of<'a>(number: &str, entry: &'a Entry) -> Option<Server<'a>>
 pub fn server_in<'a>(entry: &'a Entry) -> Result<Option<Server<'a>>, BadLine>
     ensures server { IfOk result (λ found. IfSome found (SpellsServer entry.now)) }
     ensures others { IfOk result (λ found. IfNone found ((digits : List ℕ) → IsServerKey entry.now.key digits → ⊥)) }
-    ensures bad { IfErr result (λ bad. (bad.line ≡ entry.now.line) × (bad.reason ≡ reasons.Server) × IsNoServer entry.now) }
+    ensures bad { IfErr result (λ bad.
+        (bad.line ≡ entry.now.line) × (bad.reason ≡ reasons.Server) × IsNoServer entry.now) }
 {
     let Some(number) = entry.key.as_str().strip_prefix("server.") else {
         return Ok(None);

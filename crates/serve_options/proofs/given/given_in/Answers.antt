@@ -17,7 +17,8 @@ loop-word-preserved c =
     let pushed : c.push.new.self.items ≡ given ++ option ∷ [] = search rules in
     let all = map string_bytes c.args.words.now in
     let after = map string_bytes c.in_ok-option.field-0.rest.now in
-    let cut : map string_bytes c.loop-word.rest.now ≡ string_bytes c.in-Some.word.now ∷ map string_bytes c.in-Some.others.now =
+    let others = map string_bytes c.in-Some.others.now in
+    let cut : map string_bytes c.loop-word.rest.now ≡ string_bytes c.in-Some.word.now ∷ others =
     ap (map string_bytes) c.in-Some.ensures.cases.0 in
     let named : option_word option.name ≡ string_bytes c.in-Some.word.now =
     ap option_word read.named ∙ c.in_ok-name.ensures ∙ c.as_str.ensures.value in
@@ -28,9 +29,11 @@ loop-word-preserved c =
     record {
       spelled =
           subst (λ (g : List Given). all ≡ flat_map words_of_option g ++ after) (sym pushed)
-          (one_more given option all _ after _ (c.loop-word.invariant.spelled ∙ ap (λ l. flat_map words_of_option given ++ l) cut) named read.spelled);
+          (one_more given option all _ after _
+          (c.loop-word.invariant.spelled ∙ ap (λ l. flat_map words_of_option given ++ l) cut) named read.spelled);
       fit =
           subst (λ (g : List Given). All P g) (sym pushed)
-          (All-append P given (option ∷ []) c.loop-word.invariant.fit (all_of_one P option (subst (λ n. IsValueOf (option_kind n) option.value) (sym read.named) read.fits)));
+          (All-append P given (option ∷ []) c.loop-word.invariant.fit
+          (all_of_one P option (subst (λ n. IsValueOf (option_kind n) option.value) (sym read.named) read.fits)));
       once = subst (λ (g : List Given). IsOnce g) (sym pushed) (once_more given option c.loop-word.invariant.once none);
     }

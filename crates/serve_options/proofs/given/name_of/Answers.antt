@@ -3,7 +3,7 @@ use Rattle.std.proofs.lemmas.Bool.{false≢true}
 use Rattle.std.proofs.lemmas.List.{get_or_default}
 use Rattle.std.proofs.lemmas.Slice.Eq.{bytes_eq-Decides}
 use Rattle.serve_options.specs.Rows.{option_word}
-use Rattle.serve_options.specs.Given.{name_place}
+use Rattle.serve_options.specs.Places.{name_place}
 use Rattle.serve_options.specs.declared.row.TheConstants.{NAMES}
 use Rattle.serve_options.proofs.Names.{name_at, one_more, place_below}
 use Rattle.serve_options.proofs.given.name_of.Goals as goal

@@ -30,7 +30,8 @@ returns-clause-length c =
     let addresses = c.loop-part.addresses.items in
     let all : parts ≡ c.in_ok-parts.parts.items = search rules in
     let read : map (λ part. part.now) (take c.loop-part.part-index parts) ≡ texts =
-    ap (map (λ part. part.now)) (take_all c.loop-part.part-index parts c.loop-part-test.false ∙ all) ∙ c.in_ok-parts.ensures in
+    ap (map (λ part. part.now)) (take_all c.loop-part.part-index parts c.loop-part-test.false ∙ all)
+    ∙ c.in_ok-parts.ensures in
     let same : length texts ≡ length addresses =
     same_length texts addresses (subst (λ (l : List (List ℕ)). ArePlaces l addresses) read c.loop-part.invariant) in
     let few : length c.in_ok-parts.parts.items ≤ 64 = search rules in

@@ -6,5 +6,6 @@ use Rattle.serve_options.proofs.words.has.Goals as goal
 pub returns : goal.returns
 returns c =
     any_from_yields_List _ _ _ _ c.any.ensures.ran
-    (YieldsList-from_str_split 44 c.args.text.now (lit< tt) c.split.ensures.text c.split.ensures.has_more c.split.ensures.pattern)
+    (YieldsList-from_str_split 44 c.args.text.now (lit< tt) c.split.ensures.text c.split.ensures.has_more
+    c.split.ensures.pattern)
     (λ x b q k. search (rules, tests))

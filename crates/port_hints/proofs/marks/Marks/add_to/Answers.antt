@@ -7,7 +7,10 @@ use Rattle.port_hints.proofs.marks.Marks.add_to.Goals as goal
 pub returns-clause-kept : goal.returns-clause-kept
 returns-clause-kept c =
     let is = dedup_is _ _ _ c.dedup.ensures.filtered in
-    λ n h. rw is (Contains-dedup_nat _ n (Contains-permutation _ _ n c.sort_unstable.ensures.permutation (c.take-taken.ensures n h)))
+    λ n h.
+    rw is
+    (Contains-dedup_nat _ n
+    (Contains-permutation _ _ n c.sort_unstable.ensures.permutation (c.take-taken.ensures n h)))
 
 pub returns-clause-sorted : goal.returns-clause-sorted
 returns-clause-sorted c =
