@@ -1,5 +1,5 @@
 -- Outputs that are gathered one after the other.
-use Rattle.std.proofs.Common.{◌≡◌, ◌≢◌, ℕ, ◌+◌, nat_lt, ◌++◌, ◌∷◌, [], List, Bool, true, false, true≢false, length, refl, sym, ap, subst, ◌∙◌, arith, append_assoc}
+use Rattle.std.proofs.Common.{◌≡◌, ◌≢◌, ℕ, ◌+◌, ◌≤◌, nat_lt, ◌++◌, ◌∷◌, [], List, Bool, true, false, true≢false, length, refl, sym, ap, subst, ◌∙◌, arith, append_assoc}
 use Rattle.std.proofs.lemmas.Bool.Decides.{nat_tests}
 use Rattle.world.specs.declared.output.Output.{Output}
 use Rattle.world.specs.declared.output.Output.TheVariants.{ToLeader, ToClient, CloseLeader, CloseClient}
@@ -33,6 +33,19 @@ output_closes u (CloseClient n) closing = refl
 pub outputs_close : (u : Unwritten) (os : List Output) → u.closing ≡ true → (with_outputs u os).closing ≡ true
 outputs_close u [] closing = closing
 outputs_close u (o ∷ os) closing = outputs_close (with_output u o) os (output_closes u o closing)
+
+none_are : (os : List Output) → (os ≢ [] → false ≡ true) → os ≡ []
+none_are [] some = refl
+none_are (o ∷ os) some = absurd (true≢false (sym (some (λ e. let n = ap (λ (l : List Output). length l) e in absurd (omega arith)))))
+
+-- Where no output was gathered, nothing has changed.
+pub nothing_gathered : (old mid : Unwritten) (counted counting : Window) (before came : PortEnd)
+    → HasGathered old mid counted counting before came false → mid ≡ old
+nothing_gathered old mid counted counting before came so =
+    so.unwritten ∙ ap (λ os. with_outputs old os) (none_are so.outputs so.some.1)
+
+pub not_enough : {A : Type 0} (bytes : List ℕ) → bytes ≡ [] → 65536 ≤ length bytes → A
+not_enough bytes e l = let n = ap (λ (bs : List ℕ). length bs) e in absurd (omega arith)
 
 some_gathered : (n : ℕ) → nat_lt 0 (n + 1) ≡ true
 some_gathered n = grind (arith, nat_tests)

@@ -60,11 +60,18 @@ impl Outgoing {
         }
     }
 
+    // The bytes that aren't written yet.
+    fn unwritten(&self) -> &[u8]
+        ensures { result.now ≡ self.now.bytes }
+    {
+        &self.bytes[self.at..]
+    }
+
     /// Whether everything gathered is written.
     pub(crate) fn is_written(&self) -> bool
         ensures { IsTrue result ↔ (self.now.bytes ≡ []) }
     {
-        self.bytes[self.at..].is_empty()
+        self.unwritten().is_empty()
     }
 
     /// Whether the connection is to be closed after what was gathered.
@@ -112,16 +119,18 @@ impl Outgoing {
     }
 
     /// Gathers the port's outputs while they are few, up to one that closes the connection. All gathered before has to
-    /// be written. The window counts the answers among them. Returns whether there was an output. Fails only if an
-    /// allocation is refused.
+    /// be written. The window counts the answers among them. Returns whether there was an output: where there was none,
+    /// and the connection isn't to be closed, the port has none now. Fails only if an allocation is refused.
     pub fn gather(&mut self, port: &mut Port, window: &mut Window) -> Result<bool, NoMemory>
         requires { self.old.bytes ≡ [] }
         ensures ok { IfOk result (HasGathered self.old self.new window.old window.new port.old port.new) }
+        ensures empty { IfOk result
+            (λ found. found ≡ false → self.old.closing ≡ false → unread_through port.new ≡ []) }
         ensures err { OnErr result (LosesOutput self.old self.new window.old port.old port.new) }
     {
         self.clear();
         for gathered in 0..u64::MAX {
-            if self.closing || self.bytes.len() >= ENOUGH {
+            if self.closing || self.unwritten().len() >= ENOUGH {
                 return Ok(gathered > 0);
             }
             let Some(output) = port.receive() else {
@@ -151,7 +160,7 @@ impl Outgoing {
         ensures bound { IfOk result (λ n. n ≤ length self.old.bytes) }
         ensures err { OnErr result (self.new ≡ self.old) }
     {
-        let count = writer.write(&self.bytes[self.at..])?;
+        let count = writer.write(self.unwritten())?;
         self.at += count;
         Ok(count)
     }
