@@ -3,7 +3,7 @@
 use anyhow::{Context, Result, bail};
 use observer_core::Output;
 
-// The xid of an event's frame, behind its length: -1.
+// The xid of an event's frame, after its length: -1.
 const EVENT_XID: &[u8] = &[0xff, 0xff, 0xff, 0xff];
 
 /// What an engine has given.

@@ -68,7 +68,7 @@ pub fn opened(place: u32) -> u64 {
 /// Messages, and the steps in which they come.
 #[derive(Drop)]
 pub struct Supply {
-    /// The messages, one behind the other.
+    /// The messages, one after the other.
     pub bytes: Vec<u8>,
     /// The steps that bring the engine to where the measured part begins, once that is decided.
     pub before: Vec<Step>,
@@ -94,7 +94,7 @@ impl Supply {
         }
     }
 
-    /// The measured part begins behind all that was added.
+    /// The measured part begins after all that was added.
     pub fn measure_from_here(&mut self, alloc: Global) {
         self.before = mem::replace(&mut self.steps, Vec::new(alloc));
         self.transactions_before = self.transactions;
