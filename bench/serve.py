@@ -18,15 +18,18 @@ does nothing else. Clients are bench/load.c; both are compiled by `cc` into a fo
 
 What is compared takes turns in one run, several times. Other work on the machine shows in all figures: the load stands
 at both ends, and each figure with the least and the greatest of its rounds. A bound is judged at the best round, since
-other work makes a round worse and never better. The exit status is 0 where all bounds are met.
+other work makes a round worse and never better; that of mntr, whose two sides are equally near, at the middle of many
+short rounds (bench/counted.py counts what it takes). The exit status is 0 if all bounds are met.
 """
 import argparse
+import math
 import pathlib
 import queue
 import re
 import resource
 import shutil
 import socket
+import statistics
 import struct
 import subprocess
 import sys
@@ -43,6 +46,8 @@ HERE = pathlib.Path(__file__).resolve().parent
 PARENTS, CHILDREN, SETS, CONTENT, LONG_CONTENT = 100, 1000, 1_000_000, 16, 100
 CLIENTS, DEPTH = 8, 100
 WATCHES, ASKED, GET_DATA = 10_000, 100, 4
+# Rounds of so many seconds, after those that bench/load.c leaves out; how many of them make a round of others.
+SHORT, WARM_UP, SHORT_ROUNDS = 0.5, 0.3, 20
 # A reply's header, a length, the data and a Stat.
 ANSWER = 16 + 4 + LONG_CONTENT + 68
 EPOCH = generate.EPOCH << 32
@@ -173,9 +178,9 @@ class Tools:
             source = HERE / f"{it.name}.c"
             subprocess.run(["cc", "-O2", "-o", str(it), str(source)], check=True)
 
-    def read(self, port, clients, depth, options):
+    def read(self, port, clients, depth, options, seconds=None):
         """Returns the answers a second, and the microseconds of the middle one and of the last hundredth."""
-        numbers = (port, clients, depth, options.seconds, PARENTS, options.children)
+        numbers = (port, clients, depth, seconds or options.seconds, PARENTS, options.children)
         words = [str(self.load), "read", *(str(it) for it in numbers)]
         done = subprocess.run(words, stdin=subprocess.DEVNULL, stdout=subprocess.PIPE, encoding="ascii", check=True)
         return tuple(float(it) for it in FIGURE.match(done.stdout).groups())
@@ -222,6 +227,20 @@ class Figures:
         passes = max(found) >= least if least is not None else min(found) <= most
         bound = f"at least {form.format(least)}" if least is not None else f"at most {form.format(most)}"
         print(f"{'PASS' if passes else 'FAIL'}  {name}: {self.shown(name, form)} ({bound})", flush=True)
+        self.passes.append(passes)
+
+    def judge_middle(self, name, least):
+        """Prints the middle of many figures, how far it may be off, and its bound."""
+        found = self.found[name]
+        middle = statistics.median(found)
+        # The standard error of a median, if the figures are spread normally.
+        error = 1.25 * statistics.stdev(found) / math.sqrt(len(found))
+        passes = middle >= least
+        print(
+            f"{'PASS' if passes else 'FAIL'}  {name}: {middle:.3f} in the middle of {len(found)}, give or take"
+            f" {error:.3f} (at least {least})",
+            flush=True,
+        )
         self.passes.append(passes)
 
 
@@ -291,6 +310,13 @@ class Watcher:
         return self.answers.read(struct.unpack(">i", self.answers.read(4))[0])
 
 
+def ask(port, word):
+    """Returns the answer to a word, which is asked over a connection of its own."""
+    with socket.create_connection(("127.0.0.1", port)) as stream, stream.makefile("rb") as answer:
+        stream.sendall(word)
+        return answer.read()
+
+
 class Asking:
     """Asks a word so many times a second, until it is left."""
 
@@ -310,28 +336,26 @@ class Asking:
     def ask(self):
         due = time.perf_counter()
         while not self.ended.is_set():
-            with socket.create_connection(("127.0.0.1", self.port)) as stream:
-                stream.sendall(self.word)
-                with stream.makefile("rb") as answer:
-                    if b"zk_watch_count\t%d\n" % WATCHES not in answer.read():
-                        sys.exit("mntr doesn't count the watches")
+            if b"zk_watch_count\t%d\n" % WATCHES not in ask(self.port, self.word):
+                sys.exit("mntr doesn't count the watches")
             self.asked += 1
             due += self.pause
             time.sleep(max(0, due - time.perf_counter()))
 
 
 def words(server, tools, options, figures):
-    """Reads with many watches set, alone and while a word is asked; ratios are of one round, whose order alternates."""
+    """Reads with many watches set, alone and while a word is asked. What else the machine does changes a rate by more
+    than the words can, so there are many short rounds, whose order alternates, and the middle ratio is judged."""
     with Watcher(server.port, WATCHES):
-        for turn in range(options.rounds):
+        for turn in range(options.rounds * SHORT_ROUNDS):
             found = {}
             for is_asked in (False, True) if turn % 2 == 0 else (True, False):
                 if not is_asked:
-                    found[is_asked] = tools.read(server.port, CLIENTS, DEPTH, options)[0]
+                    found[is_asked] = tools.read(server.port, CLIENTS, DEPTH, options, SHORT)[0]
                     continue
                 with Asking(server.port, b"mntr", ASKED) as asking:
-                    found[is_asked] = tools.read(server.port, CLIENTS, DEPTH, options)[0]
-                figures.add("mntr a second", asking.asked / (options.seconds + 0.3))
+                    found[is_asked] = tools.read(server.port, CLIENTS, DEPTH, options, SHORT)[0]
+                figures.add("mntr a second", asking.asked / (SHORT + WARM_UP))
             figures.add("getDatas a second, alone", found[False])
             figures.add("getDatas a second, beside mntr", found[True])
             figures.add("beside mntr against alone", found[True] / found[False])
@@ -339,7 +363,7 @@ def words(server, tools, options, figures):
     figures.tell("getDatas a second, alone", "{:,.0f}")
     figures.tell("getDatas a second, beside mntr", "{:,.0f}")
     figures.tell("mntr a second", "{:,.0f}")
-    figures.judge("beside mntr against alone", "{:.3f}", least=0.98)
+    figures.judge_middle("beside mntr against alone", least=0.98)
 
 
 def idle(server, tools, options, figures):

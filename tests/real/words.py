@@ -48,6 +48,7 @@ def srvr(bench):
     assert ours["zk_server_state"] == "observer", ours
     assert ours["zk_znode_count"] == count, ours
     assert ours["zk_ephemerals_count"] == at_leader["zk_ephemerals_count"] == "15", (ours, at_leader)
+    assert ours["zk_global_sessions"] == at_leader["zk_global_sessions"], (ours, at_leader)
     client.stop()
     client.close()
 

@@ -24,7 +24,7 @@ STATE = (
 MNTR = (
     "version server_state peer_state uptime avg_latency max_latency min_latency packets_received packets_sent"
     " num_alive_connections outstanding_requests connection_rejected znode_count watch_count ephemerals_count"
-    " open_file_descriptor_count max_file_descriptor_count"
+    " global_sessions open_file_descriptor_count max_file_descriptor_count"
 ).split()
 
 
@@ -89,6 +89,7 @@ def test_what_is_counted_for_monitoring():
         watching(one, 300, 100)
         watching(two, 20, 20)
         assert is_figure(server, "watch_count", 320)
+        assert is_figure(server, "global_sessions", int(at_first["global_sessions"]) + 2)
         # Its transaction uses up a watch of each.
         path = b"/w0000007"
         server.leader.informs(CREATE, len(path).to_bytes(4, "big") + path + CREATE_A[6:])

@@ -1,9 +1,11 @@
 //! Numbers and bytes of settings: those at a bound, and those one beyond it.
 
 use crate::helpers::{blob, config};
-use observer_core::{Config, Settings, default_limits};
+use node_map::HashKey;
+use observer_core::{Config, Engine, Settings, default_limits};
 use settings::{Dialect, Epochs, FirstCounter, Secret, ServerId, TimeoutBounds};
 use std::alloc::Global;
+use std::hash::BuildHasher;
 use std::test::*;
 
 // Whether they are accepted, and the settings hold them. The secret has this many bytes.
@@ -69,6 +71,27 @@ fn from_settings(alloc: Global) -> Result<Config, &'static str> {
         dialect: Dialect::Zk38,
     };
     Ok(Config::from_settings(settings, default_limits()))
+}
+
+// Whether the engine finds nodes by this key.
+fn has_key(engine: Engine, key: HashKey) -> bool {
+    engine.tree().hash_key().hash_one("/a") == key.hash_one("/a")
+}
+
+// Whether a new engine with this key finds nodes by it, and one that follows a leader.
+fn have_key(alloc: Global, key: HashKey) -> Result<(bool, bool), Fail> {
+    let new = Engine::new(alloc, config(alloc)?.with_hash_key(key))?;
+    let is_in_new = has_key(new, key);
+    let primed = Engine::primed(alloc, config(alloc)?.with_hash_key(key))?;
+    Ok((is_in_new, has_key(primed, key)))
+}
+
+#[test]
+fn nodes_are_found_by_the_key_of_the_configuration(rt: HostRuntime) -> Result<(), Fail> {
+    for key in [HashKey::default(), HashKey::new(3, 5)] {
+        assert_eq!(rt; have_key(rt.alloc(), key)?, (true, true));
+    }
+    Ok(())
 }
 
 #[test]

@@ -11,7 +11,7 @@
 
 ghost use Rattle.std.specs.List.Sorted.{IsStrictlyIncreasing};
 ghost use Rattle.std.specs.Prelude.{◌≡◌, ◌≤◌, ◌+◌, ◌-◌, ◌^◌, min, [], Some, None, IfOk, OnErr};
-ghost use Rattle.port_hints.specs.Lists.{KeepsEach};
+ghost use Rattle.port_hints.specs.Lists.{KeepsEach, AddsPorts, HasMarked};
 ghost use Rattle.port_hints.specs.Slots.{port_at, GivesSlot, GivesNoSlot, put_without};
 
 use crate::waker::Waker;
@@ -265,7 +265,7 @@ impl Marks {
     // Appends the marked ports, and clears their marks. After a refused allocation the ports that weren't appended stay
     // marked.
     fn take(&self, numbers: &mut Vec<usize>) -> Result<(), NoMemory>
-        ensures { KeepsEach numbers.old.items numbers.new.items }
+        ensures { HasMarked self.now.slots numbers.old.items numbers.new.items }
     {
         for (index, group) in self.groups.iter().enumerate() {
             if group.take_any() {
@@ -284,7 +284,7 @@ impl Marks {
         group: &Group,
         numbers: &mut Vec<usize>,
     ) -> Result<(), NoMemory>
-        ensures { KeepsEach numbers.old.items numbers.new.items }
+        ensures { HasMarked self.now.slots numbers.old.items numbers.new.items }
     {
         let first = index.saturating_mul(GROUP);
         for place in 0..GROUP {
@@ -304,6 +304,7 @@ impl Marks {
     /// allocation the ports that weren't added stay marked.
     pub fn add_to(&self, numbers: &mut Vec<usize>) -> Result<(), NoMemory>
         ensures kept { KeepsEach numbers.old.items numbers.new.items }
+        ensures added { AddsPorts self.now.slots numbers.old.items numbers.new.items }
         ensures sorted { IsStrictlyIncreasing numbers.new.items }
     {
         let taken = self.take(numbers);

@@ -1,5 +1,7 @@
 //! The server, once its sockets are open.
 
+ghost use Rattle.std.specs.Prelude.{◌≡◌, IfOk};
+
 use crate::bounds::Bounds;
 use crate::hub::{Hub, Parts};
 use crate::leading::{Leading, Source};
@@ -15,6 +17,7 @@ use intake::{Desk, Waker};
 use leader_search::{Finder, find_all, search_among};
 use log::Log;
 use mio::net::TcpListener;
+use node_map::HashKey;
 use observer_core::{Config, Settings};
 use serve_bounds::{Accepting, Acceptor, Stopwatch, accept_all, open_door};
 use serve_config::{FileLines, create_record, random_hash_key, read_secret};
@@ -67,7 +70,10 @@ fn config_of(
     options: &Options<'_>,
     secret: Secret,
     first_counter: FirstCounter,
-) -> Result<Config, NoMemory> {
+    key: HashKey,
+) -> Result<Config, NoMemory>
+    ensures { IfOk result (λ config. config.hash_key ≡ key) }
+{
     let super_digest = match options.super_digest {
         Some(digest) => Some(Text::new(alloc, digest)?),
         None => None,
@@ -81,7 +87,8 @@ fn config_of(
         dialect: options.dialect,
         super_digest,
     };
-    Ok(Config::from_settings(settings, options.limits).with_threshold(WORTH_THREADS))
+    let config = Config::from_settings(settings, options.limits);
+    Ok(config.with_threshold(WORTH_THREADS).with_hash_key(key))
 }
 
 /// Where the first leader comes from.
@@ -326,9 +333,8 @@ pub(crate) fn try_serve_on<
     let file = create_record(rt, alloc, options)?;
     let mut record = Record::new(alloc, file);
     let port = listener.local_addr()?.port();
-    let config = config_of(alloc, options, secret, first_counter)?.with_hash_key(random_hash_key(
-        rt,
-    )?);
+    let key = random_hash_key(rt)?;
+    let config = config_of(alloc, options, secret, first_counter, key)?;
     record.begin(&config.settings);
     let prepared = prepare(rt, alloc, options, origin, listener)?;
     let Logging {

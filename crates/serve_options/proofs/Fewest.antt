@@ -7,16 +7,21 @@ use Rattle.serve_options.specs.declared.row.Name.{Name}
 use Rattle.serve_options.specs.declared.row.TheConstants.{NAMES}
 use Rattle.serve_options.specs.Places.{name_place}
 use Rattle.serve_options.specs.Near.{edits_to, IsNearest}
-use Rattle.serve_options.proofs.Names.{name_at, place_below}
+use Rattle.serve_options.proofs.Names.{name_at, place_at, place_below}
+
+-- More edits lead to each name before this place.
+abbrev pub IsLess : List ℕ → ℕ → ℕ → Type 0
+IsLess word i fewest = (k : ℕ) (name : Name) → k < i → fewest < edits_to word (slice_index_or NAMES k name)
 
 -- The fewest edits so far: three where no name is at most two away.
 abbrev pub IsFewest : List ℕ → Option Name → ℕ → Type 0
 IsFewest word None fewest = fewest ≡ 3
-IsFewest word (Some near) fewest = (fewest ≡ edits_to word near) × (fewest ≤ 2)
+IsFewest word (Some near) fewest =
+    (fewest ≡ edits_to word near) × (fewest ≤ 2) × IsLess word (name_place near) fewest
 
 at_most : (word : List ℕ) (found : Option Name) (fewest : ℕ) → IsFewest word found fewest → fewest ≤ 3
 at_most word None fewest is = omega arith
-at_most word (Some near) fewest is = let few : fewest ≤ 2 = is.1 in omega arith
+at_most word (Some near) fewest is = let few : fewest ≤ 2 = is.1.0 in omega arith
 
 -- What holds of each name so far and of this one holds of one name more.
 abbrev pub IsLeast : List ℕ → ℕ → ℕ → Type 0
@@ -53,12 +58,20 @@ least_else word i fewest edits new d below is same less before =
     (λ name.
     let h : edits ≡ edits_to word (slice_index_or NAMES i name) = edits_at word i edits d name below is in omega arith)
 
-pub fewest_then : (word : List ℕ) (old found : Option Name) (fewest edits new : ℕ) (near : Name)
-    → edits ≡ edits_to word near → found ≡ Some near → new ≡ edits → edits < fewest → IsFewest word old fewest
-    → IsFewest word found new
-fewest_then word old found fewest edits new near is near_is same less before =
+-- Before the place of the name that is nearer than all so far no name is as near.
+less_before : (word : List ℕ) (i fewest edits new : ℕ) (d : Name) → i < 29 → new ≡ edits → edits < fewest
+    → IsLeast word i fewest → IsLess word (name_place (slice_index_or NAMES i d)) new
+less_before word i fewest edits new d below same less before k name b =
+    let at : name_place (slice_index_or NAMES i d) ≡ i = place_at i d below in
+    let h : fewest ≤ edits_to word (slice_index_or NAMES k name) = before k name (omega arith) in omega arith
+
+pub fewest_then : (word : List ℕ) (old found : Option Name) (i fewest edits new : ℕ) (d : Name) → i < 29
+    → edits ≡ edits_to word (slice_index_or NAMES i d) → found ≡ Some (slice_index_or NAMES i d) → new ≡ edits
+    → edits < fewest → IsLeast word i fewest → IsFewest word old fewest → IsFewest word found new
+fewest_then word old found i fewest edits new d below is near_is same less least before =
     let le : fewest ≤ 3 = at_most word old fewest before in
-    subst (λ (f : Option Name). IsFewest word f new) (sym near_is) (same ∙ is, omega arith)
+    subst (λ (f : Option Name). IsFewest word f new) (sym near_is)
+    (same ∙ is, omega arith, less_before word i fewest edits new d below same less least)
 
 pub fewest_else : (word : List ℕ) (old found : Option Name) (fewest new : ℕ) → found ≡ old → new ≡ fewest
     → IsFewest word old fewest → IsFewest word found new
@@ -76,5 +89,8 @@ pub nearest_is : (word : List ℕ) (found : Option Name) (fewest : ℕ) → IsFe
     → ((name : Name) → fewest ≤ edits_to word name) → IsNearest word found
 nearest_is word None fewest is all = λ name. let h : fewest ≤ edits_to word name = all name in omega arith
 nearest_is word (Some near) fewest is all =
-    let few : edits_to word near ≤ 2 = subst (λ (n : ℕ). n ≤ 2) is.0 is.1 in
-    (few, λ name. subst (λ (n : ℕ). n ≤ edits_to word name) is.0 (all name))
+    let few : edits_to word near ≤ 2 = subst (λ (n : ℕ). n ≤ 2) is.0 is.1.0 in
+    (few, λ name. subst (λ (n : ℕ). n ≤ edits_to word name) is.0 (all name),
+    λ name before. subst (λ (n : Name). edits_to word near < edits_to word n) (name_at name)
+    (subst (λ (n : ℕ). n < edits_to word (slice_index_or NAMES (name_place name) name)) is.0
+    (is.1.1 (name_place name) name before)))

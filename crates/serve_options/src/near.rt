@@ -19,7 +19,7 @@ fn edits_to(alloc: Global, word: &str, name: Name) -> Result<usize, AllocError>
 }
 
 /// The option whose name is the nearest to a word, if it is at most two edits away: characters put in, left out or
-/// changed.
+/// changed. Of several that are as near it is the first.
 pub fn nearest(alloc: Global, word: &str) -> Result<Option<Name>, AllocError>
     ensures { IfOk result (IsNearest word.now) }
 {

@@ -1,6 +1,8 @@
-//! Tests of `serve`: over sockets, of records and of options.
+//! Tests of `serve`: over sockets, of records, of options and of the key by which nodes are found.
 #![tactic(auto)]
 
+#[cfg(test)]
+mod hash_keys;
 #[cfg(test)]
 mod loopback;
 #[cfg(test)]

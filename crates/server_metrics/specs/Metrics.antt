@@ -42,7 +42,7 @@ one_if b = if b then 1 else 0
 -- How far it has followed its leader.
 abbrev pub leader_figures : MetricsReport → List Figure
 leader_figures r =
-    record { metric = metric.Sessions; value = Whole r.sessions }
+    record { metric = metric.Sessions; value = Whole r.figures.sessions }
     ∷ record { metric = metric.Serving; value = Whole (one_if r.figures.serving) }
     ∷ record { metric = metric.LastZxid; value = Signed r.figures.zxid }
     ∷ record { metric = metric.Transactions; value = Whole r.transactions }

@@ -27,8 +27,6 @@ pub struct Times {
 #[derive(Drop)]
 pub struct MetricsReport {
     pub figures: ServerFigures,
-    /// The sessions of all clients of the ensemble.
-    pub sessions: u64,
     /// The transactions that were applied since the start.
     pub transactions: u64,
     /// The transactions that are kept since the base.

@@ -61,7 +61,7 @@ fn leader_figures(report: &MetricsReport) -> [Figure; 6]
 {
     let serving = if report.figures.serving { 1 } else { 0 };
     [
-        whole(Metric::Sessions, report.sessions),
+        whole(Metric::Sessions, report.figures.sessions),
         whole(Metric::Serving, serving),
         Figure {
             metric: Metric::LastZxid,

@@ -68,7 +68,7 @@ pub struct Tally {
     watches: AtomicU64,
     pairs: AtomicU64,
     rejected: AtomicU64,
-    pub(crate) sessions: AtomicU64,
+    sessions: AtomicU64,
     pub(crate) log: AtomicU64,
     // The descriptors of the process; none are open while the system hasn't told.
     descriptors: AtomicU64,
@@ -196,6 +196,7 @@ impl Tally {
             paths: self.paths.load(Ordering::SeqCst),
             watches: self.watches.load(Ordering::SeqCst),
             pairs: self.pairs.load(Ordering::SeqCst),
+            sessions: self.sessions.load(Ordering::SeqCst),
             uptime: self.microseconds(rt) / 1000,
             descriptors: self.descriptors(),
         }

@@ -23,7 +23,6 @@ impl Tally {
     ) -> Result<Vec<u8>, NoMemory> {
         let report = MetricsReport {
             figures: self.figures(rt),
-            sessions: self.sessions.load(Ordering::SeqCst),
             transactions: self.transactions.load(Ordering::SeqCst),
             log: self.log.load(Ordering::SeqCst),
             silence: self.silence(rt),

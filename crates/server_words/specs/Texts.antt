@@ -1,5 +1,5 @@
--- The answer to each word. The lines and their order are those of ZooKeeper 3.8; lines are left out whose figures aren't
--- known here.
+-- The answer to each word. Each line is one of ZooKeeper 3.8, which has more: lines are left out whose figures aren't
+-- known here. They are in its order, but for the lines of `mntr`, which have no order there.
 use Rattle.std.specs.Prelude.{◌≡◌, ◌==◌, ℕ, ◌+◌, ◌*◌, ◌/◌, ◌%◌, ℤ, List, [], ◌++◌, Option, Some, None, false, if◌then◌else◌, codes, decimal}
 use Rattle.std.specs.List.{flat_map}
 use Rattle.std.specs.Int.{w64, cast_unsigned}
@@ -98,7 +98,8 @@ abbrev pub mntr_tree : ServerFigures → List ℕ
 mntr_tree f =
     codes "zk_znode_count\t" ++ decimal (node_total f)
     ++ codes "\nzk_watch_count\t" ++ decimal f.watches
-    ++ codes "\nzk_ephemerals_count\t" ++ decimal f.pairs ++ codes "\n"
+    ++ codes "\nzk_ephemerals_count\t" ++ decimal f.pairs
+    ++ codes "\nzk_global_sessions\t" ++ decimal f.sessions ++ codes "\n"
 
 abbrev pub descriptor_lines : Descriptors → List ℕ
 descriptor_lines d =

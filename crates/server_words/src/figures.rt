@@ -42,6 +42,8 @@ pub struct ServerFigures {
     pub watches: u64,
     /// The pairs of a session and an ephemeral node.
     pub pairs: u64,
+    /// The sessions of all clients of the ensemble.
+    pub sessions: u64,
     /// The milliseconds since the server was started.
     pub uptime: u64,
     /// The descriptors of the process, if the system tells.

@@ -1,8 +1,8 @@
 //! The four-letter words that a server answers by itself: what has gone through it, what it holds, and how it is set.
 //!
-//! The texts have ZooKeeper's lines, in its order, as far as the figures are known here: specs/Words defines the words,
-//! and specs/Texts the text of each. They are made from a `Report`, which the caller fills in; only the words for which
-//! `lists_clients` is true use its list of clients.
+//! The texts have ZooKeeper's lines, as far as the figures are known here: specs/Words defines the words, and specs/Texts
+//! the text of each. They are made from a `Report`, which the caller fills in; only the words for which `lists_clients`
+//! is true use its list of clients.
 //!
 //! ```text
 //! let mut out = Vec::new(alloc);

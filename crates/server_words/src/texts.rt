@@ -169,8 +169,8 @@ fn put_mntr_tree(out: &mut Vec<u8>, report: &Report<'_>) -> Result<(), NoMemory>
     let nodes = figures.paths as u128 + 1;
     match write!(
         out,
-        "zk_znode_count\t{nodes}\nzk_watch_count\t{}\nzk_ephemerals_count\t{}\n",
-        figures.watches, figures.pairs
+        "zk_znode_count\t{nodes}\nzk_watch_count\t{}\nzk_ephemerals_count\t{}\nzk_global_sessions\t{}\n",
+        figures.watches, figures.pairs, figures.sessions
     ) {
         Ok(()) => Ok(()),
         Err(_) => Err(NoMemory),

@@ -12,8 +12,8 @@ loop-name-preserved c =
         least =
             least_then _ _ _ _ _ _ c.loop-name-test.true edits w.fewest-is w.if-edits-fewest.true before.least;
         found =
-            fewest_then _ c.loop-name.found _ _ _ _ _ edits w.found-is w.fewest-is w.if-edits-fewest.true
-            before.found;
+            fewest_then _ c.loop-name.found _ _ _ _ _ _ c.loop-name-test.true edits w.found-is w.fewest-is
+            w.if-edits-fewest.true before.least before.found;
       }
       | else-edits-fewest w ↦ record {
         least =
