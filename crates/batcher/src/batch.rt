@@ -10,7 +10,6 @@ use txn_codec::Txn;
 
 /// Transactions that may be applied together, in groups that have no path in common; or a single barrier, which has no
 /// group. Its model is the list of its transactions, which determines the groups.
-#[derive(Drop)]
 pub struct Batch {
     txns: Vec<Txn>,
     groups: Vec<Group>,
@@ -27,6 +26,14 @@ impl Model for Batch {
 
     ghost invariant = { λ b. (b.groups.items ≡ groups_of b.txns.items)
         × IsTrue (is_batch b.txns.items) };
+}
+
+impl Drop for Batch {
+    fn drop(self) {
+        let Batch { txns, groups } = self;
+        drop(txns);
+        drop(groups);
+    }
 }
 
 impl Batch {

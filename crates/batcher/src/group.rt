@@ -12,7 +12,6 @@ use values::{NoMemory, Str};
 
 /// Transactions of a batch that are applied one after the other, as their places in it, and the paths that they may
 /// touch.
-#[derive(Drop)]
 pub struct Group {
     members: Vec<usize>,
     paths: TextSet,
@@ -26,6 +25,14 @@ impl Model for Group {
     ghost coded = { txn_group_code };
 
     ghost view = { λ g. record { members = g.members.items; paths = g.paths } };
+}
+
+impl Drop for Group {
+    fn drop(self) {
+        let Group { members, paths } = self;
+        drop(members);
+        drop(paths);
+    }
 }
 
 // Adds a path to a set.

@@ -42,7 +42,6 @@ use txn_codec::{Body, Create, Operation, SetAcl, SetData, Txn, TxnHeader, has_er
 use values::{Listed, NoMemory, Text};
 
 /// The nodes, the ephemeral nodes of each session, and the timeout of each session.
-#[derive(Drop)]
 pub struct Tree {
     nodes: NodeMap,
     ephemerals: Ephemerals,
@@ -58,6 +57,19 @@ impl Model for Tree {
     ghost coded = { state_code node.the_row.coded };
 
     ghost view = { λ t. record { nodes = t.nodes; pairs = t.ephemerals; sessions = t.timeouts } };
+}
+
+impl Drop for Tree {
+    fn drop(self) {
+        let Tree {
+            nodes,
+            ephemerals,
+            timeouts,
+        } = self;
+        drop(nodes);
+        drop(ephemerals);
+        drop(timeouts);
+    }
 }
 
 // The names, and these paths too.
@@ -516,8 +528,14 @@ impl Tree {
         ensures ok { OnOk result (self.new ≡ with_cells cells self.old) }
         ensures err { OnErr result (HasPartOfCells cells self.old self.new) }
     {
-        self.ephemerals.add_all(alloc, &cells.ephemerals)?;
-        self.nodes.append(cells.nodes)
+        let Tree {
+            nodes,
+            ephemerals,
+            timeouts,
+        } = cells;
+        drop(timeouts);
+        self.ephemerals.add_all(alloc, &ephemerals)?;
+        self.nodes.append(nodes)
     }
 
     /// The node at the path.

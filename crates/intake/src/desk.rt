@@ -60,7 +60,6 @@ impl Default for Limits {
 }
 
 /// Feeds the messages of its ports to an engine, and the outputs to the ports. It keeps no list of what it took.
-#[derive(Drop)]
 pub struct Desk {
     alloc: Global,
     engine: Engine,
@@ -105,6 +104,33 @@ impl Model for Desk {
     } };
 
     ghost invariant = { λ d. IsOpenUnless d.closed d.engine };
+}
+
+impl Drop for Desk {
+    fn drop(self) {
+        let Desk {
+            alloc: _,
+            engine,
+            closed: _,
+            links,
+            next: _,
+            fresh,
+            later,
+            limits: _,
+            marks,
+            notes,
+            round: _,
+            is_behind: _,
+            spare,
+        } = self;
+        drop(engine);
+        drop(links);
+        drop(fresh);
+        drop(later);
+        drop(marks);
+        drop(notes);
+        drop(spare);
+    }
 }
 
 impl Desk {

@@ -21,7 +21,6 @@ use std::thread::Threads;
 use values::NoMemory;
 
 /// A desk, and the list of all messages that it took, which only grows.
-#[derive(Drop)]
 pub struct Hub {
     desk: Desk,
     taken: Vec<(usize, Message)>,
@@ -40,6 +39,15 @@ impl Model for Hub {
     ghost coded = { hub_code of_desk.the_row.coded (coded_list (coded× coded_ℕ of_message.the_row.coded)) };
 
     ghost view = { λ h. record { desk = h.desk; taken = h.taken.items; since = h.since.items } };
+}
+
+impl Drop for Hub {
+    fn drop(self) {
+        let Hub { desk, taken, since } = self;
+        drop(desk);
+        drop(taken);
+        drop(since);
+    }
 }
 
 impl Hub {

@@ -17,7 +17,6 @@ use std::collections::VecDeque;
 use values::NoMemory;
 
 /// The hub's ends of a port.
-#[derive(Drop)]
 pub struct Link {
     pub inbox: Consumer<Message>,
     pub outbox: Producer<Output>,
@@ -30,6 +29,23 @@ pub struct Link {
     pub is_finished: bool,
     /// The last turn in which its thread was noted to be told.
     pub told_in: u64,
+}
+
+impl Drop for Link {
+    fn drop(self) {
+        let Link {
+            inbox,
+            outbox,
+            kept,
+            put_bytes: _,
+            slot: _,
+            is_finished: _,
+            told_in: _,
+        } = self;
+        drop(inbox);
+        drop(outbox);
+        drop(kept);
+    }
 }
 
 impl Link {

@@ -17,7 +17,6 @@ use std::marker::Model;
 use values::NoMemory;
 
 /// The hub's ends of each open port, by number. A number without an open port is ignored.
-#[derive(Drop)]
 pub struct Links {
     map: BTreeMap<usize, Link>,
     // The ports for which outputs are kept, and some for which none are kept any more. It has capacity for all open
@@ -38,6 +37,14 @@ impl Model for Links {
     ghost view = { λ l. links_of l.map };
 
     ghost invariant = { λ l. KeepersAreAmong l.keeping.items (links_of l.map) };
+}
+
+impl Drop for Links {
+    fn drop(self) {
+        let Links { map, keeping } = self;
+        drop(map);
+        drop(keeping);
+    }
 }
 
 impl Links {

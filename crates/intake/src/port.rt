@@ -12,15 +12,25 @@ use rtrb::{Consumer, Producer, PushError};
 use std::marker::Model;
 
 /// The end of a port that sends no more.
-#[derive(Drop)]
 pub struct PortEnd {
     pub(crate) number: usize,
     pub(crate) inbox: Producer<Message>,
     pub(crate) outbox: Consumer<Output>,
 }
 
+impl Drop for PortEnd {
+    fn drop(self) {
+        let PortEnd {
+            number: _,
+            inbox,
+            outbox,
+        } = self;
+        drop(inbox);
+        drop(outbox);
+    }
+}
+
 /// A way to the hub for messages, and back for outputs. Port 0 is the leader's, and port n is connection n.
-#[derive(Drop)]
 pub struct Port {
     end: PortEnd,
     mark: Mark,
@@ -39,6 +49,19 @@ impl Model for Port {
     ghost coded = { of_end.the_row.coded };
 
     ghost view = { λ p. p.end };
+}
+
+impl Drop for Port {
+    fn drop(self) {
+        let Port {
+            end,
+            mark,
+            came: _,
+            received: _,
+        } = self;
+        drop(end);
+        drop(mark);
+    }
 }
 
 impl PortEnd {

@@ -18,7 +18,6 @@ use values::{Listed, NoMemory};
 
 /// How far a leader was followed: phase, epochs, last zxid, log and proposals; and the dialect in which leaders speak,
 /// which stays. A learner has no tree.
-#[derive(Drop)]
 pub struct Learner {
     pub(crate) dialect: Dialect,
     pub(crate) phase: Phase,
@@ -52,6 +51,24 @@ impl Model for Learner {
       proposals = l.proposals.items;
       is_complete = l.is_complete;
     } };
+}
+
+impl Drop for Learner {
+    fn drop(self) {
+        let Learner {
+            dialect: _,
+            phase: _,
+            accepted_epoch: _,
+            current_epoch: _,
+            last_zxid: _,
+            base_zxid: _,
+            log,
+            proposals,
+            is_complete: _,
+        } = self;
+        drop(log);
+        drop(proposals);
+    }
 }
 
 impl Learner {

@@ -52,7 +52,6 @@ pub enum Stop {
 }
 
 /// An observer: events in, outputs out.
-#[derive(Drop)]
 pub struct Engine {
     machine: Machine,
     // How much is done at once, and from where on it is spread over threads. No answer depends on them.
@@ -73,6 +72,18 @@ impl Model for Engine {
     ghost coded = { coded_option (machine_code of_leader.the_row.coded of_world.the_row.coded) };
 
     ghost view = { λ e. if e.closed then None else Some e.machine.after };
+}
+
+impl Drop for Engine {
+    fn drop(self) {
+        let Engine {
+            machine,
+            limits: _,
+            threshold: _,
+            closed: _,
+        } = self;
+        drop(machine);
+    }
 }
 
 // Opens connection 1, and gives it a new session with the greatest timeout. Returns the session's id.

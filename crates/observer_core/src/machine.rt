@@ -6,7 +6,6 @@ use std::marker::Model;
 use world::Stage;
 
 /// The state of a leader's stream.
-#[derive(Drop)]
 pub struct Leader {
     pub feed: PacketFeed,
     /// The image that is being loaded, separate from the tree.
@@ -25,8 +24,15 @@ impl Model for Leader {
     ghost view = { λ l. record { place = l.feed; loading = l.loader } };
 }
 
+impl Drop for Leader {
+    fn drop(self) {
+        let Leader { feed, loader } = self;
+        drop(feed);
+        drop(loader);
+    }
+}
+
 /// The whole state of an observer, and the outputs so far.
-#[derive(Drop)]
 pub struct Machine {
     /// The state of the leader's stream, while there is a leader.
     pub leader: Option<Leader>,
@@ -47,4 +53,12 @@ impl Model for Machine {
       outputs = m.stage.outputs;
       after = record { leader = m.leader; world = m.stage.after };
     } };
+}
+
+impl Drop for Machine {
+    fn drop(self) {
+        let Machine { leader, stage } = self;
+        drop(leader);
+        drop(stage);
+    }
 }

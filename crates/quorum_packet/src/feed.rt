@@ -23,7 +23,6 @@ use values::{ByteQueue, Fault, NoMemory, ReadError};
 ///
 /// A packet or part that is complete when it is first looked at is read at once. For an incomplete one, each piece is
 /// scanned only once until all of it is in, so the work is linear in the bytes of the stream, however it is cut.
-#[derive(Drop)]
 pub struct PacketFeed {
     waiting: ByteQueue,
     // `None`: the front wasn't looked at yet.
@@ -44,6 +43,18 @@ impl Model for PacketFeed {
     ghost use Rattle.quorum_packet.specs.Unseen.{MayBeUnseen};
 
     ghost invariant = { λ f. MayBeUnseen f.waiting f.unseen };
+}
+
+impl Drop for PacketFeed {
+    fn drop(self) {
+        let PacketFeed {
+            waiting,
+            unseen: _,
+            phase: _,
+            fault: _,
+        } = self;
+        drop(waiting);
+    }
 }
 
 impl PacketFeed {
@@ -115,11 +126,17 @@ impl PacketFeed {
         ensures place { IfOk result (λ x. place_with x.1 x.0 ≡ with_more_bytes self piece.now) }
         ensures unseen { IfOk result (λ x. MayBeUnseen x.0 x.1.unseen) }
     {
-        let source = Source::joined(self.waiting, piece)?;
+        let PacketFeed {
+            waiting,
+            unseen,
+            phase,
+            fault,
+        } = self;
+        let source = Source::joined(waiting, piece)?;
         let progress = Progress {
-            unseen: self.unseen,
-            phase: self.phase,
-            fault: self.fault,
+            unseen,
+            phase,
+            fault,
         };
         Ok((source, progress))
     }

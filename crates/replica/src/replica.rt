@@ -17,7 +17,6 @@ use std::marker::Model;
 use values::{Listed, NoMemory};
 
 /// A tree that follows a leader, with the base that its log starts from.
-#[derive(Drop)]
 pub struct Replica {
     pub(crate) learner: Learner,
     pub(crate) base: Tree,
@@ -34,6 +33,19 @@ impl Model for Replica {
     ghost coded = { replica_code of_learner.the_row.coded of_tree.the_row.coded };
 
     ghost view = { λ r. record { learner = r.learner; base = r.base; tree = r.tree } };
+}
+
+impl Drop for Replica {
+    fn drop(self) {
+        let Replica {
+            learner,
+            base,
+            tree,
+        } = self;
+        drop(learner);
+        drop(base);
+        drop(tree);
+    }
 }
 
 impl Replica {

@@ -89,8 +89,10 @@ pub nearest_is : (word : List ℕ) (found : Option Name) (fewest : ℕ) → IsFe
     → ((name : Name) → fewest ≤ edits_to word name) → IsNearest word found
 nearest_is word None fewest is all = λ name. let h : fewest ≤ edits_to word name = all name in omega arith
 nearest_is word (Some near) fewest is all =
-    let few : edits_to word near ≤ 2 = subst (λ (n : ℕ). n ≤ 2) is.0 is.1.0 in
-    (few, λ name. subst (λ (n : ℕ). n ≤ edits_to word name) is.0 (all name),
-    λ name before. subst (λ (n : Name). edits_to word near < edits_to word n) (name_at name)
-    (subst (λ (n : ℕ). n < edits_to word (slice_index_or NAMES (name_place name) name)) is.0
-    (is.1.1 (name_place name) name before)))
+    let few : edits_to word near ≤ 2 = subst (λ (n : ℕ). n ≤ 2) is.0 is.1.0 in (
+      few,
+      λ name. subst (λ (n : ℕ). n ≤ edits_to word name) is.0 (all name),
+      λ name before. subst (λ (n : Name). edits_to word near < edits_to word n) (name_at name)
+          (subst (λ (n : ℕ). n < edits_to word (slice_index_or NAMES (name_place name) name)) is.0
+          (is.1.1 (name_place name) name before)),
+    )

@@ -87,8 +87,36 @@ place_at i d below = placed_at NAMES 0 i d all below
   where
     all : ArePlaced 0 NAMES
     all = (
-      refl, refl, refl, refl, refl, refl, refl, refl, refl, refl, refl, refl, refl, refl, refl, refl, refl, refl, refl,
-      refl, refl, refl, refl, refl, refl, refl, refl, refl, refl, tt
+      refl,
+      refl,
+      refl,
+      refl,
+      refl,
+      refl,
+      refl,
+      refl,
+      refl,
+      refl,
+      refl,
+      refl,
+      refl,
+      refl,
+      refl,
+      refl,
+      refl,
+      refl,
+      refl,
+      refl,
+      refl,
+      refl,
+      refl,
+      refl,
+      refl,
+      refl,
+      refl,
+      refl,
+      refl,
+      tt,
     )
 
 -- A word that no name before has, and this one hasn't either.

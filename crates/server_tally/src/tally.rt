@@ -44,7 +44,6 @@ pub struct TurnFigures {
 }
 
 /// What a server tells of itself at any time.
-#[derive(Drop)]
 pub struct TallySettings {
     /// The version of ZooKeeper that it answers for, and its own.
     pub version: Text,
@@ -54,8 +53,20 @@ pub struct TallySettings {
     pub words: AnsweredWords,
 }
 
+impl Drop for TallySettings {
+    fn drop(self) {
+        let TallySettings {
+            version,
+            dialect: _,
+            settings: _,
+            words,
+        } = self;
+        drop(version);
+        drop(words);
+    }
+}
+
 /// What all threads of a server count.
-#[derive(Drop)]
 pub struct Tally {
     start: Option<Instant>,
     told: TallySettings,
@@ -80,6 +91,52 @@ pub struct Tally {
     pub(crate) turned: AtomicU64,
     pub(crate) answers: Histogram,
     pub(crate) turns: Histogram,
+}
+
+impl Drop for Tally {
+    fn drop(self) {
+        let Tally {
+            start: _,
+            told,
+            counts,
+            connections,
+            clients,
+            serving,
+            zxid,
+            paths,
+            watches,
+            pairs,
+            rejected,
+            sessions,
+            log,
+            descriptors,
+            most_descriptors,
+            transactions,
+            heard,
+            turned,
+            answers,
+            turns,
+        } = self;
+        drop(told);
+        drop(counts);
+        drop(connections);
+        drop(clients);
+        drop(serving);
+        drop(zxid);
+        drop(paths);
+        drop(watches);
+        drop(pairs);
+        drop(rejected);
+        drop(sessions);
+        drop(log);
+        drop(descriptors);
+        drop(most_descriptors);
+        drop(transactions);
+        drop(heard);
+        drop(turned);
+        drop(answers);
+        drop(turns);
+    }
 }
 
 // How many transactions lead from a zxid to a later one: within an epoch each has the next zxid, and the first of an

@@ -16,7 +16,6 @@ use std::marker::Model;
 use values::{Fault, ReadError};
 
 /// A tree that is built from the parts of an image, one by one and in their order.
-#[derive(Drop)]
 pub struct Loader {
     dialect: Dialect,
     tree: Tree,
@@ -39,6 +38,19 @@ impl Model for Loader {
       made = record { dialect = l.dialect; state = l.tree; lists = l.lists };
       ended = l.ended;
     } };
+}
+
+impl Drop for Loader {
+    fn drop(self) {
+        let Loader {
+            dialect: _,
+            tree,
+            lists,
+            ended: _,
+        } = self;
+        drop(tree);
+        drop(lists);
+    }
 }
 
 impl Loader {
@@ -123,6 +135,13 @@ impl Loader {
     pub fn finish(self) -> Tree
         ensures { result ≡ self.made.state }
     {
-        self.tree
+        let Loader {
+            dialect: _,
+            tree,
+            lists,
+            ended: _,
+        } = self;
+        drop(lists);
+        tree
     }
 }

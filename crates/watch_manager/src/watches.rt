@@ -26,7 +26,6 @@ use values::NoMemory;
 
 /// The watches of all connections. A data or child watch is set at most once, and is removed when it fires or when its
 /// connection closes. A lasting watch is removed when its connection closes. Any watch can be removed by its kind.
-#[derive(Drop)]
 pub struct Watches {
     // The data watches.
     data_watches: WatchTable,
@@ -42,6 +41,19 @@ impl Model for Watches {
     ghost coded = { watch_tables_code };
 
     ghost view = { λ w. record { data_watches = w.data_watches; child = w.child; lasting = w.lasting } };
+}
+
+impl Drop for Watches {
+    fn drop(self) {
+        let Watches {
+            data_watches,
+            child,
+            lasting,
+        } = self;
+        drop(data_watches);
+        drop(child);
+        drop(lasting);
+    }
 }
 
 impl Watches {

@@ -14,7 +14,6 @@ use values::{NoMemory, Text};
 use watch_manager::Watches;
 
 /// The open connections, the session of each, what they watch, and their requests that aren't answered yet.
-#[derive(Drop)]
 pub struct Clients {
     pub connections: Connections,
     pub sessions: Sessions,
@@ -35,6 +34,21 @@ impl Model for Clients {
       watches = c.watches;
       pending = c.pending;
     } };
+}
+
+impl Drop for Clients {
+    fn drop(self) {
+        let Clients {
+            connections,
+            sessions,
+            watches,
+            pending,
+        } = self;
+        drop(connections);
+        drop(sessions);
+        drop(watches);
+        drop(pending);
+    }
 }
 
 // The rule of passwords.

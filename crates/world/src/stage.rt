@@ -13,7 +13,6 @@ use std::marker::Model;
 use values::{Blob, NoMemory};
 
 /// A world, and what has been sent so far. A function that makes a step changes the world and appends the outputs.
-#[derive(Drop)]
 pub struct Stage {
     pub world: World,
     pub outputs: Vec<Output>,
@@ -30,6 +29,14 @@ impl Model for Stage {
     ghost coded = { step_result_code of_output.the_row.coded of_world.the_row.coded };
 
     ghost view = { λ s. record { outputs = s.outputs.items; after = s.world } };
+}
+
+impl Drop for Stage {
+    fn drop(self) {
+        let Stage { world, outputs } = self;
+        drop(world);
+        drop(outputs);
+    }
 }
 
 impl Stage {

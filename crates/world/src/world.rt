@@ -20,7 +20,6 @@ pub struct Settings {
 }
 
 /// Everything but the state of the leader's stream.
-#[derive(Drop)]
 pub struct World {
     pub settings: Settings,
     /// The tree that reads show, and how far the leader was followed.
@@ -38,4 +37,17 @@ impl Model for World {
     ghost coded = { world_code of_settings.the_row.coded of_replica.the_row.coded };
 
     ghost view = { λ w. record { settings = w.settings; replica = w.replica; clients = w.clients } };
+}
+
+impl Drop for World {
+    fn drop(self) {
+        let World {
+            settings,
+            replica,
+            clients,
+        } = self;
+        drop(settings);
+        drop(replica);
+        drop(clients);
+    }
 }
