@@ -11,6 +11,7 @@ mod log_keeping;
 mod logging;
 mod serving;
 mod silence;
+mod system;
 mod telling;
 
 pub use command::serve;
@@ -19,3 +20,4 @@ pub use serve_failures::Failure;
 pub use serve_options::{Address, Command, Options, Servers, command_of};
 pub use serve_record::{Record, put_message};
 pub use serving::serve_on;
+pub use system::System;

@@ -9,6 +9,7 @@ use crate::listening::listen_for_scrapers;
 use crate::log_keeping::LogKeeper;
 use crate::logging::{Logging, start_logging};
 use crate::silence::SilenceLimits;
+use crate::system::System;
 use crate::telling::tally_of;
 use batcher::SpreadThreshold;
 use connection_loop::ReadsAhead;
@@ -33,10 +34,10 @@ use std::io::Write;
 use std::net::{Net, TcpStream};
 use std::random::RandomSource;
 use std::rt::{Env, Files};
-use std::sync::{Arc, Wait};
-use std::thread::{JoinHandle, Threads};
+use std::sync::Arc;
+use std::thread::JoinHandle;
 use std::time::{Clock, Duration, SystemTime};
-use std::{fs, io, net, slice, thread};
+use std::{fs, io, slice, thread};
 use values::{NoMemory, Text};
 
 // Work that is less than this is done by the hub's thread: starting threads takes as long as storing some megabytes.
@@ -91,6 +92,31 @@ fn config_of(
     Ok(config.with_threshold(WORTH_THREADS).with_hash_key(key))
 }
 
+// The same, with what is drawn and read for it.
+fn config_for<R: Clock + RandomSource>(
+    rt: &R,
+    alloc: Global,
+    options: &Options<'_>,
+    secret: Secret,
+) -> Result<Config, Failure> {
+    let first_counter = first_counter(rt, options)?;
+    let key = random_hash_key(rt)?;
+    Ok(config_of(alloc, options, secret, first_counter, key)?)
+}
+
+// The record of what comes, which begins with the settings.
+fn begin_record<R: Files<File = File>>(
+    rt: &R,
+    alloc: Global,
+    options: &Options<'_>,
+    settings: &Settings,
+) -> Result<Record<File>, Failure> {
+    let file = create_record(rt, alloc, options)?;
+    let mut record = Record::new(alloc, file);
+    record.begin(settings);
+    Ok(record)
+}
+
 /// Where the first leader comes from.
 #[derive(Drop)]
 pub enum Origin {
@@ -133,18 +159,11 @@ fn begin_at(
 }
 
 // Follows the connection, or starts the thread that looks for a leader.
-fn start<
-    R: Threads
-        + Wait
-        + Net<Stream = TcpStream, Listener = net::TcpListener>
-        + Clock
-        + Copy
-        + Send
-        + Sync
-        + 'static,
-    L: Log,
-    W: Write + Drop,
->(rt: &R, hub: &mut Hub<L, W>, beginning: Beginning) -> Result<Option<JoinHandle<()>>, Failure> {
+fn start<R: System, L: Log, W: Write + Drop>(
+    rt: &R,
+    hub: &mut Hub<L, W>,
+    beginning: Beginning,
+) -> Result<Option<JoinHandle<()>>, Failure> {
     match beginning {
         Beginning::Stream(stream) => {
             hub.follow(rt, stream)?;
@@ -162,7 +181,7 @@ fn start<
 }
 
 // Starts the thread that accepts clients.
-fn start_accepting<R: Threads + Wait + Net + Clock + Copy + Send + 'static>(
+fn start_accepting<R: System>(
     rt: &R,
     acceptor: Acceptor,
     waker: Arc<Waker, Global>,
@@ -175,19 +194,12 @@ fn start_accepting<R: Threads + Wait + Net + Clock + Copy + Send + 'static>(
 }
 
 // Serves with a hub that has no connection yet.
-fn serve_hub<
-    R: Threads
-        + Wait
-        + Net<Stream = TcpStream, Listener = net::TcpListener>
-        + Clock
-        + Files
-        + Copy
-        + Send
-        + Sync
-        + 'static,
-    L: Log,
-    W: Write + Drop,
->(rt: &R, hub: &mut Hub<L, W>, beginning: Beginning, acceptor: Acceptor) -> Result<(), Failure> {
+fn serve_hub<R: System, L: Log, W: Write + Drop>(
+    rt: &R,
+    hub: &mut Hub<L, W>,
+    beginning: Beginning,
+    acceptor: Acceptor,
+) -> Result<(), Failure> {
     hub.open_leader_port()?;
     let waker = hub.waker()?;
     let finding = start(rt, hub, beginning)?;
@@ -215,18 +227,20 @@ struct Prepared {
     acceptor: Acceptor,
 }
 
-// Prepares to accept clients, and for the first leader.
+// Prepares to accept clients at the port, and for the first leader. What may be refused is done before more is owned.
 fn prepare<R: Net + Clock + Files<File = File>>(
     rt: &R,
     alloc: Global,
     options: &Options<'_>,
     origin: Origin,
     listener: TcpListener,
+    port: u16,
 ) -> Result<Prepared, Failure> {
     let mut clock = Stopwatch::start(rt);
     let timeouts = TimeoutBounds::default();
     let bounds = Bounds::new(options, timeouts);
-    let port = listener.local_addr()?.port();
+    let ahead = Arc::new(alloc, ReadsAhead::new(READS_AHEAD))?;
+    let tally = tally_of(rt, alloc, options, port, timeouts)?;
     let (source, beginning) = begin_at(alloc, options, origin, clock.now(rt))?;
     let Accepting {
         acceptor,
@@ -238,14 +252,13 @@ fn prepare<R: Net + Clock + Files<File = File>>(
         init_limit: options.init_limit,
         sync_limit: options.sync_limit,
     };
-    let tally = tally_of(rt, alloc, options, port, timeouts)?;
     let descriptors = DescriptorCount::begin(rt, alloc, &*tally);
     let parts = Parts {
         clock,
         leading: Leading::new(source, limits, options.give_up),
         log_keeper: LogKeeper::new(options.checkpoint),
         bounds,
-        ahead: Arc::new(alloc, ReadsAhead::new(READS_AHEAD))?,
+        ahead,
         tally,
         descriptors,
         from_acceptor,
@@ -260,19 +273,7 @@ fn prepare<R: Net + Clock + Files<File = File>>(
 
 // Serves with a desk of its own. The desk is dropped with the hub, at the single end of this function and nowhere else:
 // each drop of an observer is proved anew.
-fn serve_with<
-    R: Threads
-        + Wait
-        + Net<Stream = TcpStream, Listener = net::TcpListener>
-        + Clock
-        + Files
-        + Copy
-        + Send
-        + Sync
-        + 'static,
-    L: Log + Drop,
-    W: Write + Drop,
->(
+fn serve_with<R: System, L: Log + Drop, W: Write + Drop>(
     rt: &R,
     alloc: Global,
     config: Config,
@@ -303,20 +304,7 @@ pub(crate) struct Startup<'a> {
 }
 
 /// The same as `serve_on`, with the reason why it ended.
-pub(crate) fn try_serve_on<
-    R: Threads
-        + Wait
-        + Net<Stream = TcpStream, Listener = net::TcpListener>
-        + Clock
-        + Files<File = File>
-        + RandomSource
-        + Env
-        + Eprint
-        + Copy
-        + Send
-        + Sync
-        + 'static,
->(
+pub(crate) fn try_serve_on<R: System>(
     rt: &R,
     alloc: Global,
     start: Startup<'_>,
@@ -329,14 +317,10 @@ pub(crate) fn try_serve_on<
         secret,
         scraped,
     } = start;
-    let first_counter = first_counter(rt, options)?;
-    let file = create_record(rt, alloc, options)?;
-    let mut record = Record::new(alloc, file);
     let port = listener.local_addr()?.port();
-    let key = random_hash_key(rt)?;
-    let config = config_of(alloc, options, secret, first_counter, key)?;
-    record.begin(&config.settings);
-    let prepared = prepare(rt, alloc, options, origin, listener)?;
+    let config = config_for(rt, alloc, options, secret)?;
+    let record = begin_record(rt, alloc, options, &config.settings)?;
+    let prepared = prepare(rt, alloc, options, origin, listener, port)?;
     let Logging {
         journal,
         thread,
@@ -377,20 +361,13 @@ fn opened<'a, R: Net + Files<File = File> + Env>(
 /// secret can't be taken, 3 if something couldn't be opened or recorded, 4 if an allocation was refused, 7 if what the
 /// leader sent was refused. By then each connection is closed, and each thread that it started has ended, but for the
 /// one that writes the log where standard error hasn't been read for 500 milliseconds.
-pub fn serve_on<
-    R: Threads
-        + Wait
-        + Net<Stream = TcpStream, Listener = net::TcpListener>
-        + Clock
-        + Files<File = File>
-        + RandomSource
-        + Env
-        + Eprint
-        + Copy
-        + Send
-        + Sync
-        + 'static,
->(rt: &R, alloc: Global, options: &Options<'_>, leader: TcpStream, listener: TcpListener) -> u8 {
+pub fn serve_on<R: System>(
+    rt: &R,
+    alloc: Global,
+    options: &Options<'_>,
+    leader: TcpStream,
+    listener: TcpListener,
+) -> u8 {
     let served = match opened(rt, alloc, options) {
         Ok(start) => try_serve_on(rt, alloc, start, Origin::Stream(leader), listener),
         Err(failure) => Err(failure),

@@ -21,7 +21,7 @@ IsFewest word (Some near) fewest =
 
 at_most : (word : List ℕ) (found : Option Name) (fewest : ℕ) → IsFewest word found fewest → fewest ≤ 3
 at_most word None fewest is = omega arith
-at_most word (Some near) fewest is = let few : fewest ≤ 2 = is.1.0 in omega arith
+at_most word (Some near) fewest is = let few : fewest ≤ 2 = is.1 in omega arith
 
 -- What holds of each name so far and of this one holds of one name more.
 abbrev pub IsLeast : List ℕ → ℕ → ℕ → Type 0
@@ -89,10 +89,10 @@ pub nearest_is : (word : List ℕ) (found : Option Name) (fewest : ℕ) → IsFe
     → ((name : Name) → fewest ≤ edits_to word name) → IsNearest word found
 nearest_is word None fewest is all = λ name. let h : fewest ≤ edits_to word name = all name in omega arith
 nearest_is word (Some near) fewest is all =
-    let few : edits_to word near ≤ 2 = subst (λ (n : ℕ). n ≤ 2) is.0 is.1.0 in (
+    let few : edits_to word near ≤ 2 = subst (λ (n : ℕ). n ≤ 2) is.0 is.1 in (
       few,
       λ name. subst (λ (n : ℕ). n ≤ edits_to word name) is.0 (all name),
       λ name before. subst (λ (n : Name). edits_to word near < edits_to word n) (name_at name)
           (subst (λ (n : ℕ). n < edits_to word (slice_index_or NAMES (name_place name) name)) is.0
-          (is.1.1 (name_place name) name before)),
+          (is.2 (name_place name) name before)),
     )

@@ -1,5 +1,5 @@
 -- Each option is in the list of all.
-use Rattle.std.proofs.Common.{◌≡◌, ◌≢◌, ◌<◌, ◌+◌, ℕ, suc, List, [], ◌∷◌, length, ◌⊎◌, inl, inr, arith, refl, lit<, sym, subst, ◌∙◌}
+use Rattle.std.proofs.Common.{◌≡◌, ◌≢◌, ◌<◌, ◌+◌, ℕ, zero, suc, List, [], ◌∷◌, length, ◌⊎◌, inl, inr, arith, refl, lit<, sym, subst, ◌∙◌}
 use Rattle.std.specs.Prelude.{slice_index_or}
 use Rattle.std.proofs.Math.Nat.{eq-or-lt_of_le}
 use Rattle.serve_options.specs.declared.row.Name.{Name}
@@ -77,47 +77,19 @@ ArePlaced first (name ∷ names) = (name_place name ≡ first) × ArePlaced (suc
 
 placed_at : (names : List Name) (first i : ℕ) (d : Name) → ArePlaced first names → i < length names
     → name_place (slice_index_or names i d) ≡ first + i
-placed_at [] first i d are below = absurd (lt_zero below)
-placed_at (name ∷ names) first 0 d are below = are.0 ∙ omega arith
+placed_at [] first i d are below = let none : i < 0 = below in omega arith
+placed_at (name ∷ names) first zero d are below = are.0 ∙ omega arith
 placed_at (name ∷ names) first (suc i) d are below =
     placed_at names (suc first) i d are.1 (omega arith) ∙ omega arith
 
 pub place_at : (i : ℕ) (d : Name) → i < 29 → name_place (slice_index_or NAMES i d) ≡ i
-place_at i d below = placed_at NAMES 0 i d all below
+place_at i d below = placed_at NAMES 0 i d all below ∙ omega arith
   where
     all : ArePlaced 0 NAMES
-    all = (
-      refl,
-      refl,
-      refl,
-      refl,
-      refl,
-      refl,
-      refl,
-      refl,
-      refl,
-      refl,
-      refl,
-      refl,
-      refl,
-      refl,
-      refl,
-      refl,
-      refl,
-      refl,
-      refl,
-      refl,
-      refl,
-      refl,
-      refl,
-      refl,
-      refl,
-      refl,
-      refl,
-      refl,
-      refl,
-      tt,
-    )
+    all =
+      (refl, (refl, (refl, (refl, (refl, (refl, (refl, (refl, (refl, (refl, (refl, (refl, (refl, (refl,
+      (refl, (refl, (refl, (refl, (refl, (refl, (refl, (refl, (refl, (refl, (refl, (refl, (refl, (refl,
+      (refl, tt)))))))))))))))))))))))))))))
 
 -- A word that no name before has, and this one hasn't either.
 pub one_more : (names : List Name) (word : List ℕ) (i : ℕ)
