@@ -11,7 +11,7 @@ What it refuses:
   with the one meaning that it has in all of them;
 - an entry of these two lists whose crates are not those that define the name;
 - a crate of more than 100 functions, or of more than 125 with those that it derives, and a source file of more than 800
-  lines.
+  lines. A `drop` by hand counts no more than a derived one.
 
 Each crate counts as one, and so does the glossary. The last line is `N passed, M failed`; the exit status is 0 where
 nothing failed.
@@ -35,7 +35,7 @@ DECLARATION = re.compile(
 )
 NO_NAMES = {"use", "module", "--", "}", ")", "pub"}
 ONE_WORD = re.compile(r"[a-z]+")
-FUNCTION = re.compile(r"^\s*(?:pub(?:\([a-z]+\))?\s+)?(?:const\s+)?(?:unsafe\s+)?fn\s+\w+", re.M)
+FUNCTION = re.compile(r"^\s*(?:pub(?:\([a-z]+\))?\s+)?(?:const\s+)?(?:unsafe\s+)?fn\s+(?!drop\b)\w+", re.M)
 DERIVES = re.compile(r"^\s*#\[derive\(([^)]*)\)\]", re.M)
 # These derive no function that runs.
 MARKERS = {"Copy", "Drop", "Eq", "Send", "Sync"}

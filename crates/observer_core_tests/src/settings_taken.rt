@@ -49,16 +49,6 @@ fn says(
         && settings.secret.as_slice() == secret
 }
 
-// The dialect of a configuration, and that after another one was set.
-fn dialects(alloc: Global) -> Result<(Dialect, Dialect), &'static str> {
-    let made = Config::new(3, 0, 0, 4000, 40_000, blob(alloc, b"")?, default_limits());
-    let Ok(config) = made else {
-        return Err("bounds");
-    };
-    let first = config.settings.dialect;
-    Ok((first, config.with_dialect(Dialect::Zk38).settings.dialect))
-}
-
 // The settings of values that are within their bounds.
 fn from_settings(alloc: Global) -> Result<Config, &'static str> {
     let settings = Settings {
@@ -73,23 +63,19 @@ fn from_settings(alloc: Global) -> Result<Config, &'static str> {
     Ok(Config::from_settings(settings, default_limits()))
 }
 
-// Whether the engine finds nodes by this key.
-fn has_key(engine: Engine, key: HashKey) -> bool {
-    engine.tree().hash_key().hash_one("/a") == key.hash_one("/a")
-}
-
-// Whether a new engine with this key finds nodes by it, and one that follows a leader.
-fn have_key(alloc: Global, key: HashKey) -> Result<(bool, bool), Fail> {
+// The hashes of a path in a new engine with this key, and in one that follows a leader.
+fn hashes(alloc: Global, key: HashKey) -> Result<(u64, u64), Fail> {
     let new = Engine::new(alloc, config(alloc)?.with_hash_key(key))?;
-    let is_in_new = has_key(new, key);
+    let hash = new.tree().hash_key().hash_one("/a");
     let primed = Engine::primed(alloc, config(alloc)?.with_hash_key(key))?;
-    Ok((is_in_new, has_key(primed, key)))
+    Ok((hash, primed.tree().hash_key().hash_one("/a")))
 }
 
 #[test]
 fn nodes_are_found_by_the_key_of_the_configuration(rt: HostRuntime) -> Result<(), Fail> {
     for key in [HashKey::default(), HashKey::new(3, 5)] {
-        assert_eq!(rt; have_key(rt.alloc(), key)?, (true, true));
+        let hash = key.hash_one("/a");
+        assert_eq!(rt; hashes(rt.alloc(), key)?, (hash, hash));
     }
     Ok(())
 }
@@ -100,7 +86,9 @@ fn within_bounds(rt: HostRuntime) -> Result<(), Fail> {
     assert!(rt; takes(alloc, 1, (0, 0), (1, 1), 0)?);
     assert!(rt; takes(alloc, 255, (i32::MAX, 0), (4000, 40_000), 64)?);
     assert!(rt; takes(alloc, 3, (0, i32::MAX), (1, i32::MAX), 1)?);
-    assert!(rt; dialects(alloc)? == (Dialect::Zk34, Dialect::Zk38));
+    let config = config(alloc)?;
+    assert!(rt; config.settings.dialect == Dialect::Zk34);
+    assert!(rt; config.with_dialect(Dialect::Zk38).settings.dialect == Dialect::Zk38);
     let settings = from_settings(alloc)?.settings;
     assert!(rt; settings.dialect == Dialect::Zk38);
     assert!(rt; says(&settings, 255, (2, 1), (5, 6), b"key"));

@@ -21,7 +21,7 @@ use mio::net::TcpListener;
 use node_map::HashKey;
 use observer_core::{Config, Settings};
 use serve_bounds::{Accepting, Acceptor, Stopwatch, accept_all, open_door};
-use serve_config::{FileLines, create_record, random_hash_key, read_secret};
+use serve_config::{FileLines, create_record, first_counter, random_hash_key, read_secret};
 use serve_failures::{Failure, servers_of};
 use serve_journal::Journal;
 use serve_metrics::{DescriptorCount, STATUS, start_scraping};
@@ -36,8 +36,8 @@ use std::random::RandomSource;
 use std::rt::{Env, Files};
 use std::sync::Arc;
 use std::thread::JoinHandle;
-use std::time::{Clock, Duration, SystemTime};
-use std::{fs, io, slice, thread};
+use std::time::Clock;
+use std::{fs, slice, thread};
 use values::{NoMemory, Text};
 
 // Work that is less than this is done by the hub's thread: starting threads takes as long as storing some megabytes.
@@ -51,19 +51,6 @@ const WORTH_THREADS: SpreadThreshold = SpreadThreshold {
 // How many reads of all clients are sent on before the leader has answered what came before them. One packet of the
 // leader releases their answers at once.
 const READS_AHEAD: usize = 64;
-
-// The counter that session ids begin after: the one that is given, or that of the clock, so that the ids of two runs
-// differ.
-fn first_counter<R: Clock>(rt: &R, options: &Options<'_>) -> io::Result<FirstCounter> {
-    if let Some(counter) = options.first_counter {
-        return Ok(counter);
-    }
-    let since_1970 = SystemTime::now(rt)?
-        .duration_since(SystemTime::UNIX_EPOCH)
-        .unwrap_or(Duration::ZERO);
-    let milliseconds = u64::try_from(since_1970.as_millis()).unwrap_or(0);
-    Ok(FirstCounter::from_clock(milliseconds))
-}
 
 // The observer's settings. Those without an option have the defaults of a script.
 fn config_of(
@@ -102,19 +89,6 @@ fn config_for<R: Clock + RandomSource>(
     let first_counter = first_counter(rt, options)?;
     let key = random_hash_key(rt)?;
     Ok(config_of(alloc, options, secret, first_counter, key)?)
-}
-
-// The record of what comes, which begins with the settings.
-fn begin_record<R: Files<File = File>>(
-    rt: &R,
-    alloc: Global,
-    options: &Options<'_>,
-    settings: &Settings,
-) -> Result<Record<File>, Failure> {
-    let file = create_record(rt, alloc, options)?;
-    let mut record = Record::new(alloc, file);
-    record.begin(settings);
-    Ok(record)
 }
 
 /// Where the first leader comes from.
@@ -319,7 +293,8 @@ pub(crate) fn try_serve_on<R: System>(
     } = start;
     let port = listener.local_addr()?.port();
     let config = config_for(rt, alloc, options, secret)?;
-    let record = begin_record(rt, alloc, options, &config.settings)?;
+    let mut record = Record::new(alloc, create_record(rt, alloc, options)?);
+    record.begin(&config.settings);
     let prepared = prepare(rt, alloc, options, origin, listener, port)?;
     let Logging {
         journal,
