@@ -12,13 +12,13 @@
 //! ```
 #![tactic(auto)]
 
-mod first_counter;
+mod counter;
 mod hash_key;
 mod read;
 mod record;
 mod secret;
 
-pub use first_counter::first_counter;
+pub use counter::first_counter;
 pub use hash_key::random_hash_key;
 pub use read::{FileLines, ReadFile, read_file};
 pub use record::create_record;
