@@ -3,15 +3,20 @@
 use crate::listening::{listen, listen_for_scrapers};
 use crate::logging::tell;
 use crate::serving::{Origin, Startup, try_serve_on};
-use crate::system::System;
 use following::Finding;
 use serve_config::{FileLines, ReadFile, read_file, read_secret};
 use serve_failures::{Failure, Step};
 use serve_journal::print_check;
 use serve_options::{Address, Command, Options, Servers, VERSION_LINES, command_of, help};
 use std::alloc::Global;
-use std::io;
+use std::fs::File;
 use std::net::{Net, SocketAddr, TcpStream, ToSocketAddrs};
+use std::random::RandomSource;
+use std::rt::{Env, Files};
+use std::sync::Wait;
+use std::thread::Threads;
+use std::time::Clock;
+use std::{io, net};
 
 // Connects to an address of the leader without delay (TCP_NODELAY): the observer's packets are small, and none is to wait
 // for an acknowledgement.
@@ -42,12 +47,21 @@ fn reach<R: Net<Stream = TcpStream>>(
 }
 
 // Connects to the leader, or finds whom to search; opens the sockets, prints the port for clients, and serves.
-fn run<R: System>(
-    rt: &R,
-    alloc: Global,
-    options: &Options<'_>,
-    lines: FileLines<'_>,
-) -> Result<(), Failure> {
+fn run<
+    R: Threads
+        + Wait
+        + Net<Stream = TcpStream, Listener = net::TcpListener>
+        + Clock
+        + Files<File = File>
+        + RandomSource
+        + Env
+        + Print
+        + Eprint
+        + Copy
+        + Send
+        + Sync
+        + 'static,
+>(rt: &R, alloc: Global, options: &Options<'_>, lines: FileLines<'_>) -> Result<(), Failure> {
     let secret = read_secret(rt, alloc, options)?;
     let origin = match &options.servers {
         Servers::Leader(leader) => Origin::Stream(reach(rt, alloc, leader)?),
@@ -70,7 +84,22 @@ fn run<R: System>(
 }
 
 // Serves by a file and the words, or prints what that would be.
-fn run_configured<'a, R: System>(
+fn run_configured<
+    'a,
+    R: Threads
+        + Wait
+        + Net<Stream = TcpStream, Listener = net::TcpListener>
+        + Clock
+        + Files<File = File>
+        + RandomSource
+        + Env
+        + Print
+        + Eprint
+        + Copy
+        + Send
+        + Sync
+        + 'static,
+>(
     rt: &R,
     alloc: Global,
     words: &'a [String],
@@ -89,12 +118,21 @@ fn run_configured<'a, R: System>(
 }
 
 // Prints what a command asks for, or serves.
-fn obey<R: System>(
-    rt: &R,
-    alloc: Global,
-    words: &[String],
-    command: &Command<'_>,
-) -> Result<(), Failure> {
+fn obey<
+    R: Threads
+        + Wait
+        + Net<Stream = TcpStream, Listener = net::TcpListener>
+        + Clock
+        + Files<File = File>
+        + RandomSource
+        + Env
+        + Print
+        + Eprint
+        + Copy
+        + Send
+        + Sync
+        + 'static,
+>(rt: &R, alloc: Global, words: &[String], command: &Command<'_>) -> Result<(), Failure> {
     match command {
         Command::Serve(options) => run(rt, alloc, options, FileLines::none()),
         Command::Configured(file) => {
@@ -114,7 +152,21 @@ fn obey<R: System>(
 }
 
 /// Serves as the words after `serve` ask, and returns the exit status. If it isn't 0, the reason is on standard error.
-pub fn serve<R: System>(rt: &R, alloc: Global, words: &[String]) -> u8 {
+pub fn serve<
+    R: Threads
+        + Wait
+        + Net<Stream = TcpStream, Listener = net::TcpListener>
+        + Clock
+        + Files<File = File>
+        + RandomSource
+        + Env
+        + Print
+        + Eprint
+        + Copy
+        + Send
+        + Sync
+        + 'static,
+>(rt: &R, alloc: Global, words: &[String]) -> u8 {
     let obeyed = match command_of(alloc, words) {
         Ok(command) => obey(rt, alloc, words, &command),
         Err(error) => Err(Failure::of_options(alloc, &error)),

@@ -1,6 +1,5 @@
 //! The threads of connections.
 
-use crate::system::System;
 use connection_loop::{LeaderGone, ReadsAhead, SessionLimits, leader_loop};
 use intake::{Port, PortEnd};
 use mio::net::TcpStream;
@@ -8,9 +7,10 @@ use serve_clients::client_loop;
 use server_tally::ClientTally;
 use session_streams::{Bell, Sides, split};
 use std::alloc::Global;
-use std::net::IpAddr;
-use std::sync::{Arc, Mutex};
-use std::thread::{Builder, JoinHandle};
+use std::net::{IpAddr, Net};
+use std::sync::{Arc, Mutex, Wait};
+use std::thread::{Builder, JoinHandle, Threads};
+use std::time::Clock;
 use std::{io, net};
 use values::Text;
 
@@ -38,7 +38,7 @@ pub struct Leader {
 pub type Handed = Arc<Mutex<Option<Port>>, Global>;
 
 /// Starts the thread of the leader's connection.
-pub(crate) fn start_leader<R: System>(
+pub(crate) fn start_leader<R: Threads + Wait + Net + Clock + Copy + Send + 'static>(
     rt: &R,
     alloc: Global,
     stream: net::TcpStream,
@@ -63,7 +63,7 @@ pub(crate) fn start_leader<R: System>(
 }
 
 /// Starts the thread of a client's connection. `text` is its address as a text.
-pub(crate) fn start_client<R: System>(
+pub(crate) fn start_client<R: Threads + Wait + Net + Clock + Copy + Send + 'static>(
     rt: &R,
     alloc: Global,
     sides: Sides,

@@ -4,11 +4,10 @@ use crate::bounds::Bounds;
 use crate::connections::{Client, Handed, start_client};
 use crate::leading::Leading;
 use crate::log_keeping::LogKeeper;
-use crate::system::System;
 use crate::telling::peer_text;
 use apply_workers::OpenGate;
 use connection_loop::ReadsAhead;
-use intake::{Budget, Desk, Unlimited, Waker as HubWaker};
+use intake::{Budget, Desk, Port, Unlimited, Waker as HubWaker};
 use log::Log;
 use mio::net::TcpStream;
 use rtrb::Consumer;
@@ -23,7 +22,8 @@ use std::alloc::Global;
 use std::collections::BTreeMap;
 use std::collections::btree_map::Entry;
 use std::io::Write;
-use std::net::SocketAddr;
+use std::net::{Net, SocketAddr};
+use std::rt::Files;
 use std::sync::{Arc, Mutex, Wait};
 use std::thread::Threads;
 use std::time::{Clock, Duration};
@@ -136,7 +136,11 @@ impl<L: Log, W: Write + Drop> Hub<L, W> {
         self.desk.waker()
     }
 
-    fn add_client<R: System>(&mut self, rt: &R, accepted: Accepted) -> Result<(), Failure> {
+    fn add_client<R: Threads + Wait + Net + Clock + Copy + Send + 'static>(
+        &mut self,
+        rt: &R,
+        accepted: Accepted,
+    ) -> Result<(), Failure> {
         let Accepted { stream, address } = accepted;
         let sides = split(rt, self.alloc, TcpStream::from_std(stream))?;
         let handed = Arc::new(self.alloc, Mutex::new(None))?;
@@ -163,7 +167,7 @@ impl<L: Log, W: Write + Drop> Hub<L, W> {
     }
 
     // Starts a client's thread, and stores it under its number.
-    fn run_client<R: System>(
+    fn run_client<R: Threads + Wait + Net + Clock + Copy + Send + 'static>(
         &mut self,
         rt: &R,
         number: usize,
@@ -191,7 +195,10 @@ impl<L: Log, W: Write + Drop> Hub<L, W> {
     }
 
     // Serves the connections that were accepted since the last call, and returns whether there was one.
-    fn take_new<R: System>(&mut self, rt: &R) -> bool {
+    fn take_new<R: Threads + Wait + Net + Clock + Copy + Send + 'static>(
+        &mut self,
+        rt: &R,
+    ) -> bool {
         let mut found = false;
         for _ in 0..NEW_AT_ONCE {
             let Ok(accepted) = self.from_acceptor.pop() else {
@@ -306,7 +313,10 @@ impl<L: Log, W: Write + Drop> Hub<L, W> {
     }
 
     /// Serves until the last leader is gone, or until it is to end for another reason.
-    pub fn serve<R: System>(&mut self, rt: &R) -> Result<(), Failure> {
+    pub fn serve<R: Threads + Wait + Net + Clock + Files + Copy + Send + Sync + 'static>(
+        &mut self,
+        rt: &R,
+    ) -> Result<(), Failure> {
         for _ in rt.forever() {
             let found = self.take_new(rt);
             self.turn(rt)?;

@@ -3,7 +3,6 @@
 use crate::connections::{Handed, Leader, start_leader};
 use crate::hub::{CAPACITY, Hub};
 use crate::silence::{SECOND_LOOK, Silence, SilenceLimits};
-use crate::system::System;
 use connection_loop::LeaderGone;
 use following::{Judgement, Outcome, Verdict};
 use intake::{Message, Port};
@@ -12,8 +11,9 @@ use learner_sync::Phase;
 use log::Log;
 use observer_core::Output;
 use serve_failures::{Failure, Reason, Server};
+use std::alloc::Global;
 use std::io::Write;
-use std::net::TcpStream;
+use std::net::{Net, TcpStream};
 use std::sync::{Arc, Mutex, Wait};
 use std::thread::Threads;
 use std::time::Clock;
@@ -252,7 +252,11 @@ impl<L: Log, W: Write + Drop> Hub<L, W> {
     }
 
     /// Follows the leader at the other end of the stream, by port 0. If its thread can't be started the port rests.
-    pub fn follow<R: System>(&mut self, rt: &R, stream: TcpStream) -> Result<(), Failure> {
+    pub fn follow<R: Threads + Wait + Net + Clock + Copy + Send + 'static>(
+        &mut self,
+        rt: &R,
+        stream: TcpStream,
+    ) -> Result<(), Failure> {
         let handed: Handed = Arc::new(self.alloc, Mutex::new(self.leading.resting.take()))?;
         let theirs = Arc::try_clone(&handed)?;
         match start_leader(rt, self.alloc, stream, theirs) {
@@ -297,7 +301,12 @@ impl<L: Log, W: Write + Drop> Hub<L, W> {
     }
 
     // Follows the server that was found, if a thread can be started for it.
-    fn follow_found<R: System>(&mut self, rt: &R, stream: TcpStream, now: u64) {
+    fn follow_found<R: Threads + Wait + Net + Clock + Copy + Send + Sync + 'static>(
+        &mut self,
+        rt: &R,
+        stream: TcpStream,
+        now: u64,
+    ) {
         if let Err(error) = self.follow(rt, stream) {
             self.journal.leader_refused(error);
             if let Source::Search(search) = &mut self.leading.source {
@@ -317,7 +326,11 @@ impl<L: Log, W: Write + Drop> Hub<L, W> {
     }
 
     // Goes on with the search for a leader. Returns for how many milliseconds there is nothing to do.
-    fn seek<R: System>(&mut self, rt: &R, now: u64) -> u64 {
+    fn seek<R: Threads + Wait + Net + Clock + Copy + Send + Sync + 'static>(
+        &mut self,
+        rt: &R,
+        now: u64,
+    ) -> u64 {
         match self.leading.advance(now) {
             Some(stream) => {
                 self.follow_found(rt, stream, now);
@@ -395,7 +408,10 @@ impl<L: Log, W: Write + Drop> Hub<L, W> {
     }
 
     /// Looks after the leader. Returns for how many milliseconds there is nothing to do.
-    pub(crate) fn attend_leader<R: System>(&mut self, rt: &R) -> Result<u64, Failure> {
+    pub(crate) fn attend_leader<R: Threads + Wait + Net + Clock + Copy + Send + Sync + 'static>(
+        &mut self,
+        rt: &R,
+    ) -> Result<u64, Failure> {
         self.judge_gone(rt)?;
         let now = self.clock.now(rt);
         let rest = if self.leading.is_following() {

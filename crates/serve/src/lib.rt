@@ -11,7 +11,6 @@ mod log_keeping;
 mod logging;
 mod serving;
 mod silence;
-mod system;
 mod telling;
 
 pub use command::serve;
@@ -20,4 +19,3 @@ pub use serve_failures::Failure;
 pub use serve_options::{Address, Command, Options, Servers, command_of};
 pub use serve_record::{Record, put_message};
 pub use serving::serve_on;
-pub use system::System;

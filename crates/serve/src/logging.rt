@@ -1,12 +1,12 @@
 //! The log of a server, and its last words, which nobody need read for the server to end.
 
-use crate::system::System;
 use log::Logged;
 use serve_failures::Failure;
 use serve_journal::Journal;
 use serve_log::{Done, LogEnd, OpenLog, Sink, has_journal, join_in_time, open_log, write_log};
 use serve_options::Options;
 use std::alloc::Global;
+use std::rt::Env;
 use std::sync::{Arc, Wait};
 use std::thread;
 use std::thread::{Builder, JoinHandle, SpawnError, Threads};
@@ -24,11 +24,9 @@ pub struct Logging<R> {
 }
 
 /// Opens the log, and starts the thread that writes it.
-pub(crate) fn start_logging<R: System>(
-    rt: &R,
-    alloc: Global,
-    options: &Options<'_>,
-) -> Result<Logging<R>, Failure> {
+pub(crate) fn start_logging<
+    R: Threads + Wait + Clock + Env + Eprint + Copy + Send + Sync + 'static,
+>(rt: &R, alloc: Global, options: &Options<'_>) -> Result<Logging<R>, Failure> {
     let OpenLog {
         logger,
         writer,

@@ -9,7 +9,6 @@ use crate::listening::listen_for_scrapers;
 use crate::log_keeping::LogKeeper;
 use crate::logging::{Logging, start_logging};
 use crate::silence::SilenceLimits;
-use crate::system::System;
 use crate::telling::tally_of;
 use batcher::SpreadThreshold;
 use connection_loop::ReadsAhead;
@@ -34,10 +33,10 @@ use std::io::Write;
 use std::net::{Net, TcpStream};
 use std::random::RandomSource;
 use std::rt::{Env, Files};
-use std::sync::Arc;
-use std::thread::JoinHandle;
+use std::sync::{Arc, Wait};
+use std::thread::{JoinHandle, Threads};
 use std::time::Clock;
-use std::{fs, slice, thread};
+use std::{fs, net, slice, thread};
 use values::{NoMemory, Text};
 
 // Work that is less than this is done by the hub's thread: starting threads takes as long as storing some megabytes.
@@ -133,11 +132,18 @@ fn begin_at(
 }
 
 // Follows the connection, or starts the thread that looks for a leader.
-fn start<R: System, L: Log, W: Write + Drop>(
-    rt: &R,
-    hub: &mut Hub<L, W>,
-    beginning: Beginning,
-) -> Result<Option<JoinHandle<()>>, Failure> {
+fn start<
+    R: Threads
+        + Wait
+        + Net<Stream = TcpStream, Listener = net::TcpListener>
+        + Clock
+        + Copy
+        + Send
+        + Sync
+        + 'static,
+    L: Log,
+    W: Write + Drop,
+>(rt: &R, hub: &mut Hub<L, W>, beginning: Beginning) -> Result<Option<JoinHandle<()>>, Failure> {
     match beginning {
         Beginning::Stream(stream) => {
             hub.follow(rt, stream)?;
@@ -155,7 +161,7 @@ fn start<R: System, L: Log, W: Write + Drop>(
 }
 
 // Starts the thread that accepts clients.
-fn start_accepting<R: System>(
+fn start_accepting<R: Threads + Wait + Net + Clock + Copy + Send + 'static>(
     rt: &R,
     acceptor: Acceptor,
     waker: Arc<Waker, Global>,
@@ -168,12 +174,19 @@ fn start_accepting<R: System>(
 }
 
 // Serves with a hub that has no connection yet.
-fn serve_hub<R: System, L: Log, W: Write + Drop>(
-    rt: &R,
-    hub: &mut Hub<L, W>,
-    beginning: Beginning,
-    acceptor: Acceptor,
-) -> Result<(), Failure> {
+fn serve_hub<
+    R: Threads
+        + Wait
+        + Net<Stream = TcpStream, Listener = net::TcpListener>
+        + Clock
+        + Files
+        + Copy
+        + Send
+        + Sync
+        + 'static,
+    L: Log,
+    W: Write + Drop,
+>(rt: &R, hub: &mut Hub<L, W>, beginning: Beginning, acceptor: Acceptor) -> Result<(), Failure> {
     hub.open_leader_port()?;
     let waker = hub.waker()?;
     let finding = start(rt, hub, beginning)?;
@@ -247,7 +260,19 @@ fn prepare<R: Net + Clock + Files<File = File>>(
 
 // Serves with a desk of its own. The desk is dropped with the hub, at the single end of this function and nowhere else:
 // each drop of an observer is proved anew.
-fn serve_with<R: System, L: Log + Drop, W: Write + Drop>(
+fn serve_with<
+    R: Threads
+        + Wait
+        + Net<Stream = TcpStream, Listener = net::TcpListener>
+        + Clock
+        + Files
+        + Copy
+        + Send
+        + Sync
+        + 'static,
+    L: Log + Drop,
+    W: Write + Drop,
+>(
     rt: &R,
     alloc: Global,
     config: Config,
@@ -278,7 +303,20 @@ pub(crate) struct Startup<'a> {
 }
 
 /// The same as `serve_on`, with the reason why it ended.
-pub(crate) fn try_serve_on<R: System>(
+pub(crate) fn try_serve_on<
+    R: Threads
+        + Wait
+        + Net<Stream = TcpStream, Listener = net::TcpListener>
+        + Clock
+        + Files<File = File>
+        + RandomSource
+        + Env
+        + Eprint
+        + Copy
+        + Send
+        + Sync
+        + 'static,
+>(
     rt: &R,
     alloc: Global,
     start: Startup<'_>,
@@ -336,13 +374,20 @@ fn opened<'a, R: Net + Files<File = File> + Env>(
 /// secret can't be taken, 3 if something couldn't be opened or recorded, 4 if an allocation was refused, 7 if what the
 /// leader sent was refused. By then each connection is closed, and each thread that it started has ended, but for the
 /// one that writes the log where standard error hasn't been read for 500 milliseconds.
-pub fn serve_on<R: System>(
-    rt: &R,
-    alloc: Global,
-    options: &Options<'_>,
-    leader: TcpStream,
-    listener: TcpListener,
-) -> u8 {
+pub fn serve_on<
+    R: Threads
+        + Wait
+        + Net<Stream = TcpStream, Listener = net::TcpListener>
+        + Clock
+        + Files<File = File>
+        + RandomSource
+        + Env
+        + Eprint
+        + Copy
+        + Send
+        + Sync
+        + 'static,
+>(rt: &R, alloc: Global, options: &Options<'_>, leader: TcpStream, listener: TcpListener) -> u8 {
     let served = match opened(rt, alloc, options) {
         Ok(start) => try_serve_on(rt, alloc, start, Origin::Stream(leader), listener),
         Err(failure) => Err(failure),
