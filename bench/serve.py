@@ -18,8 +18,8 @@ does nothing else. Clients are bench/load.c; both are compiled by `cc` into a fo
 
 What is compared takes turns in one run, several times. Other work on the machine shows in all figures: the load stands
 at both ends, and each figure with the least and the greatest of its rounds. A bound is judged at the best round, since
-other work makes a round worse and never better; that of mntr, whose two sides are equally near, at the middle of many
-short rounds (bench/counted.py counts what it takes). The exit status is 0 if all bounds are met.
+other work makes a round worse and never better; that of mntr at the middle of many short rounds (bench/counted.py counts
+what the program itself takes for it). The exit status is 0 if all bounds are met.
 """
 import argparse
 import math
@@ -51,7 +51,9 @@ SHORT, WARM_UP, SHORT_ROUNDS = 0.5, 0.3, 20
 # A reply's header, a length, the data and a Stat.
 ANSWER = 16 + 4 + LONG_CONTENT + 68
 # About as many bytes as mntr is answered with.
-WORDS_ANSWER = 1500
+WORDS_ANSWER = 440
+# How many of them are asked while nothing else is.
+ALONE = 2_000
 EPOCH = generate.EPOCH << 32
 NULL = generate.NULL
 LEADERINFO, DIFF, NEWLEADER, UPTODATE, PING, REQUEST = 17, 13, 10, 12, 5, 1
@@ -231,19 +233,22 @@ class Figures:
         print(f"{'PASS' if passes else 'FAIL'}  {name}: {self.shown(name, form)} ({bound})", flush=True)
         self.passes.append(passes)
 
-    def judge_middle(self, name, least):
-        """Prints the middle of many figures, how far it may be off, and its bound."""
+    def middle(self, name):
+        """Returns the middle of many figures, and that with how far it may be off as a text."""
         found = self.found[name]
         middle = statistics.median(found)
         # The standard error of a median, if the figures are spread normally.
         error = 1.25 * statistics.stdev(found) / math.sqrt(len(found))
-        passes = middle >= least
-        print(
-            f"{'PASS' if passes else 'FAIL'}  {name}: {middle:.3f} in the middle of {len(found)}, give or take"
-            f" {error:.3f} (at least {least})",
-            flush=True,
-        )
-        self.passes.append(passes)
+        return middle, f"{name}: {middle:.3f} in the middle of {len(found)}, give or take {error:.3f}"
+
+    def tell_middle(self, name):
+        print(f"      {self.middle(name)[1]}", flush=True)
+
+    def judge_middle(self, name, most):
+        """Prints the middle of many figures, how far it may be off, and its bound."""
+        middle, shown = self.middle(name)
+        print(f"{'PASS' if middle <= most else 'FAIL'}  {shown} (at most {most})", flush=True)
+        self.passes.append(middle <= most)
 
 
 def sync(server, tools, options, figures):
@@ -359,23 +364,35 @@ class Asking:
 
 def words(server, tools, options, figures):
     """Reads with many watches set, while mntr is asked and while the echo is asked as often, so that what asking takes
-    of the same processors is in both. What else the machine does changes a rate by more than the words can, so there
-    are many short rounds, whose order alternates, and the middle ratio is judged."""
+    of the same processors is in both. What else the machine does changes a rate by more than the words can: so the
+    processor's time that the server takes for mntr, the kernel's for it included, is judged against that for getDatas,
+    and of many short rounds the middle ratio of the rates is told."""
     with Watcher(server.port, WATCHES), Kept(tools.echo, WORDS_ANSWER) as echo:
+        before = server.processor()
+        for _ in range(ALONE):
+            ask_mntr(server.port)
+        one = (server.processor() - before) / ALONE
+        figures.add("microseconds of the processor for an mntr", 1e6 * one)
         asked = {"the echo": (ask_echo, int(echo.said[1])), "mntr": (ask_mntr, server.port)}
         for turn in range(options.rounds * SHORT_ROUNDS):
-            found = {}
+            rates = {}
             for name in sorted(asked, reverse=turn % 2 == 0):
+                before = server.processor()
                 with Asking(*asked[name], ASKED) as asking:
-                    found[name] = tools.read(server.port, CLIENTS, DEPTH, options, SHORT)[0]
+                    rates[name] = tools.read(server.port, CLIENTS, DEPTH, options, SHORT)[0]
+                if name == "the echo":
+                    used = (server.processor() - before) / (SHORT + WARM_UP)
+                    figures.add(f"of what getDatas take of the processor, {ASKED} mntr a second take", ASKED * one / used)
                 figures.add(f"{name} a second", asking.asked / (SHORT + WARM_UP))
-                figures.add(f"getDatas a second, beside {name}", found[name])
-            figures.add("beside mntr against beside the echo", found["mntr"] / found["the echo"])
+                figures.add(f"getDatas a second, beside {name}", rates[name])
+            figures.add("getDatas beside mntr against beside the echo", rates["mntr"] / rates["the echo"])
     print(f"{CLIENTS} clients with {DEPTH} getDatas under way each, {WATCHES:,} watches, {ASKED} questions a second")
     for name in asked:
-        figures.tell(f"getDatas a second, beside {name}", "{:,.0f}")
         figures.tell(f"{name} a second", "{:,.0f}")
-    figures.judge_middle("beside mntr against beside the echo", least=0.98)
+        figures.tell(f"getDatas a second, beside {name}", "{:,.0f}")
+    figures.tell_middle("getDatas beside mntr against beside the echo")
+    figures.tell("microseconds of the processor for an mntr", "{:.0f}")
+    figures.judge_middle(f"of what getDatas take of the processor, {ASKED} mntr a second take", most=0.02)
 
 
 def idle(server, tools, options, figures):
