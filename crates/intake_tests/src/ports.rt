@@ -2,7 +2,7 @@
 //!
 //! A test makes the desk and has a function of its own do the rest, so that the desk is dropped at one place.
 use crate::helpers::{
-    asks, blob, hub_port, is_handed_back, port, primed, primed_hub, sends, xid_of,
+    asks, blob, hub_port, is_handed_back, port, primed, primed_hub, sends, turn, xid_of,
 };
 use apply_workers::OpenGate;
 use intake::{AddPortError, Desk, Hub, Message};
