@@ -12,14 +12,14 @@ does nothing else. Clients are bench/load.c; both are compiled by `cc` into a fo
 
 - one client that waits for each answer, alone and beside 5,000 connections that say nothing, against one at the echo;
 - 8 clients with 100 getDatas of 100 bytes under way each, in a tree of 100,103 nodes;
-- the same with 10,000 watches set, alone and while mntr is asked 100 times a second;
+- the same with 10,000 watches set, while mntr is asked 100 times a second, against while the echo is asked as often;
 - what 5,000 idle connections take of memory and of a processor;
 - a backlog of 1,100,100 INFORMs over the leader's socket, against the engine alone.
 
 What is compared takes turns in one run, several times. Other work on the machine shows in all figures: the load stands
 at both ends, and each figure with the least and the greatest of its rounds. A bound is judged at the best round, since
-other work makes a round worse and never better; that of mntr, whose two sides are equally near, at the middle of many
-short rounds (bench/counted.py counts what it takes). The exit status is 0 if all bounds are met.
+other work makes a round worse and never better; that of mntr at the middle of many short rounds (bench/counted.py counts
+what the program itself takes for it). The exit status is 0 if all bounds are met.
 """
 import argparse
 import math
@@ -50,6 +50,10 @@ WATCHES, ASKED, GET_DATA = 10_000, 100, 4
 SHORT, WARM_UP, SHORT_ROUNDS = 0.5, 0.3, 20
 # A reply's header, a length, the data and a Stat.
 ANSWER = 16 + 4 + LONG_CONTENT + 68
+# About as many bytes as mntr is answered with.
+WORDS_ANSWER = 440
+# How many of them are asked while nothing else is.
+ALONE = 2_000
 EPOCH = generate.EPOCH << 32
 NULL = generate.NULL
 LEADERINFO, DIFF, NEWLEADER, UPTODATE, PING, REQUEST = 17, 13, 10, 12, 5, 1
@@ -229,19 +233,22 @@ class Figures:
         print(f"{'PASS' if passes else 'FAIL'}  {name}: {self.shown(name, form)} ({bound})", flush=True)
         self.passes.append(passes)
 
-    def judge_middle(self, name, least):
-        """Prints the middle of many figures, how far it may be off, and its bound."""
+    def middle(self, name):
+        """Returns the middle of many figures, and that with how far it may be off as a text."""
         found = self.found[name]
         middle = statistics.median(found)
         # The standard error of a median, if the figures are spread normally.
         error = 1.25 * statistics.stdev(found) / math.sqrt(len(found))
-        passes = middle >= least
-        print(
-            f"{'PASS' if passes else 'FAIL'}  {name}: {middle:.3f} in the middle of {len(found)}, give or take"
-            f" {error:.3f} (at least {least})",
-            flush=True,
-        )
-        self.passes.append(passes)
+        return middle, f"{name}: {middle:.3f} in the middle of {len(found)}, give or take {error:.3f}"
+
+    def tell_middle(self, name):
+        print(f"      {self.middle(name)[1]}", flush=True)
+
+    def judge_middle(self, name, most):
+        """Prints the middle of many figures, how far it may be off, and its bound."""
+        middle, shown = self.middle(name)
+        print(f"{'PASS' if middle <= most else 'FAIL'}  {shown} (at most {most})", flush=True)
+        self.passes.append(middle <= most)
 
 
 def sync(server, tools, options, figures):
@@ -317,13 +324,26 @@ def ask(port, word):
         return answer.read()
 
 
-class Asking:
-    """Asks a word so many times a second, until it is left."""
+def ask_mntr(port):
+    if b"zk_watch_count\t%d\n" % WATCHES not in ask(port, b"mntr"):
+        sys.exit("mntr doesn't count the watches")
 
-    def __init__(self, port, word, times):
-        self.port, self.word, self.pause, self.asked = port, word, 1 / times, 0
+
+def ask_echo(port):
+    """Asks the echo over a connection of its own, as a word is asked."""
+    with socket.create_connection(("127.0.0.1", port)) as stream, stream.makefile("rb") as answer:
+        stream.sendall(bytes(4))
+        if len(answer.read(4 + WORDS_ANSWER)) != 4 + WORDS_ANSWER:
+            sys.exit("the echo has ended")
+
+
+class Asking:
+    """Asks a server so many times a second, until it is left."""
+
+    def __init__(self, ask, port, times):
+        self.ask, self.port, self.pause, self.asked = ask, port, 1 / times, 0
         self.ended = threading.Event()
-        self.thread = threading.Thread(target=self.ask)
+        self.thread = threading.Thread(target=self.ask_all)
 
     def __enter__(self):
         self.thread.start()
@@ -333,37 +353,46 @@ class Asking:
         self.ended.set()
         self.thread.join()
 
-    def ask(self):
+    def ask_all(self):
         due = time.perf_counter()
         while not self.ended.is_set():
-            if b"zk_watch_count\t%d\n" % WATCHES not in ask(self.port, self.word):
-                sys.exit("mntr doesn't count the watches")
+            self.ask(self.port)
             self.asked += 1
             due += self.pause
             time.sleep(max(0, due - time.perf_counter()))
 
 
 def words(server, tools, options, figures):
-    """Reads with many watches set, alone and while a word is asked. What else the machine does changes a rate by more
-    than the words can, so there are many short rounds, whose order alternates, and the middle ratio is judged."""
-    with Watcher(server.port, WATCHES):
+    """Reads with many watches set, while mntr is asked and while the echo is asked as often, so that what asking takes
+    of the same processors is in both. What else the machine does changes a rate by more than the words can: so the
+    processor's time that the server takes for mntr, the kernel's for it included, is judged against that for getDatas,
+    and of many short rounds the middle ratio of the rates is told."""
+    with Watcher(server.port, WATCHES), Kept(tools.echo, WORDS_ANSWER) as echo:
+        before = server.processor()
+        for _ in range(ALONE):
+            ask_mntr(server.port)
+        one = (server.processor() - before) / ALONE
+        figures.add("microseconds of the processor for an mntr", 1e6 * one)
+        asked = {"the echo": (ask_echo, int(echo.said[1])), "mntr": (ask_mntr, server.port)}
         for turn in range(options.rounds * SHORT_ROUNDS):
-            found = {}
-            for is_asked in (False, True) if turn % 2 == 0 else (True, False):
-                if not is_asked:
-                    found[is_asked] = tools.read(server.port, CLIENTS, DEPTH, options, SHORT)[0]
-                    continue
-                with Asking(server.port, b"mntr", ASKED) as asking:
-                    found[is_asked] = tools.read(server.port, CLIENTS, DEPTH, options, SHORT)[0]
-                figures.add("mntr a second", asking.asked / (SHORT + WARM_UP))
-            figures.add("getDatas a second, alone", found[False])
-            figures.add("getDatas a second, beside mntr", found[True])
-            figures.add("beside mntr against alone", found[True] / found[False])
-    print(f"{CLIENTS} clients with {DEPTH} getDatas under way each, {WATCHES:,} watches, mntr {ASKED} times a second")
-    figures.tell("getDatas a second, alone", "{:,.0f}")
-    figures.tell("getDatas a second, beside mntr", "{:,.0f}")
-    figures.tell("mntr a second", "{:,.0f}")
-    figures.judge_middle("beside mntr against alone", least=0.98)
+            rates = {}
+            for name in sorted(asked, reverse=turn % 2 == 0):
+                before = server.processor()
+                with Asking(*asked[name], ASKED) as asking:
+                    rates[name] = tools.read(server.port, CLIENTS, DEPTH, options, SHORT)[0]
+                if name == "the echo":
+                    used = (server.processor() - before) / (SHORT + WARM_UP)
+                    figures.add(f"of what getDatas take of the processor, {ASKED} mntr a second take", ASKED * one / used)
+                figures.add(f"{name} a second", asking.asked / (SHORT + WARM_UP))
+                figures.add(f"getDatas a second, beside {name}", rates[name])
+            figures.add("getDatas beside mntr against beside the echo", rates["mntr"] / rates["the echo"])
+    print(f"{CLIENTS} clients with {DEPTH} getDatas under way each, {WATCHES:,} watches, {ASKED} questions a second")
+    for name in asked:
+        figures.tell(f"{name} a second", "{:,.0f}")
+        figures.tell(f"getDatas a second, beside {name}", "{:,.0f}")
+    figures.tell_middle("getDatas beside mntr against beside the echo")
+    figures.tell("microseconds of the processor for an mntr", "{:.0f}")
+    figures.judge_middle(f"of what getDatas take of the processor, {ASKED} mntr a second take", most=0.02)
 
 
 def idle(server, tools, options, figures):

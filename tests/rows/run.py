@@ -44,8 +44,8 @@ LIMITS = ("--workers 1 --batch 1", "--workers 3 --batch 2", "--workers 64 --batc
 # The rows that are run by these numbers of workers too, with batches as they are by default.
 SHARED = (
     "close-ephemerals", "close-in-a-batch", "close-session", "connect-held", "connect-in-a-batch", "connects-many",
-    "create-then-get", "forwarded-many", "leader-sessions-1", "leader-sessions-2", "many-reads", "multi-meets-two",
-    "set-then-get", "touched-by-runs", "two-groups", "two-groups-told",
+    "create-then-get", "forwarded-create-then-get", "forwarded-many", "leader-sessions-1", "leader-sessions-2",
+    "many-reads", "multi-meets-two", "set-then-get", "touched-by-runs", "two-groups", "two-groups-told",
 )
 WORKERS = ("--workers 1", "--workers 2", "--workers 64")
 

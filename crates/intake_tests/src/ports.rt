@@ -102,6 +102,30 @@ fn a_port_that_was_served_has_nothing_left(rt: HostRuntime) -> Result<(), Fail> 
     finish_when_served(&rt, rt.alloc(), &mut desk)
 }
 
+fn close_with_bytes_under_way<R: Abort + Threads + Sync>(
+    rt: &R,
+    alloc: Global,
+    desk: &mut Desk,
+) -> Result<(), Fail> {
+    let _leader = port(desk, 4)?;
+    let mut client = port(desk, 4)?;
+    assert!(rt; sends(alloc, &mut client, &asks(1)));
+    let took = turn(rt, desk);
+    let before = desk.under_way();
+    desk.close(client.finish());
+    let after = desk.under_way();
+    assert!(rt; before > 0);
+    assert_eq!(rt; (took, after), (Some(1), 0));
+    Ok(())
+}
+
+// The reply is never received, so all that its slot counts goes with the port.
+#[test]
+fn nothing_is_under_way_to_a_closed_port(rt: HostRuntime) -> Result<(), Fail> {
+    let mut desk = primed(rt.alloc())?;
+    close_with_bytes_under_way(&rt, rt.alloc(), &mut desk)
+}
+
 #[tactic(auto, using(crate::proofs::Ends::is_end_kept, crate::proofs::Ends::all_stay_in_a_hubs_turn))]
 fn finish_when_a_hub_has_served<R: Abort + Threads + Sync>(
     rt: &R,
