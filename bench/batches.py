@@ -4,14 +4,14 @@
     bench/batches.py BATCH_RUNNER           as bench/batches.py crates/batch_runner/out/batch_runner
 
 The program measures itself by the clock, without making the transactions and the tree, and says how long it cut and how
-long it worked. All loads take turns, several times, and the least time of each is taken; what is compared is done in one
-run of this script. What a load prints must be what it asks for. Batches have 256 transactions, in 64 groups, where nothing
-else is said. Plain are transactions that are moved out of a queue, done one after the other and dropped, each with its outcome;
-kept ones are the same, but dropped with their outcomes 256 at a time, as those of a batch are; lent ones stay in their list. In a
-second part lists that stay are applied as an engine would: inline, which is one after the other with all outcomes kept, and by
-workers, however little work they are; they are compared with lent ones, each of whose outcomes is dropped at once. The
-machine's load, and how much of its processors' time others were given (steal), is printed before and after. The exit status is
-0 where every figure is met that has a bound.
+long it worked. All loads take turns, several times, and the least time of each is taken; what is compared is done in
+one run of this script. What a load prints must be what it asks for. Batches have 256 transactions, in 64 groups, unless
+something else is said. Plain are transactions that are moved out of a queue, done one after the other and dropped, each
+with its outcome; kept ones are the same, but dropped with their outcomes 256 at a time, as those of a batch are; lent
+ones stay in their list. In a second part lists that stay are applied as an engine would: inline, which is one after the
+other with all outcomes kept, and by workers, however little work they are; they are compared with lent ones, each of
+whose outcomes is dropped at once. The machine's load, and how much of its processors' time others were given (steal),
+is printed before and after. The exit status is 0 if every figure is met that has a bound.
 """
 import argparse
 import os

@@ -26,8 +26,8 @@ servers that leave writes undone, and the file says how often. Measured are
   bytes (`followed`, where both observers run), and of one that is started beside such a tree and reads no old files
   (`started`); and the seconds from the start of its process to the answer to its first read (`first`).
 
-Each figure is printed with the least and the greatest of its rounds, and with the ratio of the best ones. Below stands
-what the observer's process took of a processor, in microseconds for each getData or setData, or in seconds.
+Each figure is printed with the least and the greatest of its rounds, and with the ratio of the best ones. Below is what
+the observer's process took of a processor, in microseconds for each getData or setData, or in seconds.
 """
 import argparse
 import contextlib

@@ -7,7 +7,7 @@ Neither making the tree of reads and lists nor making the messages is measured (
 other loads is the difference of two runs, of which one does the same but for what is measured. All runs take turns,
 several times, and the least processor time of each is taken. What a load prints must be what it asks for. Memory is what
 the resident set grew by at most. Twice as many names may not fit into the caches any more, so their ratio has no bound:
-instructions tell more of it (valgrind --tool=callgrind). The exit status is 0 where every figure is met that has a
+instructions tell more of it (valgrind --tool=callgrind). The exit status is 0 if every figure is met that has a
 bound.
 """
 import argparse

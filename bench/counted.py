@@ -7,11 +7,11 @@
     bench/counted.py --engine LOAD_RUNNER     the engine under loads of crates/load_runner; --before goes with it, too
 
 `valgrind --tool=callgrind` counts, so what else the machine does is of no account. Each figure of `serve` is the
-difference between two runs, which differ only in how many there are, and each reply is looked at. Of a load of the engine
-a run that only makes its messages is subtracted (`made`); what is left has some instructions an event for counting its
-outputs, too. One bound is judged: where mntr is asked 100 times a second, with 10,000 watches set, it takes less than a
-fiftieth of what the 400,000 getDatas take that `serve` has to answer meanwhile. The status is 0 if it holds. Other rates
-are measured by bench/writes.py.
+difference between two runs, which differ only in how many there are, and each reply is looked at. Of a load of the
+engine a run that only makes its messages is subtracted (`made`); what is left has some instructions an event for
+counting its outputs, too. One bound is judged: if mntr is asked 100 times a second, with 10,000 watches set, it takes
+less than a fiftieth of what the 400,000 getDatas take that `serve` has to answer meanwhile. The status is 0 if it
+holds. Other rates are measured by bench/writes.py.
 """
 import argparse
 import os

@@ -6,7 +6,7 @@
 It makes scripts in which connections open, connect, get the sessions that the leader creates, and leave watches on paths
 that have no node, with and without their ends, and beside none, many and twice as many watches of another connection. The instructions of the program are counted
 by `valgrind --tool=callgrind`, so what else the machine does is of no account; what the ends take is the difference.
-The exit status is 0 where a watch takes at most so many instructions, and at most 1.5 times as many beside twice as many
+The exit status is 0 if a watch takes at most so many instructions, and at most 1.5 times as many beside twice as many
 others.
 """
 import argparse

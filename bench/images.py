@@ -3,10 +3,10 @@
 
     bench/images.py LOAD_RUNNER             as bench/images.py crates/load_runner/out/load_runner
 
-A node of an image has a path of 20 bytes, 16 bytes of data and the open ACL list, where nothing else is said. All runs take
-turns, several times, and the least processor time of each is taken; what a load prints must be what it asks for. The
-image's bytes are made before (bench/loads.py). Memory is what the resident set grew by at most: behind an image there
-are two trees, the tree and its base. The exit status is 0 where every figure is met that has a bound.
+A node of an image has a path of 20 bytes, 16 bytes of data and the open ACL list, unless something else is said. All
+runs take turns, several times, and the least processor time of each is taken; what a load prints must be what it asks
+for. The image's bytes are made before (bench/loads.py). Memory is what the resident set grew by at most: after an image
+there are two trees, the tree and its base. The exit status is 0 if every figure is met that has a bound.
 """
 import argparse
 import sys

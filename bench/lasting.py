@@ -8,7 +8,7 @@ with and without a million lasting watches elsewhere, half of them recursive. Ea
 the changes, the least processor time of several rounds is taken, and what the changes take is the difference. That has
 reading their lines and printing their events in it. With --count instructions are counted instead, by
 `valgrind --tool=callgrind`, beside a hundred thousand others, so what else the machine does is of no account. The exit
-status is 0 where a change takes at most 1.3 times as long, or as many instructions, beside the others.
+status is 0 if a change takes at most 1.3 times as long, or as many instructions, beside the others.
 """
 import argparse
 import os

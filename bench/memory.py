@@ -12,7 +12,7 @@ until ten times what the last one took went by, or twice as much came: so on a b
 long.) Of ten transactions seven set the data of a node, one creates a node, one deletes it again, and one is a write
 that the leader refuses. After each part a PING is sent, whose answer shows that all of it was applied, and the
 resident set is read. A client reads all the while, one request after the other, and its longest wait is measured. The
-exit status is 0 where the greatest resident set of the last half is less than 2% above the greatest of the half before.
+exit status is 0 if the greatest resident set of the last half is less than 2% above the greatest of the half before.
 """
 import argparse
 import os

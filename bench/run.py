@@ -8,13 +8,13 @@
 
 It makes scripts by bench/generate.py, and `PROGRAM ARG .. replay SCRIPT` runs on them. The number n of messages doubles
 until a run takes long enough. Three ratios are judged: 2n messages take at most 2.2 times as long as n; the same bytes
-in pieces of 100 bytes take at most 1.5 times as long as in one piece; and where long messages come in such pieces,
+in pieces of 100 bytes take at most 1.5 times as long as in one piece; and if long messages come in such pieces,
 messages twice as long take at most 2.2 times as long. Each time is the least of several runs, of which those that are
 compared take turns. An engine alone has to take 300,000 INFORMs a second. Against another program the scripts, or the
-engine's loads, are the same, both take turns, and the processor's times are compared: the ratio is 1 where both are as
-fast, and above 1 where PROGRAM is faster, which is what passes. A program that writes something else than it should, or
+engine's loads, are the same, both take turns, and the processor's times are compared: the ratio is 1 if both are as
+fast, and above 1 if PROGRAM is faster, which is what passes. A program that writes something else than it should, or
 takes two minutes, is refused. Times of a script are of the whole program, so they hold reading its hexadecimal digits
-and printing the replies. Those of an engine hold no making of messages (bench/loads.py). The exit status is 0 where all
+and printing the replies. Those of an engine hold no making of messages (bench/loads.py). The exit status is 0 if all
 pass.
 """
 import argparse

@@ -5,7 +5,7 @@
     bench/serve.py PROGRAM --engine LOAD_RUNNER     the backlog beside crates/load_runner/out/load_runner too
     bench/serve.py PROGRAM --only backlog   one of sync, pipelined, words, idle, backlog
     bench/serve.py PROGRAM --before OTHER   beside an earlier program, in turns, and nothing else
-    bench/serve.py PROGRAM --install        gets Debian's C compiler first, where there is none (as root)
+    bench/serve.py PROGRAM --install        gets Debian's C compiler first, if there is none (as root)
 
 The echo is bench/echo.c: one thread over epoll that answers each frame with one as long as the server's answer, and
 does nothing else. Clients are bench/load.c; both are compiled by `cc` into a folder that is removed again. Measured are

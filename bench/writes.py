@@ -4,7 +4,7 @@
     bench/writes.py PROGRAM                 as bench/writes.py crates/replay_runner/out/replay_runner
     bench/writes.py PROGRAM --before OTHER  beside another program too, as one of an earlier version
     bench/writes.py PROGRAM --only waiting  one of pipelined, multis, waiting, before; `waiting` in no other way
-    bench/writes.py PROGRAM --install       gets Debian's C compiler first, where there is none (as root)
+    bench/writes.py PROGRAM --install       gets Debian's C compiler first, if there is none (as root)
 
 The leader and the clients are bench/writes.c, one thread of one process; the leader does what comes at once. `cc`
 compiles it into a folder that is removed again. Measured are
@@ -21,7 +21,7 @@ compiles it into a folder that is removed again. Measured are
 Each reply is looked at: it comes in its turn, and a read shows the write before it and none after it. What is compared
 takes turns in one run, several times. Other work on the machine makes a round worse and never better, so a bound is
 judged at the best round, and a comparison is one of the best rounds; each figure is printed with the least and the
-greatest of its rounds. The exit status is 0 where all bounds are met.
+greatest of its rounds. The exit status is 0 if all bounds are met.
 """
 import argparse
 import contextlib

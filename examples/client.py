@@ -8,9 +8,9 @@
     examples/client.py word mntr              what a four-letter word is answered
     examples/client.py --port 2182 ..         at another port than 2181
 
-It opens a session, which the server's leader creates, and closes it in the end. A reply stands with the zxid of the
-state that it tells of, an event with its name and path. The exit status is 1 where a node isn't there or may not be
-read, and 3 where the server can't be reached or goes.
+It opens a session, which the server's leader creates, and closes it in the end. A reply is printed with the zxid of the
+state that it shows, an event with its name and path. The exit status is 1 if a node isn't there or may not be read, and
+3 if the server can't be reached or goes.
 """
 import argparse
 import socket

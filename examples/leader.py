@@ -15,7 +15,7 @@ other change fails, since this leader alone makes changes. For a session that a 
 comes, and the answer is whether the session lives.
 
 The changes begin when an observer follows, and more may come meanwhile. After the last one the leader goes, and ends
-with status 0; with status 1 where its observers have gone before.
+with status 0; with status 1 if its observers have gone before.
 """
 import argparse
 import queue

@@ -65,7 +65,7 @@ def ask_word(host, port, word):
 
 
 def start(words):
-    """Does the command, and returns its exit status: 1 where there is no such node, 3 where no server answers."""
+    """Does the command, and returns its exit status: 1 if there is no such node, 3 if no server answers."""
     command, address = words[0], address_of(words[1]) if len(words) == 3 else None
     is_word = command == "words"
     if address is None or not (len(words[2].encode()) == 4 if is_word else words[2].startswith("/")):

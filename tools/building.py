@@ -158,7 +158,7 @@ def build(program, before):
     """Proves and builds a program. Returns whether all went well, and says what went wrong."""
     whole = Build(program, before)
     count = sum(whole.weights.values())
-    long = "about " + how_long(before) if before else "some half an hour on four idle processors"
+    long = "about " + how_long(before) if before else "one to two hours on four processors"
     say(f"proving and building {len(whole.crates)} crates with {count} functions, which takes {long}")
     failed = whole.run()
     if not failed:

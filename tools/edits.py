@@ -10,7 +10,7 @@ proofs/) and then pairs of lines, `old: TEXT` and `new: TEXT`, which are taken i
 file exactly once. `rt must-fail` and the gate try those of must-fail/; the others are tried here, on a copy of the
 repository in which they stand in the place of these.
 
-The last line is `N passed, M failed`; the exit status is 0 where nothing failed, 1 where something did, and 2 for a
+The last line is `N passed, M failed`; the exit status is 0 if nothing failed, 1 if something did, and 2 for a
 command line that is none.
 """
 import argparse

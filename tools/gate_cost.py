@@ -5,7 +5,7 @@
     tools/gate_cost.py COMMAND ARG ..      another command, such as `rt must-fail values`
 
 It prints a table in Markdown: what each crate's proof takes (checks and builds of it), its tests and its edits, in
-processor minutes, and the sums; behind it the clock's minutes, and what the whole command took. Every ten minutes the
+processor minutes, and the sums; then the minutes by the clock, and what the whole command took. Every ten minutes the
 table so far goes to standard error. The exit status is the command's.
 
 The prover's processes are looked at once a second, in /proc, so this works on Linux alone. What a process uses between

@@ -13,7 +13,7 @@ What it refuses:
 - a crate of more than 100 functions, or of more than 125 with those that it derives, and a source file of more than 800
   lines. A `drop` by hand counts no more than a derived one.
 
-Each crate counts as one, and so does the glossary. The last line is `N passed, M failed`; the exit status is 0 where
+Each crate counts as one, and so does the glossary. The last line is `N passed, M failed`; the exit status is 0 if
 nothing failed.
 """
 import collections

@@ -1,9 +1,9 @@
 """Where the proved program is, and of which sources it was made.
 
-tools/building.py proves and builds it; a passing `rt ci` leaves the same executable behind. Neither says
-later of which sources an executable that lies there was made. So a file of our own, out/observer/built.json, keeps
-what is known of the last build: a hash of the sources, a hash of the executable, how long the build took, and the last
-line of the gate. The executable is started only where both hashes are still right.
+tools/building.py proves and builds it; a passing `rt ci` leaves the same executable behind. Neither says later of which
+sources an executable that lies there was made. So a file of our own, out/observer/built.json, keeps what is known of
+the last build: a hash of the sources, a hash of the executable, how long the build took, and the last line of the gate.
+The executable is started only if both hashes are still right.
 """
 import fcntl
 import hashlib

@@ -8,13 +8,13 @@ A recipe with an example has a line such as
     Example: setACL, which files name as `SetAcl` or `set_acl`.
 
 Then each file of a crate of code (in src/, specs/ or proofs/) that names it so has to be named by the recipe, and the
-other way round. A file is named by its path from crates/ or, after that, from its crate or its folder; where a step
-says "(if ..)" right after a file's name, the example needn't be named there. Files that meet an example on another way
-stand in a line such as
+other way round. A file is named by its path from crates/ or, after that, from its crate or its folder; if a step says
+"(if ..)" right after a file's name, the example needn't be named there. Files that meet an example in another way are
+in a line such as
 
     Elsewhere: `forwarding`, of the client's write.
 
-Each recipe with an example counts as one. The last line is `N passed, M failed`; the exit status is 0 where nothing
+Each recipe with an example counts as one. The last line is `N passed, M failed`; the exit status is 0 if nothing
 failed.
 """
 import os

@@ -10,13 +10,13 @@ NAME.expected. Where that ends with the end line, it is all that the row has to 
 A row without an end line was recorded beside a real server, and is never written here. Of what it prints these lines
 are compared: what clients ask of the leader, and whether their sessions live, in this order; and of each connection all
 that it is sent. Names that a real server lists in any order are sorted there. Of a recorded row the digests are
-compared, too, which a leader of 3.6 and later writes behind each transaction: it is a sum over all nodes, with fields
+compared, too, which a leader of 3.6 and later writes after each transaction: it is a sum over all nodes, with fields
 that no reply shows. At the head of the script may be told
 
     # session 0200000000000001 was 0200001b78f10000         what number a session had where the row was recorded
     # digests hold but at 10000000f 100000010               the zxids whose digests aren't the tree's; else all are
 
-The last line is `N passed, M failed`; the exit status is 0 where none failed.
+The last line is `N passed, M failed`; the exit status is 0 if none failed.
 """
 import argparse
 import collections

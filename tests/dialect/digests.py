@@ -1,12 +1,12 @@
 #!/usr/bin/env python3
-"""Compares the tree that a program shows with the digests that leaders of 3.8 wrote behind their transactions.
+"""Compares the tree that a program shows with the digests that leaders of 3.8 wrote after their transactions.
 
     tests/dialect/digests.py PROGRAM
     tests/dialect/digests.py --only writes PROGRAM      recordings with that in their name
 
-A leader of 3.6 and later writes a digest of its tree behind each transaction: the sum, modulo 2^64, over the nodes but
+A leader of 3.6 and later writes a digest of its tree after each transaction: the sum, modulo 2^64, over the nodes but
 those below /zookeeper, of the CRC-32 of path, data, czxid, mzxid, pzxid, ctime, mtime, version, cversion, aversion and
-ephemeralOwner; the path of the root has no bytes. The program passes a digest over. So each recording in rows/recorded/
+ephemeralOwner; the path of the root has no bytes. The program ignores a digest. So each recording in rows/recorded/
 with the line `# digests hold` at its head is replayed with one more client, which after each transaction asks for every
 path that the leader's bytes name (exists and getData); and the digest of what it is answered has to be the leader's.
 
@@ -26,7 +26,7 @@ These are all in the recordings:
 
 Then mistakes are planted: in each recording a bit of one digest is turned, and one after the other each field that is
 shown of the root after this transaction. Each mistake has to be told, and at this transaction alone. The last line is
-`N passed, M failed`; the exit status is 0 where none failed.
+`N passed, M failed`; the exit status is 0 if none failed.
 """
 import argparse
 import os

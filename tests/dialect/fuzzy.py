@@ -4,7 +4,7 @@
     tests/dialect/fuzzy.py [--count N] [--seed S]      the leaders of N seeds, from S on
 
 A leader of a later dialect writes its sessions first, then its lists of rights, then its nodes, each as it is then, and
-between them it makes, changes and deletes nodes and ends sessions. What it has done since it began, it sends behind the
+between them it makes, changes and deletes nodes and ends sessions. What it has done since it began, it sends after the
 image. Then both trees have to be equal: each node with its data, its rights and all of its numbers, its children, the
 ephemerals of each session, and the sessions. The leader's tree is the one of the model, but has seen no image, so the
 rules by which images are mended change nothing in it. The last line is `N passed, M failed`.

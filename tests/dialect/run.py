@@ -7,7 +7,7 @@
 A row is NAME.script and NAME.expected, which is what `PROGRAM replay NAME.script` writes to standard output, whatever
 the options of a replay are. rows/recorded/ is compare.py's.
 
-The last line is `N passed, M failed`; the exit status is 0 where none failed and there was one at least.
+The last line is `N passed, M failed`; the exit status is 0 if none failed and there was one at least.
 """
 import argparse
 import concurrent.futures

@@ -5,7 +5,7 @@
     tests/refused/run.py --step 1 [PROGRAM]     each growth; without it each 41st of a row, and each 5th of the server
     tests/refused/run.py --step 1 --most 1000   each growth of a row that has up to 1,000, and 1,000 of a longer one
     tests/refused/run.py --only multi [PROGRAM] runs with that in their name: the row and its workers, or `serve`
-    tests/refused/run.py --install [PROGRAM]    gets Debian's C compiler first, where there is none (as root)
+    tests/refused/run.py --install [PROGRAM]    gets Debian's C compiler first, if there is none (as root)
 
 A library that is preloaded counts the growths of a run and refuses one of them (refuse.c). Each row of tests/rows is
 run by one worker and by two, and is tried until a run meets no refusal. A run that met one
@@ -15,11 +15,11 @@ run by one worker and by two, and is tried until a run meets no refusal. A run t
 - ends with status 4.
 
 With two workers it may also do without a thread that couldn't be started for want of memory, since the answers don't
-depend on which threads may start: then one thread fewer was started than where nothing was refused, and the run prints
-and ends as the row says. What the server has to do is in serving.py.
+depend on which threads may start: then one thread fewer was started than without a refusal, and the run prints and ends
+as the row says. What the server has to do is in serving.py.
 
 A row with a number of workers counts as one, and so does each run of the server. The last line is `N passed, M failed`;
-the exit status is 0 where none failed and there was one at least.
+the exit status is 0 if none failed and there was one at least.
 """
 import argparse
 import collections

@@ -5,8 +5,8 @@
 
 The observer in model/ is written after the rules of docs/COMPATIBILITY.md and shares no line with the program, so that
 what rows have to print can be worked out and checked without it. With `--write` the outputs of rows that lie in files
-are made anew by it, for rows that are new or whose scripts were changed. Audits and scripts with a bad line are passed
-over. The last line is `N passed, M failed`; the exit status is 0 where none failed.
+are made anew by it, for rows that are new or whose scripts were changed. Audits and scripts with a bad line are left
+out. The last line is `N passed, M failed`; the exit status is 0 if none failed.
 """
 import argparse
 import pathlib

@@ -7,19 +7,19 @@
 
 Each replay that ends with status 0 is tried in two ways.
 
-- **Cuts.** An event that brings bytes, of the leader or of a client, becomes two, at each place behind its first byte
+- **Cuts.** An event that brings bytes, of the leader or of a client, becomes two, at each place after its first byte
   and before its last, one such place in a run. What is printed is the row's output, every line of it: events aren't
   numbered or counted in a script's output, so no line may depend on a cut.
 - **Fronts.** After each front of what a leader sends, the leader ends. What is printed is what the front brings, as the
-  observer of model/ works it out; then, where the leader is still there, `L close F1 Short` exactly if an item is open,
+  observer of model/ works it out; then, if the leader is still there, `L close F1 Short` exactly if an item is open,
   which model/ reads off the bytes; then each open connection is closed, and the end line follows.
 
-A row that brings more than 6,000 bytes has all its events cut in one run, each behind its first byte, then each behind
+A row that brings more than 6,000 bytes has all its events cut in one run, each after its first byte, then each after
 its second, and so on up to the longest event, at 300 places at most. Its leaders aren't ended: that would be the same
 packets over and over.
 
 A row counts as one for its cuts, and as one for its fronts. The last line is `N passed, M failed`; the exit status is 0
-where none failed and there was one at least.
+if none failed and there was one at least.
 """
 import argparse
 import concurrent.futures

@@ -10,11 +10,20 @@ Each of these takes `--dialect 3.8`, and draws scripts of the later dialect then
 
 Each script is drawn from its seed alone (drawing.py), with a number of workers and the most transactions of a batch.
 Both outputs have to be the same, byte for byte, with nothing on standard error and status 0. One that differs is shrunk
-and printed. The last line is `N passed, M failed`, where each script counts as one; the exit status is 0 where none
+and printed. The last line is `N passed, M failed`, where each script counts as one; the exit status is 0 if none
 failed.
 
-With `--planted` a script counts for nothing, and each planted mistake as one: it passes where a script tells it. So the
-drawing is shown to reach what it has to tell.
+With `--planted` a script counts for nothing, and each planted mistake as one: it passes if a script reveals it. So the
+drawing is shown to reach what it has to reveal.
+
+To have the scripts contain something new:
+
+1. Write a maker in drawn_requests.py (clients) or drawn_packets.py (the leader): a function that draws bytes which fit
+   the model's present state. `TABLE` in drawing.py says how often it comes in each phase. A new maker gives each seed
+   another script.
+2. Give a new behaviour a mark in drawn_marks.py. `--show` says how many scripts reach each mark; one in twenty should.
+3. Add a mistake that is easily made to planted.py, and run `--planted`.
+4. If program and model differ, docs/COMPATIBILITY.md says which one is wrong. Make the small script a row.
 """
 import argparse
 import collections

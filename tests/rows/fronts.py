@@ -1,4 +1,4 @@
-"""Rows in which what a leader sends is cut behind each of its bytes.
+"""Rows in which what a leader sends is cut after each of its bytes.
 
 A stream is a list of items, of which each is open until its last byte is in. A SNAP is one item with its image, since
 from that packet on the image is owed.

@@ -19,7 +19,7 @@ by made.py.
 
 A replay prints the same whatever its limits, so each row that isn't an audit is run again with the options of LIMITS,
 and a few with those of WORKERS too. Beside the rows, wrong command lines are tried, and rows whose output can't be
-written. Each run counts: the last line printed is `N passed, M failed`; the exit status is 0 where none failed and
+written. Each run counts: the last line printed is `N passed, M failed`; the exit status is 0 if none failed and
 there was one at least.
 """
 import argparse

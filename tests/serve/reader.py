@@ -5,7 +5,7 @@ begins, and prints how many seconds each answer took.
     reader.py
 
 Without a port it works for 10 ms of a processor, 100 ms after the last time, and prints how many times as long that
-took by the clock: more than once where the machine has other work.
+took by the clock: more than once if the machine has other work.
 
 It is a process of its own, so that what it measures doesn't wait for other work of a test.
 """

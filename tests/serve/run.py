@@ -8,7 +8,7 @@ they come from (addresses.py), some ask words (words.py) or for figures (metrics
 with clients that pipeline; and leaders that fault, or end in the middle of an image; and descriptors or the disk of a
 record run out (failing.py). Then it attacks the server (attacks.py, attacks_on_memory.py). By --long some of this is
 tried more often, or whole. What can't be tried on a machine is told as skipped and counted nowhere. PROGRAM is
-crates/replay_runner/out/replay_runner where none is named. The last line is `N passed, M failed`.
+crates/replay_runner/out/replay_runner if none is named. The last line is `N passed, M failed`.
 """
 import os
 import queue
