@@ -13,6 +13,7 @@ from records import (
     CREATE, EXISTS, GET_CHILDREN, GET_DATA, INFORM, NO_NODE, SET_DATA, SET_WATCHES, buffer, client, create, joined,
     leader, packet, reply, request, transaction,
 )
+from short import short_and_long
 
 # As many components as a path has that fills half of the longest frame of a client.
 COMPONENTS = 262_144
@@ -124,4 +125,4 @@ def rows():
     made = [("deep-path", *deep_path()), ("many-reads", *many_reads())]
     made += [("forwarded-limit", *forwarded_limit()), ("forwarded-many", *forwarded_many())]
     made.append(("forwarded-ids", *forwarded_ids()))
-    return [*made, *connecting(), *fronts(), one_byte_a_line(), *longest_inform()]
+    return [*made, *connecting(), *fronts(), one_byte_a_line(), *longest_inform(), short_and_long()]
