@@ -2,5 +2,4 @@ pub mod Faults
 pub mod Gains
 pub mod Hex
 pub mod Maybe
-pub mod Stored
 pub mod TextOrder
