@@ -1,4 +1,4 @@
-"""Rows about texts and data of about as many bytes as lie in a value itself."""
+"""A row about texts and data of around 30 bytes, up to which a value may be held without a block of memory."""
 import struct
 
 from records import (
@@ -6,7 +6,6 @@ from records import (
 )
 
 FIRST = 1 << 32  # the zxid of epoch 1 before its first transaction
-# Up to 30 bytes lie in the value, more in a block of memory.
 LENGTHS = (0, 1, 29, 30, 31, 32, 62)
 
 
