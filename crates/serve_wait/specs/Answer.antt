@@ -1,10 +1,16 @@
 -- Which answer counts, and how long is waited for it.
-use Rattle.std.specs.Prelude.{ℕ, ◌-◌, ◌/◌, List, Bool, min, codes}
+use Rattle.std.specs.Prelude.{ℕ, ◌-◌, ◌/◌, List, [], ◌∷◌, Option, Some, None, Bool, min, codes}
+use Rattle.std.specs.Io.KnownBytes.{Consumes, IsAtEnd}
 use Rattle.std.specs.Str.{bytes_eq}
 
 -- Whether a server that answers `isro` so serves clients.
 abbrev pub is_serving_answer : List ℕ → Bool
 is_serving_answer answer = bytes_eq answer (codes "rw")
+
+-- What a read of one byte says of the bytes that a reader has left before and after it, where these are known.
+abbrev pub IsNextByte : Option (List ℕ) → Option (List ℕ) → Option ℕ → Type 0
+IsNextByte old new None = IsAtEnd old
+IsNextByte old new (Some byte) = Consumes old new (byte ∷ [])
 
 -- What is left of some milliseconds after so many nanoseconds.
 abbrev pub milliseconds_left : ℕ → ℕ → ℕ

@@ -17,10 +17,13 @@ wait_status_of Usage = 2
 wait_status_of NoMemory = 4
 wait_status_of (Late address seconds obstacle) = 8
 
+abbrev pub late_line : List ℕ → ℕ → List ℕ → List ℕ
+late_line address seconds why =
+    codes "observer: " ++ address ++ codes " isn't serving after " ++ decimal seconds ++ codes " s (" ++ why ++ codes ")"
+    ++ 10 ∷ []
+
 abbrev pub wait_message_of : WaitEnding → List ℕ
 wait_message_of Serving = []
 wait_message_of Usage = codes "usage: wait HOST:PORT [--seconds N]" ++ 10 ∷ []
 wait_message_of NoMemory = codes "no memory" ++ 10 ∷ []
-wait_message_of (Late address seconds obstacle) =
-    codes "observer: " ++ address ++ codes " isn't serving after " ++ decimal seconds ++ codes " s ("
-    ++ obstacle_word obstacle ++ codes ")" ++ 10 ∷ []
+wait_message_of (Late address seconds obstacle) = late_line address seconds (obstacle_word obstacle)

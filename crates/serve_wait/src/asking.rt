@@ -1,7 +1,8 @@
 //! One try: a server is asked whether it serves clients.
 
-ghost use Rattle.std.specs.Prelude.{◌≡◌, IfSome, IfOk};
-ghost use Rattle.serve_wait.specs.Answer.{is_serving_answer};
+ghost use Rattle.std.specs.Prelude.{◌≡◌, ◌≢◌, IfSome, IfOk, IsErr, Ok};
+ghost use Rattle.std.specs.IoError.{error_kind};
+ghost use Rattle.serve_wait.specs.Answer.{IsNextByte, is_serving_answer};
 
 use crate::command::WaitCommand;
 use crate::deadline::{Deadline, try_limit};
@@ -15,17 +16,27 @@ use values::NoMemory;
 // The four-letter word that a server answers by whether it serves clients.
 const WORD: &[u8] = b"isro";
 
-// One byte more than the answer that counts.
-const ROOM: usize = 3;
-
-// Whether a server that answers so serves clients.
-fn is_serving_answer(answer: &[u8]) -> bool
-    ensures { result ≡ is_serving_answer answer.now }
+// Reads the next byte of an answer; None at its end.
+fn next_byte<S: Read + OpenStream, R: Clock>(
+    rt: &R,
+    stream: &mut S,
+    until: Deadline,
+) -> io::Result<Option<u8>>
+    ensures { IfOk result (λ next. IsNextByte (S.remaining stream.old) (S.remaining stream.new) next) }
 {
-    answer == b"rw"
+    let left = until.left(rt);
+    if left == 0 {
+        return Err(io::Error::from(ErrorKind::TimedOut));
+    }
+    stream.set_read_timeout(Some(Duration::from_millis(left)))?;
+    let mut byte = [0];
+    if stream.read(&mut byte)? == 0 {
+        return Ok(None);
+    }
+    Ok(Some(byte[0]))
 }
 
-// Reads an answer to its end, or until it is too long to count.
+// Reads an answer, until it can't be that of a server that serves clients, or to its end. Returns whether it is.
 fn read_answer<S: Read + OpenStream, R: Clock>(
     rt: &R,
     stream: &mut S,
@@ -34,21 +45,18 @@ fn read_answer<S: Read + OpenStream, R: Clock>(
     ensures { IfOk result (λ is_serving.
         IfSome (S.remaining stream.old) (λ answer. is_serving ≡ is_serving_answer answer)) }
 {
-    let mut answer = [0; ROOM];
-    let mut came = 0;
-    while came < ROOM {
-        let left = until.left(rt);
-        if left == 0 {
-            return Err(io::Error::from(ErrorKind::TimedOut));
-        }
-        stream.set_read_timeout(Some(Duration::from_millis(left)))?;
-        let count = stream.read(&mut answer[came..])?;
-        if count == 0 {
-            return Ok(is_serving_answer(&answer[..came]));
-        }
-        came += count;
+    match next_byte(rt, stream, until)? {
+        Some(b'r') => {}
+        _ => return Ok(false),
     }
-    Ok(false)
+    match next_byte(rt, stream, until)? {
+        Some(b'w') => {}
+        _ => return Ok(false),
+    }
+    match next_byte(rt, stream, until)? {
+        None => Ok(true),
+        Some(_) => Ok(false),
+    }
 }
 
 // Says the word, and reads the answer. The word has room in the buffer of a new connection, so that it is sent at once.
@@ -62,7 +70,10 @@ fn ask<S: Read + Write + OpenStream, R: Clock>(
 }
 
 // The obstacle that a failed step is, unless memory was refused.
-fn obstacle_of(error: &io::Error, obstacle: Obstacle) -> Result<Obstacle, NoMemory> {
+fn obstacle_of(error: &io::Error, obstacle: Obstacle) -> Result<Obstacle, NoMemory>
+    ensures no_memory { error_kind error.now ≡ ErrorKind.OutOfMemory → IsErr result }
+    ensures obstacle { error_kind error.now ≢ ErrorKind.OutOfMemory → result ≡ Ok obstacle }
+{
     if error.kind() == ErrorKind::OutOfMemory {
         return Err(NoMemory);
     }

@@ -92,8 +92,11 @@ fn seconds_of(options: &[String]) -> Option<u64>
 {
     match options {
         [] => Some(DEFAULT_SECONDS),
-        [name, number] if name.as_str() == "--seconds" =>
-            number_from(1, MOST_SECONDS, number.as_str()),
+        [name, number] if name.as_str() == "--seconds" => number_from(
+            1,
+            MOST_SECONDS,
+            number.as_str(),
+        ),
         _ => None,
     }
 }

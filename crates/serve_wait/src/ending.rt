@@ -2,7 +2,7 @@
 
 ghost use Rattle.std.specs.Prelude.{◌≡◌, IsOk, OnOk};
 ghost use Rattle.std.specs.Io.KnownBytes.{Appends};
-ghost use Rattle.serve_wait.specs.Ending.{obstacle_word, wait_status_of, wait_message_of};
+ghost use Rattle.serve_wait.specs.Ending.{late_line, obstacle_word, wait_status_of, wait_message_of};
 
 use std::io;
 use std::io::Write;
@@ -33,6 +33,17 @@ impl Obstacle {
             Obstacle::NotServing => "not serving",
         }
     }
+}
+
+// Writes the line of a wait whose time is over.
+fn tell_late<E: Write>(writer: &mut E, address: &str, seconds: u64, why: &str) -> io::Result<()>
+    ensures { OnOk result
+        (Appends (E.contents writer.old) (E.contents writer.new) (late_line address.now seconds why.now)) }
+{
+    writeln!(
+        writer,
+        "observer: {address} isn't serving after {seconds} s ({why})"
+    )
 }
 
 /// How a wait ended.
@@ -79,14 +90,7 @@ impl<'a> WaitEnding<'a> {
                 address,
                 seconds,
                 obstacle,
-            } => {
-                let address = address.as_str();
-                let word = obstacle.word();
-                writeln!(
-                    writer,
-                    "observer: {address} isn't serving after {seconds} s ({word})"
-                )
-            }
+            } => tell_late(writer, address.as_str(), *seconds, obstacle.word()),
         }
     }
 }
