@@ -21,9 +21,11 @@ _observer_serves() {
 _observer() {
     COMPREPLY=()
     if [ "$COMP_CWORD" -eq 1 ]; then
-        _observer_offers "serve replay audit"
+        _observer_offers "serve wait replay audit"
     elif [ "${COMP_WORDS[1]}" = serve ]; then
         _observer_serves
+    elif [ "${COMP_WORDS[1]}" = wait ]; then
+        [ "$COMP_CWORD" -ne 3 ] || _observer_offers "--seconds"
     elif [ "$COMP_CWORD" -eq 2 ]; then
         _observer_files
     elif [ "${COMP_WORDS[1]}" = replay ]; then

@@ -1,4 +1,4 @@
-"""The man page and the completion of the program, made of its own table of options and of two tables of docs/."""
+"""The man page and the completion of the program, made of its own table of options and of three tables of docs/."""
 import os
 import re
 import time
@@ -9,7 +9,7 @@ from packing import filled
 
 SCRIPT = os.path.join(TOP, "docs", "SCRIPT.md")
 SERVE_HEAD = "| Status | When | Last line of standard error | Start it again? |"
-REPLAY_HEAD = "| Status | Meaning | Standard error |"
+WAIT_HEAD = REPLAY_HEAD = "| Status | Meaning | Standard error |"
 # The wrapper's own status, which the program never has.
 WRAPPER_STATUS = "70"
 # What a table says of standard error where nothing is told there.
@@ -69,6 +69,7 @@ def man_page(date, where):
         date=time.strftime("%Y-%m-%d", time.gmtime(date)),
         options="\n".join(option_text(it) for it in pages.rows()),
         serve_statuses=status_texts(pages.PAGE, SERVE_HEAD),
+        wait_statuses=status_texts(pages.PAGE, WAIT_HEAD),
         replay_statuses=status_texts(SCRIPT, REPLAY_HEAD),
         documents=roff(where),
     )

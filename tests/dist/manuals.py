@@ -47,7 +47,7 @@ def test_the_options_of_the_man_page(pack):
 def test_the_statuses_of_the_man_page(pack):
     """They are those of the table of OPERATING and of that of SCRIPT, but for the wrapper's own."""
     text = section(manual(pack), "EXIT STATUS")
-    assert re.findall(r"^\.B (\d+)$", text, re.MULTILINE) == list("023478") + list("0123456"), text
+    assert re.findall(r"^\.B (\d+)$", text, re.MULTILINE) == list("023478") + list("0248") + list("0123456"), text
     assert "](" not in text and "`" not in text, text
 
 
@@ -84,6 +84,8 @@ def test_the_completion(pack):
     assert completed(pack, "observer", "serve", "--words", "w") == ["wchs", "wchp", "wchc"]
     assert completed(pack, "observer", "serve", "--id", "") == []
     assert completed(pack, "observer", "re") == ["replay"]
+    assert completed(pack, "observer", "wait", "") == []
+    assert completed(pack, "observer", "wait", "127.0.0.1:2181", "") == ["--seconds"]
     for words in (["serve", "--record"], ["replay"], ["audit"]):
         assert completed(pack, "observer", *words, "watch.") == ["watch.script"], words
     assert completed(pack, "observer", "replay", "watch.script", "--w") == ["--workers"]

@@ -16,6 +16,7 @@ INSTALLED = {
 }
 UNIT = os.path.join(TOP, "packaging", "observer.service")
 OPTIONS = os.path.join(TOP, "packaging", "observer.default")
+WAIT = "wait $OBSERVER_ADDRESS --seconds 30"
 
 
 def package_of(pack):
@@ -117,6 +118,8 @@ def test_the_unit(pack):
     theirs, mine = words_of_unit(pack.made().place("observer.service")), words_of_unit(UNIT)
     assert theirs.pop("ExecStart") == ["/opt/kezhundam/bin/observer.sh serve $OBSERVER_OPTIONS"], theirs
     assert mine.pop("ExecStart") == ["/usr/bin/observer serve $OBSERVER_OPTIONS"], mine
+    assert theirs.pop("ExecStartPost") == [f"-/opt/kezhundam/bin/observer.sh {WAIT}"], theirs
+    assert mine.pop("ExecStartPost") == [f"-/usr/bin/observer {WAIT}"], mine
     assert theirs.pop("Documentation") != mine.pop("Documentation") and theirs == mine
     assert mine["RestartPreventExitStatus"] == ["2"] and mine["EnvironmentFile"] == ["/etc/default/observer"], mine
     needs("systemd-analyze")

@@ -1,7 +1,8 @@
-//! The observer's program: it replays and audits scripts, and serves.
+//! The observer's program: it replays and audits scripts, serves, and waits for a server.
 //!
 //! A replay feeds a script's events to an observer and prints the outputs; an audit prints the count of a node's
-//! children from the observer's log. `serve` follows a leader and serves clients over sockets.
+//! children from the observer's log. `serve` follows a leader and serves clients over sockets, and `wait` waits until a
+//! server does.
 #![tactic(auto)]
 
 ghost use Rattle.std.specs.Prelude.{◌≡◌, ◌≢◌, IfSome, None};
@@ -14,6 +15,7 @@ use auditing::audit_on;
 use batcher::Limits;
 use replay::{Command, Ending, Source, command_of, replay_on};
 use serve::serve;
+use serve_wait::wait;
 use std::alloc::AllocError;
 use std::io::{BufWriter, Error, ErrorKind, Read};
 use std::process::ExitCode;
@@ -139,6 +141,9 @@ fn main(rt: HostRuntime) -> ExitCode {
     if let [command, options @ ..] = words.as_slice() {
         if command.as_str() == "serve" {
             return ExitCode::from(serve(&rt, rt.alloc(), options));
+        }
+        if command.as_str() == "wait" {
+            return ExitCode::from(wait(&rt, options, &mut rt.stderr()));
         }
     }
     ExitCode::from(run(&rt, &rt, words.as_slice()))
