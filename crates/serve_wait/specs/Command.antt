@@ -13,7 +13,7 @@ number_from least most text = do
   number ← number_up_to most text
   if nat_le least number then Some number else None
 
--- What is before the first occurrence of a byte, and what is behind it.
+-- What is before the first occurrence of a byte, and what is after it.
 abbrev pub parts_around : ℕ → List ℕ → Option (List ℕ × List ℕ)
 parts_around byte text = option_map (λ i. (take i text, drop (i + 1) text)) (position (λ b. b == byte) text)
 
