@@ -448,8 +448,7 @@ def table(found):
     said += f"{programs['program']}, ZooKeeper {programs['zookeeper']}, Java {programs['java']} with a heap of "
     said += f"{settings['heap']:,} MiB; rounds: {settings['rounds']}, each load of {settings['seconds']:g} s"
     said += f"; {settings['note']}. " if settings["note"] else ". "
-    said += "The best round stands first, then the least and the greatest; the ratio is that of this one's "
-    said += "best round to ZooKeeper's."
+    said += "The best round comes first, then the least and the greatest; the ratio is of the best ones."
     print("\n".join(textwrap.wrap(said, 120)) + "\n")
     print("| What | ZooKeeper's observer | This one | Ratio | Processor, ZooKeeper's | Processor, this one's |")
     print("|---|---|---|---|---|---|")

@@ -16,10 +16,10 @@ does nothing else. Clients are bench/load.c; both are compiled by `cc` into a fo
 - what 5,000 idle connections take of memory and of a processor;
 - a backlog of 1,100,100 INFORMs over the leader's socket, against the engine alone.
 
-What is compared takes turns in one run, several times. Other work on the machine shows in all figures: the load stands
-at both ends, and each figure with the least and the greatest of its rounds. A bound is judged at the best round, since
-other work makes a round worse and never better; that of mntr at the middle of many short rounds (bench/counted.py counts
-what the program itself takes for it). The exit status is 0 if all bounds are met.
+What is compared takes turns in one run, several times. Other work on the machine shows in all figures, so the machine's
+load is printed first and last, and each figure with the least and the greatest of its rounds. A bound is judged at the
+best round, since other work makes a round worse and never better; that of mntr at the middle of many short rounds
+(bench/counted.py counts what the program itself takes for it). The exit status is 0 if all bounds are met.
 """
 import argparse
 import math

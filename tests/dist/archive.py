@@ -6,9 +6,10 @@ import shutil
 import signal
 import subprocess
 import tarfile
+import time
 
 import pages
-from packed import ARCHIVE, FOLDER, PACKAGE, TOP, VERSION, Skipped, dist, needs_root, run, serves_a_client
+from packed import ARCHIVE, FOLDER, PACKAGE, TOP, VERSION, Skipped, dist, needs, needs_root, run, serving
 
 # Which libraries a program needs rests on how it was linked; these are of the C library.
 LIBRARIES = {"libc.so.6", "libm.so.6"}
@@ -16,6 +17,9 @@ OTHERS = {
     "INSTALL", "LICENSE", "PROVED", "SHA256SUMS", "doc/COMPATIBILITY.md", "doc/OPERATING.md", "doc/SCRIPT.md",
     "doc/alerts.yml", "doc/grafana.json", "doc/prometheus.yml", "lib/copyright", "observer.8", "observer.bash", "observer.default", "observer.service",
 }
+
+# From the start of the unpacking to the first answer, at most.
+MOST_SECONDS = 60
 
 
 def executables(pack):
@@ -95,9 +99,23 @@ def test_it_starts_with_nothing_around_it(pack):
         assert error.endswith("usage\n"), (program, error)
 
 
-def test_it_serves_with_its_own_library(pack):
-    command = pack.made().command("alone", "/usr/bin/env", "-i", pack.place("bin", "observer.sh"))
-    assert serves_a_client(command)
+def test_it_serves_within_a_minute(pack):
+    """Unpacked as OPERATING says, and with its own library: the time from then until a client is answered."""
+    needs("tar", "sha256sum")
+    archive, room = os.path.join(pack.made().out, ARCHIVE), os.path.join(pack.room, "fresh")
+    folder = os.path.join(room, FOLDER)
+    os.mkdir(room)
+    command = pack.command("alone", "/usr/bin/env", "-i", os.path.join(folder, "bin", "observer.sh"))
+    began = time.monotonic()
+    run("tar", "xzf", archive, "-C", room)
+    run("sha256sum", "-c", "--quiet", "SHA256SUMS", cwd=folder)
+    with serving(command) as server:
+        assert server.word(b"isro") == b"rw"
+        took = time.monotonic() - began
+        assert server.is_serving()
+        server.ends(seconds=20)
+    print(f"   it serves {took:.1f} s after the unpacking began", flush=True)
+    assert took < MOST_SECONDS, took
 
 
 def test_its_own_library_is_used(pack):
@@ -132,7 +150,9 @@ def test_it_serves_in_an_empty_root(pack):
     loader = ["/lib/ld-linux-x86-64.so.2", "--library-path", "/lib", "/bin/observer"]
     command = pack.command("rooted", "chroot", root, *loader)
     may_change_root(command)
-    assert serves_a_client(command)
+    with serving(command) as server:
+        assert server.is_serving()
+        server.ends(seconds=20)
     # Names of hosts are resolved by what the C library has of its own.
     _, error = run(command, "serve", "--leader", "zk1:1", "--client", "0", "--id", "9", status=3)
     assert "cannot connect to zk1:1: Connection refused" in error, error

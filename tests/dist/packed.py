@@ -76,13 +76,10 @@ class Pack:
         shutil.rmtree(self.room)
 
 
-def serves_a_client(command):
-    """Returns whether a command serves a client behind a leader, and ends with the leader."""
+def serving(command):
+    """Returns a server that a command starts, behind a leader."""
 
     class Packed(Server):
         PROGRAM = command
 
-    with Packed() as server:
-        is_serving = server.is_serving()
-        server.ends(seconds=20)
-        return is_serving
+    return Packed()

@@ -222,6 +222,8 @@ def test_figures_that_the_dashboard_and_the_alerts_name():
     with open(os.path.join(TOP, "contrib", "alerts.yml"), encoding="utf-8") as it:
         expressions = re.findall(r"^ +expr: (.+)$", it.read(), re.M)
     assert len(panels) >= 15 and len(expressions) == 4, (len(panels), expressions)
+    places = {(it["gridPos"]["x"], it["gridPos"]["y"]) for it in panels}
+    assert [it["id"] for it in panels] == list(range(1, len(places) + 1)), panels
     for panel in panels:
         assert panel["title"] and panel["description"] and panel["fieldConfig"]["defaults"]["unit"], panel
         expressions += [it["expr"] for it in panel["targets"]]

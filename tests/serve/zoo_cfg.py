@@ -1,0 +1,392 @@
+"""A reader of the ensemble's file: what `serve --check-config` has to tell of one, by docs/OPERATING.md.
+
+It shares nothing with the program. A file has the form of Java's properties; what an option may be, and what holds
+without it, is read from the page's table of options.
+"""
+import os
+import re
+from typing import Dict, FrozenSet, List, NamedTuple, Tuple
+
+from server import TOP
+
+PAGE = os.path.join(TOP, "docs", "OPERATING.md")
+BLANKS = " \t\f"
+
+
+# ---- the page's table of options
+
+
+class Option(NamedTuple):
+    """An option: what its value may be, and what holds without it."""
+
+    may: str
+    without: str
+
+    def bounds(self):
+        """The least and the greatest number that it may be."""
+        least, most = re.fullmatch(r"(?:at least )?(\d+)(?: to (\d+))?", self.may).groups()
+        return int(least), int(most) if most else 2**64 - 1
+
+
+def table():
+    """Returns the options by their words."""
+    with open(PAGE, encoding="utf-8") as it:
+        rows = re.findall(r"^\| `(--[\w-]+)[^|]*` \| [^|]* \| ([^|]*) \| ([^|]*) \|$", it.read(), re.M)
+    return {word: Option(may.strip(), without.strip("` ")) for word, may, without in rows}
+
+
+OPTIONS = table()
+WORDS = OPTIONS["--words"].may.rpartition(" ")[2].split(",")
+
+
+# ---- the form of a file
+
+
+class Entry(NamedTuple):
+    """A key and its value, and the number of the line at which they begin."""
+
+    line: int
+    key: str
+    value: str
+
+
+def logical_lines(text):
+    """Yields each line with its number: without blanks in front, joined with the next where an odd number of
+    backslashes ends it, and without comments."""
+    number, front = 0, None
+    for at, line in enumerate(re.split("\r\n|\r|\n", text), 1):
+        line = line.lstrip(BLANKS)
+        if front is None:
+            if not line or line[0] in "#!":
+                continue
+            number, front = at, ""
+        goes_on = (len(line) - len(line.rstrip("\\"))) % 2 == 1
+        front += line[:-1] if goes_on else line
+        if not goes_on:
+            yield number, front
+            front = None
+    if front is not None:
+        yield number, front
+
+
+def entries_of(text):
+    """Returns the entries: a key goes to the first sign or blank without a backslash, a value to the end."""
+    form = re.compile(rf"((?:\\.|[^\\=:{BLANKS}])*)[{BLANKS}]*[=:]?[{BLANKS}]*(.*)", re.S)
+    found = [(number, form.fullmatch(line)) for number, line in logical_lines(text)]
+    return [Entry(number, it[1], it[2].strip(BLANKS)) for number, it in found]
+
+
+# ---- the values of options
+
+
+class Place(NamedTuple):
+    host: str
+    port: int
+
+
+def number(text, least, most):
+    """Returns a number of decimal digits within bounds, or None."""
+    return int(text) if re.fullmatch("[0-9]+", text) and least <= int(text) <= most else None
+
+
+def place(text):
+    """Returns the place of HOST:PORT, where a host with colons is in brackets; None if the text is none."""
+    found = re.fullmatch(r"(?:\[(.+)\]|([^:]+)):([0-9]+)", text)
+    return Place(found[1] or found[2], int(found[3])) if found and int(found[3]) < 65536 else None
+
+
+def address(text):
+    """The same, but a port may be alone."""
+    return place(text if ":" in text else f"127.0.0.1:{text}")
+
+
+def places(text):
+    """Returns the places between commas in one order, or None if one of these is none, or there are too many."""
+    found = [place(it) for it in text.split(",")]
+    return None if None in found or len(found) > 64 else sorted(found)
+
+
+def words(text):
+    """Returns the words between commas, or None if one of these is none."""
+    parts = {"all": WORDS, "none": []}.get(text, text.split(","))
+    return frozenset(parts) if set(parts) <= set(WORDS) else None
+
+
+def digest(text):
+    """Returns the user, who alone is shown, or None."""
+    user, colon, hashed = text.partition(":")
+    return user if user and colon and len(hashed) == 28 else None
+
+
+KINDS = {
+    "--leader": address, "--servers": places, "--client": address, "--metrics": address, "--words": words,
+    "--super-digest": digest,
+}
+
+
+def value_of(option, text):
+    """Returns what the text of an option says, or None if it may not be that."""
+    return KINDS[option](text) if option in KINDS else number(text, *OPTIONS[option].bounds())
+
+
+def at(host, port):
+    """Returns HOST:PORT. A host with colons gets brackets, if it has none."""
+    return f"[{host.strip('[]')}]:{port}" if ":" in host else f"{host}:{port}"
+
+
+# ---- what keys say
+
+TLS, SASL = "there is no TLS here", "there are no SASL"
+ESCAPE, SESSIONS = "escapes aren't read", "there are no local sessions"
+SERVER, VOTES = "server.N=", "this server votes"
+# Keys, and how keys begin, that are refused whatever their value is; and those that are unless it is `false`.
+REFUSED = {
+    TLS: (("secureClientPort", "secureClientPortAddress"), ("ssl.",)),
+    SASL: (("requireClientAuthScheme",), ("authProvider.", "enforce.auth.", "kerberos.")),
+}
+REFUSED_UNLESS_FALSE = {
+    "sslQuorum": TLS,
+    "quorum.auth.enableSasl": SASL,
+    "quorum.auth.learnerRequireSasl": SASL,
+    "quorum.auth.serverRequireSasl": SASL,
+    "sessionRequireClientSASLAuth": SASL,
+    "localSessionsEnabled": SESSIONS,
+}
+
+# The option of a key whose value it has, and what it is without the key.
+BY_KEY = {
+    "tickTime": ("--tick", "3000"),
+    "initLimit": ("--init-limit", None),
+    "syncLimit": ("--sync-limit", None),
+    "maxClientCnxns": ("--max-per-address", "60"),
+    "maxCnxns": ("--max-clients", "0"),
+    "DigestAuthenticationProvider.superDigest": ("--super-digest", None),
+}
+# Of these, 0 is any number, for which there is no option.
+UNBOUNDED = ("maxClientCnxns", "maxCnxns")
+HEEDED = (
+    *BY_KEY, "dynamicConfigFile", "dataDir", "clientPort", "clientPortAddress", "4lw.commands.whitelist",
+    "metricsProvider.httpHost", "metricsProvider.httpPort",
+)
+PROMETHEUS = "org.apache.zookeeper.metrics.prometheus.PrometheusMetricsProvider"
+# Providers that serve nothing, here as there.
+SILENT_PROVIDERS = tuple(f"org.apache.zookeeper.metrics.impl.{it}MetricsProvider" for it in ("Default", "Null"))
+NOT_HEEDED = (("observerMasterPort", "skipACL", "globalOutstandingLimit"), ("metricsProvider.",))
+# Those of voters, elections and files; and what is off.
+IDLE = (
+    (
+        *REFUSED_UNLESS_FALSE, "peerType", "standaloneEnabled", "electionAlg", "quorumListenOnAllIPs", "leaderServes",
+        "version", "syncEnabled", "dataLogDir", "snapCount", "preAllocSize", "commitLogCount", "snapSizeLimitInKb",
+    ),
+    ("group.", "weight.", "observer.", "autopurge.", "snapshot.", "admin.", "quorum.auth."),
+)
+# These options no key sets.
+UNSET = (
+    "--dialect", "--workers", "--batch", "--checkpoint", "--max-under-way", "--max-watches", "--unconnected",
+)
+SET = ("--servers", "--client", "--id", "--words", "--metrics", *(option for option, _ in BY_KEY.values()))
+# The last line of standard error, by the status.
+LAST_WORDS = {2: "usage", 3: "cannot open"}
+
+
+def is_among(key, keys):
+    """Returns whether a key is one of the first, or begins as one of the second."""
+    return key in keys[0] or key.startswith(keys[1])
+
+
+def reasons(entry):
+    """Yields why an entry is refused, whatever else the file has."""
+    _, key, value = entry
+    if "\\" in key + value:
+        yield ESCAPE
+    yield from (reason for reason, keys in REFUSED.items() if is_among(key, keys))
+    if key in REFUSED_UNLESS_FALSE and value != "false":
+        yield REFUSED_UNLESS_FALSE[key]
+
+
+def meaning(entry):
+    """Returns what is told of an entry that isn't refused, or None of one that is followed."""
+    _, key, value = entry
+    provider = key == "metricsProvider.className" and value in (PROMETHEUS, *SILENT_PROVIDERS)
+    if key.startswith("server.") or key in HEEDED or provider:
+        return None
+    if is_among(key, NOT_HEEDED):
+        return "isn't heeded"
+    if key == "reconfigEnabled":
+        return "means nothing here" if value == "false" else "isn't heeded"
+    return "means nothing here" if is_among(key, IDLE) else "is unknown"
+
+
+def whitelisted(text):
+    """Returns the words of a whitelist that are answered here, as an option has them."""
+    parts = [it.strip(BLANKS) for it in text.split(",")]
+    return "all" if "*" in parts else ",".join(it for it in parts if it in WORDS) or "none"
+
+
+class Server(NamedTuple):
+    """A line ADDRESSES[:ROLE][;CLIENT] of a server. The id and the quorum ports are None if they aren't right."""
+
+    id: int
+    is_observer: bool
+    quorum: List[str]
+    client: str
+
+
+def server_of(entry):
+    """Returns the server of a line, whose port of elections isn't looked at."""
+    front, _, client = entry.value.partition(";")
+    addresses, role = re.fullmatch("(.*?)(:observer|:participant)?", front, re.S).groups()
+    quorum = [it.rpartition(":")[0] for it in addresses.split("|")]
+    quorum = quorum if all(":" in it for it in quorum) else None
+    return Server(number(entry.key[len("server.") :], 1, 255), role == ":observer", quorum, client)
+
+
+# ---- a file as a whole
+
+
+class Checked(NamedTuple):
+    """What has to be told of a file. If it has faults, one of these alone, each a status and how its line begins;
+    else the lines that aren't followed, what is told of one of those with unknown keys, and what options say."""
+
+    faults: FrozenSet[Tuple[int, str]]
+    lines: List[str]
+    unknown: List[str]
+    options: Dict[str, object]
+
+
+class Reading:
+    """A file while it is read, with `options` over it. `read` returns the text of a file, or None if there is none."""
+
+    def __init__(self, name, options, read):
+        self.name, self.options, self.read = name, options, read
+        self.faults, self.filed = set(), {}
+        self.entries = self.entries_in(name)
+        self.values = {it.key: it.value for it in self.entries}
+
+    def entries_in(self, name):
+        """Returns the entries of a file, of which some may be refused."""
+        entries = entries_of(self.text_of(name))
+        self.faults |= {(2, f"observer: {name}:{it.line}: {reason}") for it in entries for reason in reasons(it)}
+        return entries
+
+    def text_of(self, name):
+        """Returns the text of a file. One that isn't there counts as empty, and as a fault."""
+        text = self.read(name)
+        if text is None:
+            self.faults.add((3, f"observer: cannot open {name}: "))
+        return text or ""
+
+    def own_id(self):
+        """Returns the id of this server, or None."""
+        if "--id" not in self.options and "dataDir" in self.values:
+            self.filed["--id"] = self.text_of(f"{self.values['dataDir']}/myid").strip()
+        return value_of("--id", self.options.get("--id", self.filed.get("--id", "")))
+
+    def read_servers(self, own):
+        """Reads the lines of servers, of which each key's last counts. Returns where this one's serves clients."""
+        name, entries = self.name, self.entries
+        if "dynamicConfigFile" in self.values:
+            name = self.values["dynamicConfigFile"]
+            entries = self.entries_in(name)
+        quorum, client, last = [], "", {it.key: it for it in entries}
+        for it in [it for it in entries if it.key.startswith("server.")]:
+            found, wrong = server_of(it), f"observer: {name}:{it.line}: "
+            if found.id is None:
+                self.faults.add((2, wrong + SERVER))
+            elif it is not last[it.key]:
+                continue
+            elif found.id == own and not found.is_observer:
+                self.faults.add((2, wrong + VOTES))
+            elif found.id == own:
+                client = found.client
+            elif not found.is_observer and not found.quorum:
+                self.faults.add((2, wrong + SERVER))
+            elif not found.is_observer:
+                quorum += found.quorum
+        if quorum:
+            self.filed["--servers"] = ",".join(quorum)
+        return client
+
+    def read_values(self, client):
+        """Reads what is in no line of a server. `client` is where this server's line has clients served."""
+        values, filed = self.values, self.filed
+        if "clientPort" in values:
+            filed["--client"] = at(values.get("clientPortAddress", "0.0.0.0"), values["clientPort"])
+        elif client:
+            filed["--client"] = client if ":" in client else at("0.0.0.0", client)
+        for key, (option, default) in BY_KEY.items():
+            value = values.get(key, default)
+            if value is not None and not (key in UNBOUNDED and value == "0"):
+                filed[option] = value
+        filed["--words"] = whitelisted(values.get("4lw.commands.whitelist", "srvr"))
+        if values.get("metricsProvider.className") == PROMETHEUS:
+            host = values.get("metricsProvider.httpHost", "0.0.0.0")
+            filed["--metrics"] = at(host, values.get("metricsProvider.httpPort", "7000"))
+
+    def check_options(self):
+        """Returns what the options and, where there are none, the file set."""
+        if "--leader" in self.options:
+            self.filed.pop("--servers", None)
+        for option, text in self.filed.items():
+            if option not in self.options and value_of(option, text) is None:
+                # The servers may be told in any order.
+                spelled = "" if option == "--servers" else f"{text}: "
+                self.faults.add((2, f"observer: {self.name}: {option} {spelled}"))
+        found = {**self.filed, **self.options}
+        for option, told in (("--id", "--id N"), ("--client", "--client [ADDRESS:]PORT")):
+            if option not in found:
+                self.faults.add((2, f"observer: {told} is missing"))
+        if "--servers" not in found and "--leader" not in found:
+            self.faults.add((2, "observer: --leader or --servers is missing"))
+        return {option: value_of(option, text) for option, text in found.items()}
+
+    def checked(self):
+        self.read_values(self.read_servers(self.own_id()))
+        options = self.check_options()
+        told = [(it, meaning(it)) for it in self.entries]
+        lines = [f"{self.name}:{it.line}: {it.key} {meant}" for it, meant in told if meant]
+        unknown = [f"observer: {self.name}:{it.line}: unknown key" for it, meant in told if meant == "is unknown"]
+        return Checked(frozenset(self.faults), lines, unknown, options)
+
+
+def checked(name, options, read):
+    """Returns what `--check-config` has to tell of a file beside these options."""
+    return Reading(name, options, read).checked()
+
+
+# ---- beside what is told
+
+
+def untold(wanted, status, out, told):
+    """Returns what has to be told of a file and isn't; None is nothing."""
+    if wanted.faults:
+        is_one = any(status == it and told.startswith(front) for it, front in wanted.faults)
+        is_whole = not out and told.split("\n")[1:] == [LAST_WORDS.get(status), ""]
+        return None if is_one and is_whole else f"one of {sorted(wanted.faults)}"
+    *lines, options = out.rstrip("\n").split("\n")
+    if lines != wanted.lines:
+        return f"the lines {wanted.lines}"
+    if wanted.unknown and (status != 2 or told not in [f"{it}\nusage\n" for it in wanted.unknown]):
+        return f"one of {wanted.unknown}"
+    if not wanted.unknown and (status or told):
+        return "that nothing is wrong"
+    return untold_option(wanted.options, options)
+
+
+def untold_option(wanted, line):
+    """The same of the line of options."""
+    command, parts = line.split(" ")[:2], line.split(" ")[2:]
+    found = dict(zip(parts[::2], parts[1::2]))
+    if command != ["observer", "serve"] or len(parts) != 2 * len(found):
+        return "the options"
+    for option, text in found.items():
+        is_known = option in OPTIONS and (option not in SET + UNSET or text == OPTIONS[option].without)
+        if option not in wanted and not is_known:
+            return f"no {option} {text}"
+    for option, value in wanted.items():
+        text = found.get(option, "")
+        # Of a digest the user alone is shown.
+        is_told = text == f"{value}:x" if option == "--super-digest" else value_of(option, text) == value
+        if not is_told:
+            return f"{option} with the value {value}"
+    return None
