@@ -19,8 +19,8 @@ wait_status_of (Late address seconds obstacle) = 8
 
 abbrev pub late_line : List ℕ → ℕ → List ℕ → List ℕ
 late_line address seconds why =
-    codes "observer: " ++ address ++ codes " isn't serving after " ++ decimal seconds ++ codes " s (" ++ why ++ codes ")"
-    ++ 10 ∷ []
+    codes "observer: " ++ address ++ codes " isn't serving after " ++ decimal seconds ++ codes " s (" ++ why
+    ++ codes ")" ++ 10 ∷ []
 
 abbrev pub wait_message_of : WaitEnding → List ℕ
 wait_message_of Serving = []

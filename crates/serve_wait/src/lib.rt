@@ -4,9 +4,9 @@
 //! observer wait 127.0.0.1:2181 --seconds 30             // status 0 as soon as `isro` is answered `rw`, or 8
 //! ```
 //!
-//! `specs/Command.antt` defines the command line, `specs/Ending.antt` the exit status and the line on standard error, and
-//! `specs/Answer.antt` which answer counts and how long a try may take. The sockets and the clock are any that have the
-//! handles; the loop over them is proved to end.
+//! `specs/Command.antt` defines the command line, `specs/Ending.antt` the exit status and the line on standard error,
+//! and `specs/Answer.antt` which answer counts and how long a try may take. The sockets and the clock are any that have
+//! the handles; the loop over them is proved to end.
 #![tactic(auto)]
 
 mod asking;
