@@ -72,12 +72,12 @@ def test_an_option_wins():
 
 
 def test_what_a_file_would_do():
-    lines = ["server.7=zk1:2888:3888", "server.8=zk2:2888:3888|zk3:2889:3889", "snapCount=1", "skipACL=yes"]
+    lines = ["server.7=zk1:2888:3888", "server.8=zk2:2888:3888|zk3:2889:3889", "digest.enabled=true", "skipACL=yes"]
     with file_of(text_of(*lines)) as name:
         status, out, told = commands.run("--check-config", name)
         assert (status, told) == (0, ""), (status, told)
         assert out.splitlines() == [
-            f"{name}:13: snapCount means nothing here",
+            f"{name}:13: digest.enabled means nothing here",
             f"{name}:14: skipACL isn't heeded",
             "observer serve --servers zk1:2888,zk2:2888,zk3:2889 --client 127.0.0.1:0 --id 1 --dialect 3.8"
             " --workers 4 --batch 256 --max-per-address 7 --tick 2000 --init-limit 10 --sync-limit 5 --checkpoint 64"
@@ -120,7 +120,6 @@ BAD = [
     ("secureClientPort=2281", "11: there is no TLS here"),
     ("quorum.auth.enableSasl=true", "11: there are no SASL"),
     ("localSessionsEnabled=true", "11: there are no local sessions"),
-    ("digest.enabled=true", "11: the digests of transactions"),
     ("dataLogDir=C:\\\\zookeeper", "11: escapes aren't read"),
     ("server.9=zk1", "11: server.N="),
     ("tickTime=0", " --tick 0: 1 to 3600000"),

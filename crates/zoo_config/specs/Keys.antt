@@ -6,7 +6,7 @@ use Rattle.std.specs.Str.{bytes_eq}
 use Rattle.zoo_config.specs.declared.form.Entry.{Entry}
 use Rattle.zoo_config.specs.declared.error.BadLine.{BadLine}
 use Rattle.zoo_config.specs.declared.error.Reason.{Reason}
-use Rattle.zoo_config.specs.declared.error.Reason.TheVariants.{Escape, Tls, Sasl, LocalSessions, Digests}
+use Rattle.zoo_config.specs.declared.error.Reason.TheVariants.{Escape, Tls, Sasl, LocalSessions}
 use Rattle.zoo_config.specs.declared.key.Meaning.{Meaning}
 use Rattle.zoo_config.specs.declared.key.Meaning.TheVariants.{Taken, Idle, Unheeded, Unknown, Refused}
 
@@ -47,8 +47,7 @@ reason_of key value =
     else (if asks_for_tls key value then Some Tls
     else (if asks_for_sasl key value then Some Sasl
     else (if bytes_eq key (codes "localSessionsEnabled") && not (is_off value) then Some LocalSessions
-    else (if bytes_eq key (codes "digest.enabled") && not (is_off value) then Some Digests
-    else None))))
+    else None)))
 
 -- ---- what is heeded
 
@@ -97,7 +96,7 @@ is_of_servers key =
     begins_as_one_of (codes "group." ∷ codes "weight." ∷ codes "observer." ∷ []) key
     || is_one_of
     (codes "peerType" ∷ codes "standaloneEnabled" ∷ codes "electionAlg" ∷ codes "quorumListenOnAllIPs"
-    ∷ codes "reconfigEnabled" ∷ codes "leaderServes" ∷ codes "version" ∷ [])
+    ∷ codes "reconfigEnabled" ∷ codes "leaderServes" ∷ codes "digest.enabled" ∷ codes "version" ∷ [])
     key
 
 abbrev pub is_of_files : List ℕ → Bool
@@ -112,8 +111,7 @@ abbrev pub is_switched_off : List ℕ → Bool
 is_switched_off key =
     starts_with nat_eq key (codes "quorum.auth.")
     || is_one_of
-    (codes "sslQuorum" ∷ codes "sessionRequireClientSASLAuth" ∷ codes "localSessionsEnabled" ∷ codes "digest.enabled"
-    ∷ [])
+    (codes "sslQuorum" ∷ codes "sessionRequireClientSASLAuth" ∷ codes "localSessionsEnabled" ∷ [])
     key
 
 abbrev pub meaning_of : List ℕ → List ℕ → Meaning

@@ -15,7 +15,6 @@ pub enum Reason {
     Tls,
     Sasl,
     LocalSessions,
-    Digests,
     /// A line of a server isn't what it may be.
     Server,
     /// The line of this server doesn't say that it is an observer.
@@ -29,9 +28,6 @@ impl fmt::Display for Reason {
             Reason::Tls => f.write_str("there is no TLS here"),
             Reason::Sasl => f.write_str("there are no SASL and no such authentication here"),
             Reason::LocalSessions => f.write_str("there are no local sessions here"),
-            Reason::Digests => f.write_str(
-                "the digests of transactions aren't read here: false at each server",
-            ),
             Reason::Server => f.write_str(
                 "server.N=HOST:PORT:PORT[:observer][;[ADDRESS:]PORT], N from 1 to 255",
             ),

@@ -64,13 +64,14 @@ const UNHEEDED: [&str; 5] = [
 
 const SERVER_FRONTS: [&str; 3] = ["group.", "weight.", "observer."];
 
-const SERVER_KEYS: [&str; 7] = [
+const SERVER_KEYS: [&str; 8] = [
     "peerType",
     "standaloneEnabled",
     "electionAlg",
     "quorumListenOnAllIPs",
     "reconfigEnabled",
     "leaderServes",
+    "digest.enabled",
     "version",
 ];
 
@@ -86,11 +87,10 @@ const FILE_KEYS: [&str; 6] = [
 ];
 
 // Switches of what isn't here, where they are off.
-const SWITCHES: [&str; 4] = [
+const SWITCHES: [&str; 3] = [
     "sslQuorum",
     "sessionRequireClientSASLAuth",
     "localSessionsEnabled",
-    "digest.enabled",
 ];
 
 fn begins(text: &str, front: &str) -> bool
@@ -164,8 +164,8 @@ fn asks_for_sasl(key: &str, value: &str) -> bool
         || (is_sasl_switch(key) && !is_off(value))
 }
 
-/// Why a key with this value is refused: it asks for security that isn't here, for sessions or a leader's packets that
-/// aren't, or can't be read. Returns None if it isn't refused.
+/// Why a key with this value is refused: it asks for security or sessions that aren't here, or can't be read. Returns
+/// None if it isn't refused.
 pub(crate) fn reason_of(key: &str, value: &str) -> Option<Reason>
     ensures { result ≡ reason_of key.now value.now }
 {
@@ -180,9 +180,6 @@ pub(crate) fn reason_of(key: &str, value: &str) -> Option<Reason>
     }
     if key == "localSessionsEnabled" && !is_off(value) {
         return Some(Reason::LocalSessions);
-    }
-    if key == "digest.enabled" && !is_off(value) {
-        return Some(Reason::Digests);
     }
     None
 }

@@ -63,7 +63,6 @@ fn what_would_drop_security_is_refused(rt: HostRuntime) -> Result<(), Fail> {
         ("quorum.auth.enableSasl=true", Reason::Sasl),
         ("authProvider.1=org.example.Provider", Reason::Sasl),
         ("localSessionsEnabled=true", Reason::LocalSessions),
-        ("digest.enabled=true", Reason::Digests),
         ("dataDir=C\\:\\\\zookeeper", Reason::Escape),
         ("ssl\\u0051uorum=true", Reason::Escape),
     ] {
@@ -90,6 +89,7 @@ fn keys_mean_what_they_mean_to_an_observer(rt: HostRuntime) -> Result<(), Fail> 
         ),
         ("sslQuorum", "false", Meaning::Idle),
         ("digest.enabled", "false", Meaning::Idle),
+        ("digest.enabled", "true", Meaning::Idle),
         ("quorum.auth.enableSasl", "false", Meaning::Idle),
         ("reconfigEnabled", "false", Meaning::Idle),
         ("reconfigEnabled", "true", Meaning::Unheeded),
