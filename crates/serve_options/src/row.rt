@@ -179,7 +179,7 @@ const CONFIG: Row = Row {
     value: "FILE",
     kind: Kind::File,
     without: Without::Meaning("no file is read"),
-    help: "takes what the `zoo.cfg` of the ensemble sets, where no option does",
+    help: "takes from the ensemble's `zoo.cfg` what no option sets",
 };
 
 const CHECK_CONFIG: Row = Row {
@@ -242,8 +242,10 @@ const SECRET_FILE: Row = Row {
     word: "--secret-file",
     value: "FILE",
     kind: Kind::File,
-    without: Without::Meaning("as ZooKeeper's own servers make them; in dialect 3.4 of no secret"),
-    help: "makes the passwords of sessions of the 1 to 64 bytes in this file, which others can't read",
+    without: Without::Meaning(
+        "as ZooKeeper's own servers make them; in dialect 3.4 from no secret",
+    ),
+    help: "makes the passwords of sessions from the 1 to 64 bytes of this file, which others must not be able to read",
 };
 
 const SUPER_DIGEST: Row = Row {
@@ -251,7 +253,7 @@ const SUPER_DIGEST: Row = Row {
     value: "USER:HASH",
     kind: Kind::Digest,
     without: Without::Meaning("there is no super user"),
-    help: "makes the super user of who knows the password of this digest, whom every access list lets in",
+    help: "whoever shows the password of this digest is the super user, whom every access list lets in",
 };
 
 const WORKERS: Row = Row {
