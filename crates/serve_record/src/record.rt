@@ -130,13 +130,22 @@ fn put_secret(out: &mut Vec<u8>, secret: &[u8]) -> Result<(), NoMemory>
     put(out, b"\n")
 }
 
+// Appends the lines of the settings that every observer has, and of the bounds of timeouts.
+fn put_bounded(out: &mut Vec<u8>, settings: &Settings) -> Result<(), NoMemory>
+    ensures { OnOk result ((release : List ℕ) × (dialect_of release ≡ Some settings.now.dialect)
+        × (out.new.items ≡ out.old.items
+            ++ (number_lines settings.now release ++ timeouts_line settings.now.timeouts))) }
+{
+    put_numbers(out, settings)?;
+    put_timeouts(out, settings.timeouts)
+}
+
 // Appends the lines of settings.
 fn put_settings(out: &mut Vec<u8>, settings: &Settings) -> Result<(), NoMemory>
     ensures { OnOk result ((lines : List ℕ) × AreLinesOf settings.now lines
         × (out.new.items ≡ out.old.items ++ lines)) }
 {
-    put_numbers(out, settings)?;
-    put_timeouts(out, settings.timeouts)?;
+    put_bounded(out, settings)?;
     put_secret(out, settings.secret.as_slice())?;
     put_super(out, settings)
 }
