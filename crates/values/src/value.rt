@@ -79,7 +79,7 @@ enum StoredText {
 }
 
 /// A text that owns its bytes, which are UTF-8. Up to 30 take no block of memory.
-#[derive(Debug, Drop)]
+#[derive(Debug)]
 pub struct Text {
     stored: StoredText,
 }
@@ -123,6 +123,14 @@ impl Text {
             },
             StoredText::Long(text) => text.as_str(),
         }
+    }
+}
+
+// By hand, so that what drops a text calls this, and doesn't branch on its form.
+impl Drop for Text {
+    fn drop(self) {
+        let Text { stored } = self;
+        drop(stored);
     }
 }
 
@@ -203,7 +211,7 @@ enum Stored {
 }
 
 /// Owned bytes. Up to 30 take no block of memory.
-#[derive(Debug, Drop)]
+#[derive(Debug)]
 pub struct Blob {
     stored: Stored,
 }
@@ -281,6 +289,14 @@ impl Blob {
             Stored::Short(len, bytes) => &bytes[..usize::from(*len)],
             Stored::Long(bytes) => bytes.as_slice(),
         }
+    }
+}
+
+// By hand, as that of `Text`.
+impl Drop for Blob {
+    fn drop(self) {
+        let Blob { stored } = self;
+        drop(stored);
     }
 }
 
