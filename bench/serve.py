@@ -241,14 +241,13 @@ class Figures:
         error = 1.25 * statistics.stdev(found) / math.sqrt(len(found))
         return middle, f"{name}: {middle:.3f} in the middle of {len(found)}, give or take {error:.3f}"
 
-    def tell_middle(self, name):
-        print(f"      {self.middle(name)[1]}", flush=True)
-
-    def judge_middle(self, name, most):
+    def judge_middle(self, name, least=None, most=None):
         """Prints the middle of many figures, how far it may be off, and its bound."""
         middle, shown = self.middle(name)
-        print(f"{'PASS' if middle <= most else 'FAIL'}  {shown} (at most {most})", flush=True)
-        self.passes.append(middle <= most)
+        passes = middle >= least if least is not None else middle <= most
+        bound = f"at least {least}" if least is not None else f"at most {most}"
+        print(f"{'PASS' if passes else 'FAIL'}  {shown} ({bound})", flush=True)
+        self.passes.append(passes)
 
 
 def sync(server, tools, options, figures):
@@ -364,9 +363,9 @@ class Asking:
 
 def words(server, tools, options, figures):
     """Reads with many watches set, while mntr is asked and while the echo is asked as often, so that what asking takes
-    of the same processors is in both. What else the machine does changes a rate by more than the words can: so the
-    processor's time that the server takes for mntr, the kernel's for it included, is judged against that for getDatas,
-    and of many short rounds the middle ratio of the rates is told."""
+    of the same processors is in both. What else the machine does changes a rate by more than the words can: so there are
+    many short rounds, of which the middle ratio is judged, and besides the processor's time that the server takes for an
+    mntr while nothing else is asked, the kernel's for it included, against that for getDatas."""
     with Watcher(server.port, WATCHES), Kept(tools.echo, WORDS_ANSWER) as echo:
         before = server.processor()
         for _ in range(ALONE):
@@ -390,7 +389,7 @@ def words(server, tools, options, figures):
     for name in asked:
         figures.tell(f"{name} a second", "{:,.0f}")
         figures.tell(f"getDatas a second, beside {name}", "{:,.0f}")
-    figures.tell_middle("getDatas beside mntr against beside the echo")
+    figures.judge_middle("getDatas beside mntr against beside the echo", least=0.98)
     figures.tell("microseconds of the processor for an mntr", "{:.0f}")
     figures.judge_middle(f"of what getDatas take of the processor, {ASKED} mntr a second take", most=0.02)
 

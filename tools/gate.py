@@ -4,9 +4,10 @@
     tools/gate.py            as `rt ci` at the top of the repository: the same output and exit status
 
 `rt` of rattle-kit-13b sums up a crate's sources, and those of all below it, anew for each way in which one crate uses
-another. For the crates of crates.txt that is a million times, which takes over an hour of one processor, most of it
-before and after the last proofs. The sources don't change while the gate runs, so here each sum is kept once it is made.
-Nothing else of `rt` is touched. A toolchain whose `rt` is made otherwise runs as it is.
+another. For the crates of crates.txt that is over a million times, by count; at the 3 ms that a sum took where it was
+measured it would be an hour or more of one processor, which nobody has waited for. The sources don't change while the
+gate runs, so here each sum is kept once it is made. Nothing else of `rt` is touched: no proof, edit or test is left out.
+A toolchain whose `rt` is made otherwise runs as it is.
 """
 import importlib.machinery
 import importlib.util
