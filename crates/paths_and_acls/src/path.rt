@@ -8,20 +8,20 @@ ghost use Rattle.paths_and_acls.specs.Paths.{are_names, is_path, is_child_path, 
 use jute::{WriteRecord, put_string};
 use std::alloc::Global;
 use std::marker::Model;
-use values::{Fault, NoMemory, ReadError};
+use values::{Fault, NoMemory, ReadError, Text};
 
 /// A path of a node: "/", or non-empty names without NUL, each after a slash (ZooKeeper Programmer's Guide).
 #[derive(Clone, Debug, Drop)]
 pub struct Path {
-    text: String,
+    text: Text,
 }
 
 impl Model for Path {
     ghost Value = { List ℕ };
 
-    ghost view = { λ p. string_bytes p.text };
+    ghost view = { λ p. p.text };
 
-    ghost invariant = { λ p. IsTrue (is_path (string_bytes p.text)) };
+    ghost invariant = { λ p. IsTrue (is_path p.text) };
 }
 
 // Whether a text is names between slashes.
@@ -102,7 +102,7 @@ impl Path {
             return Err(ReadError::Fault(Fault::BadPath));
         }
         Ok(Path {
-            text: String::from_str(alloc, text)?,
+            text: Text::new(alloc, text)?,
         })
     }
 
@@ -115,7 +115,7 @@ impl Path {
             return Err(ReadError::Fault(Fault::BadPath));
         }
         Ok(Path {
-            text: String::from_str(alloc, text)?,
+            text: Text::new(alloc, text)?,
         })
     }
 
@@ -125,7 +125,7 @@ impl Path {
     {
         if is_child_path(text.as_bytes()) {
             return Ok(Some(Path {
-                text: String::from_str(alloc, text)?,
+                text: Text::new(alloc, text)?,
             }));
         }
         Ok(None)

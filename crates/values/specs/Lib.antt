@@ -2,4 +2,5 @@ pub mod Faults
 pub mod Gains
 pub mod Hex
 pub mod Maybe
+pub mod Stored
 pub mod TextOrder

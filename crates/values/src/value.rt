@@ -1,11 +1,11 @@
 //! Texts, bytes and lists; the model of each is the list of its elements.
 
-ghost use Rattle.std.specs.Prelude.{◌≡◌, ◌↔◌, List, [], ℕ, nat_eq, length, IfOk, OnOk, OnErr, IsTrue, string_bytes};
+ghost use Rattle.std.specs.Prelude.{◌≡◌, ◌↔◌, List, [], ℕ, nat_eq, length, IfOk, IfSome, OnOk, OnErr, IsTrue, string_bytes};
 ghost use Rattle.std.specs.Cmp.{partial_equiv_from_equiv};
 ghost use Rattle.std.specs.Cmp.Lexicographic.{pointwise, lists_per, lists_equiv, nat_list_eq_equiv};
 
 use crate::fault::NoMemory;
-use std::alloc::Global;
+use std::alloc::{AllocError, Global};
 use std::marker::Model;
 
 /// A list of values.
@@ -68,16 +68,31 @@ impl<T: Eq> Eq for Listed<T> {
     ghost laws = { lists_equiv T.Eq.laws };
 }
 
-/// A text that owns its bytes, which are UTF-8.
-#[derive(Clone, Debug, Drop)]
+// How many bytes lie in a `Text` or a `Blob` itself.
+const SHORT: usize = 30;
+
+// Where a `Text` has its bytes: the first ones of a few, or a block of memory.
+#[derive(Debug, Drop)]
+enum StoredText {
+    Short(u8, [u8; SHORT]),
+    Long(String),
+}
+
+/// A text that owns its bytes, which are UTF-8. Up to 30 take no block of memory.
+#[derive(Debug)]
 pub struct Text {
-    text: String,
+    stored: StoredText,
 }
 
 impl Model for Text {
+    ghost use Rattle.std.specs.Prelude.{List, ℕ};
+    ghost use Rattle.values.specs.Stored.{stored_text, IsStoredText};
+
     ghost Value = { List ℕ };
 
-    ghost view = { λ t. string_bytes t.text };
+    ghost view = { λ t. stored_text t.stored };
+
+    ghost invariant = { λ t. IsStoredText t.stored };
 }
 
 impl Text {
@@ -85,15 +100,52 @@ impl Text {
     pub fn new(alloc: Global, text: &str) -> Result<Text, NoMemory>
         ensures { IfOk result (λ t. t ≡ text.now) }
     {
+        let bytes = text.as_bytes();
+        if bytes.len() > SHORT {
+            return Ok(Text {
+                stored: StoredText::Long(String::from_str(alloc, text)?),
+            });
+        }
+        let mut room = [0; SHORT];
+        room[..bytes.len()].copy_from_slice(bytes);
         Ok(Text {
-            text: String::from_str(alloc, text)?,
+            stored: StoredText::Short(bytes.len() as u8, room),
         })
     }
 
     pub fn as_str(&self) -> &str
         ensures { result.now ≡ self.now }
     {
-        self.text.as_str()
+        match &self.stored {
+            // The bytes are a text's, so they are UTF-8.
+            StoredText::Short(len, bytes) => unsafe {
+                str::from_utf8_unchecked(&bytes[..usize::from(*len)])
+            },
+            StoredText::Long(text) => text.as_str(),
+        }
+    }
+}
+
+// By hand, so that what drops a text calls this, and doesn't branch on its form.
+impl Drop for Text {
+    fn drop(self) {
+        let Text { stored } = self;
+        drop(stored);
+    }
+}
+
+impl Clone for Text {
+    ghost is_clone = { λ x y. y ≡ x };
+
+    fn clone(&self) -> Result<Text, AllocError> {
+        match &self.stored {
+            StoredText::Short(len, bytes) => Ok(Text {
+                stored: StoredText::Short(*len, *bytes),
+            }),
+            StoredText::Long(text) => Ok(Text {
+                stored: StoredText::Long(text.clone()?),
+            }),
+        }
     }
 }
 
@@ -151,33 +203,67 @@ impl<'a> Eq for Str<'a> {
     ghost laws = { nat_list_eq_equiv };
 }
 
-/// Owned bytes.
-#[derive(Clone, Debug, Drop)]
+// Where a `Blob` has its bytes: the first ones of a few, or a block of memory.
+#[derive(Debug, Drop)]
+enum Stored {
+    Short(u8, [u8; SHORT]),
+    Long(Vec<u8>),
+}
+
+/// Owned bytes. Up to 30 take no block of memory.
+#[derive(Debug)]
 pub struct Blob {
-    bytes: Vec<u8>,
+    stored: Stored,
 }
 
 impl Model for Blob {
+    ghost use Rattle.std.specs.Prelude.{List, ℕ};
+    ghost use Rattle.values.specs.Stored.{stored_bytes, IsStored};
+
     ghost Value = { List ℕ };
 
-    ghost view = { λ b. b.bytes.items };
+    ghost view = { λ b. stored_bytes b.stored };
+
+    ghost invariant = { λ b. IsStored b.stored };
 }
 
 impl Blob {
+    // The bytes in the value itself, if they are few.
+    fn short(bytes: &[u8]) -> Option<Blob>
+        ensures { IfSome result (λ b. b ≡ bytes.now) }
+    {
+        if bytes.len() > SHORT {
+            return None;
+        }
+        let mut room = [0; SHORT];
+        room[..bytes.len()].copy_from_slice(bytes);
+        Some(Blob {
+            stored: Stored::Short(bytes.len() as u8, room),
+        })
+    }
+
     /// The bytes of the vector.
     pub fn from_vec(bytes: Vec<u8>) -> Blob
         ensures { result ≡ bytes.items }
     {
-        Blob { bytes }
+        match Blob::short(bytes.as_slice()) {
+            Some(short) => short,
+            None => Blob {
+                stored: Stored::Long(bytes),
+            },
+        }
     }
 
     /// A copy of the bytes. Fails only if an allocation is refused.
     pub fn new(alloc: Global, bytes: &[u8]) -> Result<Blob, NoMemory>
         ensures { IfOk result (λ b. b ≡ bytes.now) }
     {
-        Ok(Blob {
-            bytes: Vec::from_slice(alloc, bytes)?,
-        })
+        match Blob::short(bytes) {
+            Some(short) => Ok(short),
+            None => Ok(Blob {
+                stored: Stored::Long(Vec::from_slice(alloc, bytes)?),
+            }),
+        }
     }
 
     /// Makes this a copy of the other. It reuses its memory if both are equally long. A refused allocation changes
@@ -186,18 +272,46 @@ impl Blob {
         ensures ok { OnOk result (self.new ≡ other.now) }
         ensures err { OnErr result (self.new ≡ self.old) }
     {
-        if self.bytes.len() == other.bytes.len() {
-            self.bytes.as_mut_slice().copy_from_slice(other.as_slice());
-        } else {
-            *self = other.clone()?;
+        if let Stored::Long(bytes) = &mut self.stored {
+            if bytes.len() == other.as_slice().len() {
+                bytes.as_mut_slice().copy_from_slice(other.as_slice());
+                return Ok(());
+            }
         }
+        *self = other.clone()?;
         Ok(())
     }
 
     pub fn as_slice(&self) -> &[u8]
         ensures { result.now ≡ self.now }
     {
-        self.bytes.as_slice()
+        match &self.stored {
+            Stored::Short(len, bytes) => &bytes[..usize::from(*len)],
+            Stored::Long(bytes) => bytes.as_slice(),
+        }
+    }
+}
+
+// By hand, as that of `Text`.
+impl Drop for Blob {
+    fn drop(self) {
+        let Blob { stored } = self;
+        drop(stored);
+    }
+}
+
+impl Clone for Blob {
+    ghost is_clone = { λ x y. y ≡ x };
+
+    fn clone(&self) -> Result<Blob, AllocError> {
+        match &self.stored {
+            Stored::Short(len, bytes) => Ok(Blob {
+                stored: Stored::Short(*len, *bytes),
+            }),
+            Stored::Long(bytes) => Ok(Blob {
+                stored: Stored::Long(bytes.clone()?),
+            }),
+        }
     }
 }
 
