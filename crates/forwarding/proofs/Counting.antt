@@ -1,6 +1,7 @@
 -- The places of connections in the list of syncs.
-use Rattle.std.proofs.Common.{◌≡◌, ◌≢◌, ℕ, suc, ◌==◌, Bool, true, false, cond, List, [], ◌∷◌, ◌++◌, map, length, Option, Some, None, refl, sym, ap, ◌∙◌, arith}
+use Rattle.std.proofs.Common.{◌≡◌, ◌≢◌, ℕ, zero, suc, ◌==◌, Bool, true, false, cond, List, [], ◌∷◌, ◌++◌, map, length, get_or, Option, Some, None, refl, sym, ap, ◌∙◌, arith}
 use Rattle.std.proofs.lemmas.Bool.{eqb-true, eqb-false}
+use Rattle.values.proofs.Keyed.{some-some}
 use Rattle.forwarding.specs.Pending.{without_owner}
 use Rattle.forwarding.specs.Agreement.{places_of}
 
@@ -77,6 +78,16 @@ dropped_elsewhere n m (Some k ∷ rest) apart =
 pub dropped_length : (n : ℕ) (syncs : List (Option ℕ)) → length (map (without_owner n) syncs) ≡ length syncs
 dropped_length n [] = refl
 dropped_length n (x ∷ rest) = ap suc (dropped_length n rest)
+
+-- The place of another connection stays where it is.
+pub dropped_in_place : (n m : ℕ) (syncs : List (Option ℕ)) (place : ℕ) → m ≢ n → get_or syncs place None ≡ Some m
+    → get_or (map (without_owner n) syncs) place None ≡ Some m
+dropped_in_place n m [] place apart e = e
+dropped_in_place n m (None ∷ rest) zero apart e = e
+dropped_in_place n m (Some k ∷ rest) zero apart e =
+    let same : k ≡ m = some-some e in
+    ap (λ b. cond b None (Some k)) (other_number n k (λ f. apart (sym same ∙ sym f))) ∙ e
+dropped_in_place n m (x ∷ rest) (suc place) apart e = dropped_in_place n m rest place apart e
 
 -- A connection without a place changes nothing.
 pub dropped_nothing : (n : ℕ) (syncs : List (Option ℕ)) → places_of n syncs ≡ 0 → map (without_owner n) syncs ≡ syncs

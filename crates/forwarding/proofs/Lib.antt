@@ -24,6 +24,8 @@ pub mod Answered
 pub mod Ordered
 -- A connection that goes.
 pub mod Dropping
+-- Nothing waits of a connection that went.
+pub mod Forgotten
 -- Calls that may be refused.
 pub mod Results
 -- The rows that were worked out by hand.

@@ -14,7 +14,7 @@ use Rattle.forwarding.specs.Laws.{IsOf, LeavesWithFrames, RequestsKeepOrder, IsS
 use Rattle.std.proofs.lemmas.Option.{none-some}
 use Rattle.values.proofs.Keyed.{some-some}
 use Rattle.forwarding.proofs.Changing.{queue_put, queue_inserted, put_same}
-use Rattle.forwarding.proofs.Counting.{taken_here, dropped_here, dropped_length}
+use Rattle.forwarding.proofs.Counting.{taken_here, dropped_here, dropped_length, dropped_in_place}
 use Rattle.forwarding.proofs.Answered.{settled_in}
 
 -- ---- what is taken stands in front
@@ -102,6 +102,7 @@ syncs_keep_order = record {
   settles_of = settles_of;
   settles_gone = λ s rest e. ap (λ syncs. (settle_first s syncs).settled) e;
   drops = λ s n. dropped_length n s.syncs;
+  others_in_place = λ s n m place apart e. dropped_in_place n m s.syncs place apart e;
   stay_dropped = λ s n. dropped_here n s.syncs;
 }
 

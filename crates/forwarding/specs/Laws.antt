@@ -1,5 +1,5 @@
 -- What holds for each call, with any requests that agree.
-use Rattle.std.specs.Prelude.{◌≡◌, ◌≢◌, ℕ, ℤ, List, [], ◌∷◌, ◌++◌, Option, None, Some, true, false, drop, length}
+use Rattle.std.specs.Prelude.{◌≡◌, ◌≢◌, ℕ, ℤ, List, [], ◌∷◌, ◌++◌, Option, None, Some, true, false, drop, length, slice_index_or}
 use Rattle.std.specs.List.{list_any}
 use Rattle.forwarding.specs.declared.request.WriteKind.{WriteKind}
 use Rattle.forwarding.specs.declared.request.ConnectKind.{ConnectKind}
@@ -143,7 +143,8 @@ pub record IsSettledIn (q new : RequestQueue) : Type 0 where
   pub settled : new ≡ before ++ settled_request sync ∷ later
 
 -- Syncs are settled in the order in which they were pushed, across connections: a sync goes after all others in the
--- list, the one in front is settled, and the place of one whose connection has gone stays.
+-- list, and the one in front is settled. The places of a connection that goes stay, as nobody's, so those of the others
+-- are where they were.
 pub record SyncsKeepOrder : Type 0 where
   pub pushes : (s : PendingTable) (n : ℕ) (xid : ℤ) (path : List ℕ)
       → (push_sync s n xid path).syncs ≡ s.syncs ++ Some n ∷ []
@@ -153,7 +154,25 @@ pub record SyncsKeepOrder : Type 0 where
   pub settles_gone : (s : PendingTable) (rest : List (Option ℕ)) → s.syncs ≡ None ∷ rest
       → (settle_sync s).settled ≡ Gone
   pub drops : (s : PendingTable) (n : ℕ) → length (drop_connection s n).syncs ≡ length s.syncs
+  pub others_in_place : (s : PendingTable) (n m place : ℕ) → m ≢ n → slice_index_or s.syncs place None ≡ Some m
+      → slice_index_or (drop_connection s n).syncs place None ≡ Some m
   pub stay_dropped : (s : PendingTable) (n : ℕ) → places_of n (drop_connection s n).syncs ≡ 0
+
+-- ---- connections that go
+
+-- The connection has no request, no place in the list of syncs, and no connect that waits.
+pub record IsForgotten (n : ℕ) (s : PendingTable) : Type 0 where
+  pub requests : queue_of s n ≡ []
+  pub places : places_of n s.syncs ≡ 0
+  pub connects : (session : ℤ) → connecting_to s session ≢ Some n
+
+-- A connection that goes is forgotten, and so is one whose connect is taken; no other waits for that session then.
+pub record GoneConnectionsAreForgotten : Type 0 where
+  pub drops : (s : PendingTable) (n : ℕ) → PendingAgrees s → IsForgotten n (drop_connection s n)
+  pub takes_connect : (s : PendingTable) (n : ℕ) (c : PendingConnect) → PendingAgrees s
+      → (take_connect s n).connect ≡ Some c → IsForgotten n (take_connect s n).after
+  pub frees_session : (s : PendingTable) (n : ℕ) (c : PendingConnect) → PendingAgrees s
+      → (take_connect s n).connect ≡ Some c → connecting_to (take_connect s n).after c.session ≡ None
 
 -- ---- nothing waits in vain
 

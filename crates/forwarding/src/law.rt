@@ -1,6 +1,6 @@
 //! Laws of what is pending. Each is the contract of a function that does nothing.
 
-ghost use Rattle.forwarding.specs.Laws.{PendingAgreementIsKept, OtherQueuesStay, EmptinessIsTold, AnswersAreMatched, ConnectsAreFound, RequestsKeepOrder, SyncsKeepOrder, NothingWaitsInVain};
+ghost use Rattle.forwarding.specs.Laws.{PendingAgreementIsKept, OtherQueuesStay, EmptinessIsTold, AnswersAreMatched, ConnectsAreFound, RequestsKeepOrder, SyncsKeepOrder, GoneConnectionsAreForgotten, NothingWaitsInVain};
 ghost use Rattle.forwarding.specs.Rows.{WorkedRows};
 
 /// Requests, syncs and waiting connects agree from the start on: a connect stands in front of its connection's
@@ -35,6 +35,11 @@ pub fn connects_are_found()
 pub fn order_is_kept()
     ensures requests { RequestsKeepOrder }
     ensures syncs { SyncsKeepOrder }
+{}
+
+/// Of a connection that goes, or whose connect is taken, nothing waits any more.
+pub fn gone_connections_are_forgotten()
+    ensures { GoneConnectionsAreForgotten }
 {}
 
 /// What isn't ready waits for the leader.

@@ -28,8 +28,9 @@ mod timeouts;
 mod touched;
 
 pub use law::{
-    answers_are_matched, connects_are_found, emptiness_is_told, nothing_waits_in_vain,
-    order_is_kept, other_connections_stay, requests_and_syncs_agree, worked_rows,
+    answers_are_matched, connects_are_found, emptiness_is_told, gone_connections_are_forgotten,
+    nothing_waits_in_vain, order_is_kept, other_connections_stay, requests_and_syncs_agree,
+    worked_rows,
 };
 pub use queue::PENDING_LIMIT;
 pub use request::{
