@@ -81,12 +81,27 @@ def test_what_a_file_would_do():
             f"{name}:14: skipACL isn't heeded",
             "observer serve --servers zk1:2888,zk2:2888,zk3:2889 --client 127.0.0.1:0 --id 1 --dialect 3.8"
             " --workers 4 --batch 256 --max-per-address 7 --tick 2000 --init-limit 10 --sync-limit 5 --checkpoint 64"
-            " --max-under-way 64 --max-watches 500000 --unconnected 10 --words isro,srvr,stat",
+            " --min-session-timeout 4000 --max-session-timeout 40000 --max-under-way 64 --max-watches 500000"
+            " --unconnected 10 --words isro,srvr,stat",
         ], out
     with file_of(text_of(*lines, "tickTimes=1")) as name:
         status, out, told = commands.run("--check-config", name)
         assert status == 2 and f"{name}:15: tickTimes is unknown" in out.splitlines(), (status, out)
         assert told.splitlines() == [f"observer: {name}:15: unknown key", "usage"], told
+
+
+def test_timeouts():
+    """The bounds of timeouts: of the file, of an option, and of the tick; -1 in a file is as without the key."""
+    for lines, words, least, greatest in (
+        (["minSessionTimeout=5000", "maxSessionTimeout=60000"], [], 5000, 60000),
+        (["minSessionTimeout=5000", "maxSessionTimeout=60000"], ["--min-session-timeout", "60000"], 60000, 60000),
+        (["minSessionTimeout=5000", "maxSessionTimeout=-1"], ["--tick", "3600000"], 5000, 72000000),
+        (["minSessionTimeout=-1", "tickTime=300"], [], 600, 6000),
+    ):
+        with file_of(text_of("server.7=zk1:2888:3888", *lines)) as name:
+            status, out, told = commands.run("--check-config", name, *words)
+        assert (status, told) == (0, ""), (status, told)
+        assert f" --min-session-timeout {least} --max-session-timeout {greatest} " in out, (lines, words, out)
 
 
 def test_metrics():
@@ -123,6 +138,8 @@ BAD = [
     ("dataLogDir=C:\\\\zookeeper", "11: escapes aren't read"),
     ("server.9=zk1", "11: server.N="),
     ("tickTime=0", " --tick 0: 1 to 3600000"),
+    ("minSessionTimeout=0", " --min-session-timeout 0: 1 to 2147483647"),
+    ("minSessionTimeout=40001", " --min-session-timeout 40001 is above --max-session-timeout 40000"),
     ("clientPort=x", " --client 127.0.0.1:x: PORT or HOST:PORT"),
     (
         "metricsProvider.httpPort=x\nmetricsProvider.className=org.apache.zookeeper.metrics.prometheus.PrometheusMetricsProvider",

@@ -162,7 +162,7 @@ def test_descriptors():
 def test_settings_and_version():
     with Server("--max-per-address", "7", "--tick", "500", "--dialect", "3.4") as server:
         assert server.word(b"conf").decode() == (
-            f"clientPort={server.port}\ntickTime=500\nmaxClientCnxns=7\nminSessionTimeout=4000\nmaxSessionTimeout=40000\n"
+            f"clientPort={server.port}\ntickTime=500\nmaxClientCnxns=7\nminSessionTimeout=1000\nmaxSessionTimeout=10000\n"
             "serverId=1\ninitLimit=10\nsyncLimit=5\npeerType=1\n"
         )
         assert re.fullmatch(r"Environment:\nzookeeper\.version=3\.4\.14-kezhundam-\S+\n", server.word(b"envi").decode())

@@ -26,6 +26,18 @@ impl<'a> FileLines<'a> {
     }
 }
 
+// Whether what is wrong is in the file: none of the words says it.
+fn is_in_file(words: &[String], error: &OptionError<'_>) -> bool {
+    match error {
+        OptionError::Invalid { name, .. } => value_given(words, *name).is_none(),
+        OptionError::CrossedTimeouts { .. } => {
+            value_given(words, Name::MinSessionTimeout).is_none()
+                && value_given(words, Name::MaxSessionTimeout).is_none()
+        }
+        _ => false,
+    }
+}
+
 /// A file that was read, and what it sets.
 #[derive(Drop)]
 pub struct ReadFile<'a> {
@@ -153,10 +165,9 @@ impl<'a> ReadFile<'a> {
 
     // What is wrong with the options: with a value that is in the file, or with the words.
     fn failure(&self, alloc: Global, words: &[String], error: &OptionError<'_>) -> Failure {
-        match error {
-            OptionError::Invalid { name, .. } if value_given(words, *name).is_none() =>
-                Failure::in_file(alloc, self.name, 0, error),
-            _ => Failure::of_options(alloc, error),
+        if is_in_file(words, error) {
+            return Failure::in_file(alloc, self.name, 0, error);
         }
+        Failure::of_options(alloc, error)
     }
 }

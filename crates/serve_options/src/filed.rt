@@ -25,10 +25,12 @@ pub struct Filed {
 }
 
 // The options that are set by one key each.
-const KEYS: [(&str, Name); 6] = [
+const KEYS: [(&str, Name); 8] = [
     ("tickTime", Name::Tick),
     ("initLimit", Name::InitLimit),
     ("syncLimit", Name::SyncLimit),
+    ("minSessionTimeout", Name::MinSessionTimeout),
+    ("maxSessionTimeout", Name::MaxSessionTimeout),
     ("maxClientCnxns", Name::MaxPerAddress),
     ("maxCnxns", Name::MaxClients),
     (
@@ -44,12 +46,20 @@ fn put(filed: &mut Vec<Filed>, name: Name, value: String) -> Result<(), AllocErr
     Ok(())
 }
 
-// Sets the options of one key each. No bound is 0 in a file, and not given as an option.
+// How a file may say of a key that it is as without it, where the option isn't given then.
+fn unset(name: Name) -> Option<&'static str> {
+    match name {
+        Name::MaxPerAddress | Name::MaxClients => Some("0"),
+        Name::MinSessionTimeout | Name::MaxSessionTimeout => Some("-1"),
+        _ => None,
+    }
+}
+
+// Sets the options of one key each.
 fn put_keys(alloc: Global, filed: &mut Vec<Filed>, entries: &[Entry]) -> Result<(), AllocError> {
     for (key, name) in KEYS {
-        let is_bound = name == Name::MaxPerAddress || name == Name::MaxClients;
         if let Some(value) = setting_in(entries, key) {
-            if !is_bound || value != "0" {
+            if unset(name) != Some(value) {
                 put(filed, name, String::from_str(alloc, value)?)?;
             }
         }

@@ -56,7 +56,8 @@ is_taken key =
     starts_with nat_eq key (codes "server.")
     || is_one_of
     (codes "dynamicConfigFile" ∷ codes "dataDir" ∷ codes "clientPort" ∷ codes "clientPortAddress" ∷ codes "tickTime"
-    ∷ codes "initLimit" ∷ codes "syncLimit" ∷ codes "maxClientCnxns" ∷ codes "maxCnxns" ∷ codes "4lw.commands.whitelist"
+    ∷ codes "initLimit" ∷ codes "syncLimit" ∷ codes "minSessionTimeout" ∷ codes "maxSessionTimeout"
+    ∷ codes "maxClientCnxns" ∷ codes "maxCnxns" ∷ codes "4lw.commands.whitelist"
     ∷ codes "DigestAuthenticationProvider.superDigest" ∷ [])
     key
 
@@ -83,8 +84,7 @@ abbrev pub is_unheeded : List ℕ → Bool
 is_unheeded key =
     starts_with nat_eq key (codes "metricsProvider.")
     || is_one_of
-    (codes "minSessionTimeout" ∷ codes "maxSessionTimeout" ∷ codes "observerMasterPort" ∷ codes "skipACL"
-    ∷ codes "globalOutstandingLimit" ∷ [])
+    (codes "observerMasterPort" ∷ codes "skipACL" ∷ codes "globalOutstandingLimit" ∷ [])
     key
 
 abbrev pub asks_for_reconfiguration : List ℕ → List ℕ → Bool

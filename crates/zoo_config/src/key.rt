@@ -40,7 +40,7 @@ const SASL_SWITCHES: [&str; 4] = [
     "sessionRequireClientSASLAuth",
 ];
 
-const TAKEN: [&str; 11] = [
+const TAKEN: [&str; 13] = [
     "dynamicConfigFile",
     "dataDir",
     "clientPort",
@@ -48,19 +48,15 @@ const TAKEN: [&str; 11] = [
     "tickTime",
     "initLimit",
     "syncLimit",
+    "minSessionTimeout",
+    "maxSessionTimeout",
     "maxClientCnxns",
     "maxCnxns",
     "4lw.commands.whitelist",
     "DigestAuthenticationProvider.superDigest",
 ];
 
-const UNHEEDED: [&str; 5] = [
-    "minSessionTimeout",
-    "maxSessionTimeout",
-    "observerMasterPort",
-    "skipACL",
-    "globalOutstandingLimit",
-];
+const UNHEEDED: [&str; 3] = ["observerMasterPort", "skipACL", "globalOutstandingLimit"];
 
 const SERVER_FRONTS: [&str; 3] = ["group.", "weight.", "observer."];
 

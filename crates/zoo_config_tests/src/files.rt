@@ -125,7 +125,7 @@ fn whole_files_are_read(rt: HostRuntime) -> Result<(), Fail> {
         sets(
             alloc,
             OPERATED,
-            "--servers zk-0.zk.svc:2888,zk-1.zk.svc:2888;--client 0.0.0.0:2182;--id 101;--tick 2000;--init-limit 10;--sync-limit 2;--max-clients 500;--super-digest super:D/InIHSb7yEEbrWz8b9l71RjZJU=;--words cons,envi,conf,crst,srvr,stat,mntr,ruok;--metrics 0.0.0.0:7000;",
+            "--servers zk-0.zk.svc:2888,zk-1.zk.svc:2888;--client 0.0.0.0:2182;--id 101;--tick 2000;--init-limit 10;--sync-limit 2;--min-session-timeout 4000;--max-session-timeout 40000;--max-clients 500;--super-digest super:D/InIHSb7yEEbrWz8b9l71RjZJU=;--words cons,envi,conf,crst,srvr,stat,mntr,ruok;--metrics 0.0.0.0:7000;",
         )?
     );
     Ok(())
@@ -146,6 +146,19 @@ fn defaults_are_those_of_zookeeper(rt: HostRuntime) -> Result<(), Fail> {
             alloc,
             "4lw.commands.whitelist=*\nclientPort=1\nclientPortAddress=::1\nserver.1=[fe80::1]:2888:3888|b:2889:3889\nserver.1=a:2888:3888|b:2889:3889\n",
             "--servers a:2888,b:2889;--client [::1]:1;--id 101;--tick 3000;--max-per-address 60;--words all;",
+        )?
+    );
+    Ok(())
+}
+
+#[test]
+fn a_timeout_of_minus_one_is_as_without_the_key(rt: HostRuntime) -> Result<(), Fail> {
+    let alloc = rt.alloc();
+    assert!(rt;
+        sets(
+            alloc,
+            "tickTime=500\nminSessionTimeout=-1\nmaxSessionTimeout=9000\nmaxClientCnxns=0\n",
+            "--id 101;--tick 500;--max-session-timeout 9000;--words srvr;",
         )?
     );
     Ok(())

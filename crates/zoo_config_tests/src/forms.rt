@@ -113,7 +113,8 @@ fn keys_mean_what_they_mean_to_an_observer(rt: HostRuntime) -> Result<(), Fail> 
             Meaning::Unheeded,
         ),
         ("metricsProvider.exportJvmInfo", "true", Meaning::Unheeded),
-        ("minSessionTimeout", "4000", Meaning::Unheeded),
+        ("minSessionTimeout", "4000", Meaning::Taken),
+        ("maxSessionTimeout", "-1", Meaning::Taken),
         ("tickTimes", "2000", Meaning::Unknown),
         ("zookeeper.sslQuorum", "true", Meaning::Unknown),
     ] {
