@@ -33,11 +33,7 @@ abbrev pub IsOpenUnless : Bool → Option Machine → Type 0
 IsOpenUnless true engine = Unit {0}
 IsOpenUnless false engine = IsSome engine
 
-<<<<<<< HEAD
--- A slot is given to a port exactly if it is that of an open port.
-=======
 -- The slots that are given out are exactly those of the open ports, each to its own.
->>>>>>> b373bbd38b63d6c73f794c4c513df58c6298e89d
 abbrev pub AreSlotsOf : Links → Slots → Type 0
 AreSlotsOf links slots = (n slot : ℕ) → (port_at slots slot ≡ Some n) ↔ (slot_at links n ≡ Some slot)
 
@@ -46,11 +42,7 @@ pub record IsSoundDesk (closed : Bool) (engine : Option Machine) (links : Links)
   pub is_open : IsOpenUnless closed engine
   -- No port that is yet to come is open.
   pub unused : (n : ℕ) → next ≤ n → finmap.get links n ≡ None
-<<<<<<< HEAD
-  -- No slot is lost, and no two ports have one.
-=======
   -- No slot is lost, and no two ports have the same.
->>>>>>> b373bbd38b63d6c73f794c4c513df58c6298e89d
   pub given : AreSlotsOf links slots
 
 -- The next port is open, and nothing has gone through it.
