@@ -4,6 +4,9 @@
  *       opens CONNECTIONS sessions, keeps DEPTH getDatas under way on each, of nodes /pNN/nNNN chosen by chance, and
  *       prints `rate=R p50=U p99=U max=U all=N`: answers a second, microseconds from a request to its answer, and how
  *       many answers came in all, with those of the first WARM_UP seconds, which the others leave out
+ *   load windows PORT CONNECTIONS DEPTH SECONDS COUNT PARENTS CHILDREN
+ *       does the same for COUNT windows of so many SECONDS, one after the other, and prints `begins=T`, the time by
+ *       CLOCK_MONOTONIC at which the first one begins, and then how many answers came in each, a line a window
  *   load idle PORT CONNECTIONS
  *       opens so many sessions, prints `open`, and keeps them until standard input ends
  *
@@ -215,29 +218,46 @@ static size_t go_on(struct connection *it, size_t depth, int is_counted) {
     return count;
 }
 
-static int read_load(int port, size_t connections, size_t depth, double seconds) {
-    int poll = epoll_create1(0);
+/* Opens sessions with DEPTH requests under way on each. */
+static void begin_all(int poll, int port, size_t connections, size_t depth) {
     struct connection *all = open_all(poll, port, connections, depth);
-    double began = now(), warm = began + WARM_UP;
+    double began = now();
     for (size_t k = 0; k < connections; k++) {
         for (size_t turn = 0; turn < depth; turn++) all[k].asked[turn] = began;
         ask(&all[k]);
     }
-    size_t count = 0, before = 0;
-    double at = began;
-    for (int is_counted = 0; !is_counted || at < warm + seconds; at = now()) {
-        if (!is_counted && at >= warm) {
-            is_counted = 1;
-            warm = at;
-            before = count;
-            count = 0;
-        }
+}
+
+/* Goes on with all connections until that time. Returns how many answers came. */
+static size_t go_on_until(double end, int poll, size_t depth, int is_counted) {
+    size_t count = 0;
+    while (now() < end) {
         struct epoll_event events[64];
         int ready = epoll_wait(poll, events, 64, 1000 * DEADLINE);
         if (!ready) fail("no answer for too long");
         for (int k = 0; k < ready; k++) count += go_on(events[k].data.ptr, depth, is_counted);
     }
-    print_figures(count, at - warm, before + count);
+    return count;
+}
+
+static int read_load(int port, size_t connections, size_t depth, double seconds) {
+    int poll = epoll_create1(0);
+    begin_all(poll, port, connections, depth);
+    size_t before = go_on_until(now() + WARM_UP, poll, depth, 0);
+    double warm = now();
+    size_t count = go_on_until(warm + seconds, poll, depth, 1);
+    print_figures(count, now() - warm, before + count);
+    return 0;
+}
+
+static int windows_load(int port, size_t connections, size_t depth, double seconds, size_t windows) {
+    int poll = epoll_create1(0);
+    begin_all(poll, port, connections, depth);
+    go_on_until(now() + WARM_UP, poll, depth, 0);
+    double began = now();
+    printf("begins=%.6f\n", began);
+    fflush(stdout);
+    for (size_t k = 1; k <= windows; k++) printf("%zu\n", go_on_until(began + k * seconds, poll, depth, 0));
     return 0;
 }
 
@@ -466,6 +486,12 @@ int main(int count, char **words) {
         if (!connections || !depth || depth > MOST_DEPTH) return 2;
         make_requests(atoi(words[6]), atoi(words[7]));
         return read_load(atoi(words[2]), connections, depth, atof(words[5]));
+    }
+    if (count == 9 && !strcmp(what, "windows")) {
+        size_t connections = atoi(words[3]), depth = atoi(words[4]);
+        if (!connections || !depth || depth > MOST_DEPTH) return 2;
+        make_requests(atoi(words[7]), atoi(words[8]));
+        return windows_load(atoi(words[2]), connections, depth, atof(words[5]), atoi(words[6]));
     }
     if (count == 7 && !strcmp(what, "create")) {
         read_settings(words[5], "1", words[6]);

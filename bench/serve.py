@@ -18,7 +18,7 @@ does nothing else. Clients are bench/load.c; both are compiled by `cc` into a fo
 
 What is compared takes turns in one run, several times. Other work on the machine shows in all figures, so the machine's
 load is printed first and last, and each figure with the least and the greatest of its rounds. A bound is judged at the
-best round, since other work makes a round worse and never better; that of mntr at the middle of many short rounds
+best round, since other work makes a round worse and never better; that of mntr at the middle of many short windows
 (bench/counted.py counts what the program itself takes for it). The exit status is 0 if all bounds are met.
 """
 import argparse
@@ -46,8 +46,8 @@ HERE = pathlib.Path(__file__).resolve().parent
 PARENTS, CHILDREN, SETS, CONTENT, LONG_CONTENT = 100, 1000, 1_000_000, 16, 100
 CLIENTS, DEPTH = 8, 100
 WATCHES, ASKED, GET_DATA = 10_000, 100, 4
-# Rounds of so many seconds, after those that bench/load.c leaves out; how many of them make a round of others.
-SHORT, WARM_UP, SHORT_ROUNDS = 0.5, 0.3, 20
+# What is asked changes from window to window. A window has so many seconds; how many fours of them make a round.
+WINDOW, FOURS = 0.25, 20
 # A reply's header, a length, the data and a Stat.
 ANSWER = 16 + 4 + LONG_CONTENT + 68
 # About as many bytes as mntr is answered with.
@@ -182,9 +182,9 @@ class Tools:
             source = HERE / f"{it.name}.c"
             subprocess.run(["cc", "-O2", "-o", str(it), str(source)], check=True)
 
-    def read(self, port, clients, depth, options, seconds=None):
+    def read(self, port, clients, depth, options):
         """Returns the answers a second, and the microseconds of the middle one and of the last hundredth."""
-        numbers = (port, clients, depth, seconds or options.seconds, PARENTS, options.children)
+        numbers = (port, clients, depth, options.seconds, PARENTS, options.children)
         words = [str(self.load), "read", *(str(it) for it in numbers)]
         done = subprocess.run(words, stdin=subprocess.DEVNULL, stdout=subprocess.PIPE, encoding="ascii", check=True)
         return tuple(float(it) for it in FIGURE.match(done.stdout).groups())
@@ -336,11 +336,18 @@ def ask_echo(port):
             sys.exit("the echo has ended")
 
 
-class Asking:
-    """Asks a server so many times a second, until it is left."""
+def asked_in(window):
+    """Returns what is asked in a window. In each four, whatever slows the machine steadily weighs on both alike."""
+    is_mntr = window % 4 in (1, 2)
+    return "mntr" if is_mntr == (window // 4 % 2 == 0) else "the echo"
 
-    def __init__(self, ask, port, times):
-        self.ask, self.port, self.pause, self.asked = ask, port, 1 / times, 0
+
+class Asking:
+    """Asks so many times a second, from a time on and until it is left, what the windows of it say."""
+
+    def __init__(self, asked, begins, times):
+        self.asked, self.begins, self.pause = asked, begins, 1 / times
+        self.count = dict.fromkeys(asked, 0)
         self.ended = threading.Event()
         self.thread = threading.Thread(target=self.ask_all)
 
@@ -353,45 +360,52 @@ class Asking:
         self.thread.join()
 
     def ask_all(self):
-        due = time.perf_counter()
+        due = self.begins
         while not self.ended.is_set():
-            self.ask(self.port)
-            self.asked += 1
+            time.sleep(max(0, due - time.monotonic()))
+            name = asked_in(int((time.monotonic() - self.begins) / WINDOW))
+            ask, port = self.asked[name]
+            ask(port)
+            self.count[name] += 1
             due += self.pause
-            time.sleep(max(0, due - time.perf_counter()))
 
 
 def words(server, tools, options, figures):
     """Reads with many watches set, while mntr is asked and while the echo is asked as often, so that what asking takes
-    of the same processors is in both. What else the machine does changes a rate by more than the words can: so there are
-    many short rounds, of which the middle ratio is judged, and besides the processor's time that the server takes for an
-    mntr while nothing else is asked, the kernel's for it included, against that for getDatas."""
+    of the same processors is in both. The clients go on all the time; what is asked changes four times a second, and
+    each four of these windows gives a ratio, of which the middle one is judged. Besides, the processor's time that the
+    server takes for an mntr while nothing else is asked, the kernel's for it included, against that for getDatas."""
+    fours = options.rounds * FOURS
     with Watcher(server.port, WATCHES), Kept(tools.echo, WORDS_ANSWER) as echo:
         before = server.processor()
         for _ in range(ALONE):
             ask_mntr(server.port)
         one = (server.processor() - before) / ALONE
-        figures.add("microseconds of the processor for an mntr", 1e6 * one)
         asked = {"the echo": (ask_echo, int(echo.said[1])), "mntr": (ask_mntr, server.port)}
-        for turn in range(options.rounds * SHORT_ROUNDS):
-            rates = {}
-            for name in sorted(asked, reverse=turn % 2 == 0):
-                before = server.processor()
-                with Asking(*asked[name], ASKED) as asking:
-                    rates[name] = tools.read(server.port, CLIENTS, DEPTH, options, SHORT)[0]
-                if name == "the echo":
-                    used = (server.processor() - before) / (SHORT + WARM_UP)
-                    figures.add(f"of what getDatas take of the processor, {ASKED} mntr a second take", ASKED * one / used)
-                figures.add(f"{name} a second", asking.asked / (SHORT + WARM_UP))
-                figures.add(f"getDatas a second, beside {name}", rates[name])
-            figures.add("getDatas beside mntr against beside the echo", rates["mntr"] / rates["the echo"])
+        numbers = (server.port, CLIENTS, DEPTH, WINDOW, 4 * fours, PARENTS, options.children)
+        with Kept(tools.load, "windows", *numbers) as load:
+            before = server.processor()
+            with Asking(asked, float(load.said[0].partition("=")[2]), ASKED) as asking:
+                counts = [int(line) for line in load.ran.stdout]
+            used = server.processor() - before - asking.count["mntr"] * one
+    seconds = 4 * fours * WINDOW
+    figures.add(f"of what getDatas take of the processor, {ASKED} mntr a second take", ASKED * one / (used / seconds))
+    figures.add("microseconds of the processor for an mntr", 1e6 * one)
+    for first in range(0, 4 * fours, 4):
+        came = dict.fromkeys(asked, 0)
+        for window in range(first, first + 4):
+            came[asked_in(window)] += counts[window]
+        for name in asked:
+            figures.add(f"getDatas a second, beside {name}", came[name] / (2 * WINDOW))
+        figures.add("getDatas beside mntr against beside the echo", came["mntr"] / came["the echo"])
     print(f"{CLIENTS} clients with {DEPTH} getDatas under way each, {WATCHES:,} watches, {ASKED} questions a second")
     for name in asked:
+        figures.add(f"{name} a second", asking.count[name] / (seconds / 2))
         figures.tell(f"{name} a second", "{:,.0f}")
         figures.tell(f"getDatas a second, beside {name}", "{:,.0f}")
     figures.judge_middle("getDatas beside mntr against beside the echo", least=0.98)
     figures.tell("microseconds of the processor for an mntr", "{:.0f}")
-    figures.judge_middle(f"of what getDatas take of the processor, {ASKED} mntr a second take", most=0.02)
+    figures.judge(f"of what getDatas take of the processor, {ASKED} mntr a second take", "{:.4f}", most=0.02)
 
 
 def idle(server, tools, options, figures):

@@ -2,10 +2,12 @@
 it may ask, how much may wait for those that don't read, and how many watches one may leave. And the last words of a
 leader."""
 import fcntl
+import os
 import random
 import re
 import socket
 import struct
+import tempfile
 import termios
 import time
 
@@ -58,6 +60,27 @@ def test_most_clients_of_an_address():
         for it in (second, *others):
             it.close()
         assert "--max-per-address" in server.ends()
+
+
+def test_timeouts_of_sessions():
+    """They are within 2 and 20 ticks, or the options' bounds, which a record tells if they aren't those of a script."""
+    for words, line, granted in (
+        ([], None, [4000, 10_000, 40_000]),
+        (["--tick", "500"], "timeouts 1000 10000", [1000, 10_000, 10_000]),
+        (["--min-session-timeout", "5000"], "timeouts 5000 40000", [5000, 10_000, 40_000]),
+        (["--tick", "500", "--max-session-timeout", "9000"], "timeouts 1000 9000", [1000, 9000, 9000]),
+    ):
+        with tempfile.TemporaryDirectory() as room:
+            name = os.path.join(room, "record")
+            with several.Following([several.Seat()], *words, "--record", name) as server:
+                server.seats[0].accept().leads(1)
+                for asked, timeout in zip((1, 10_000, 2**31 - 1), granted):
+                    with server.connection() as client:
+                        client.sendall(forwarded.Session(0, asked, bytes(16)).connect())
+                        assert forwarded.connected(client).timeout == timeout, (words, asked)
+            with open(name, encoding="ascii") as it:
+                lines = it.read().splitlines()
+            assert [it for it in lines if it.startswith("timeouts")] == ([line] if line else []), (words, lines[:5])
 
 
 def answered(server, word):

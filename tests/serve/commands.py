@@ -67,6 +67,17 @@ BAD = [
     (GOOD + ["--tick", "3600001"], "--tick 3600001: 1 to 3600000"),
     (GOOD + ["--init-limit", "-1"], "--init-limit -1: "),
     (GOOD + ["--sync-limit", "five"], "--sync-limit five: "),
+    (GOOD + ["--min-session-timeout", "0"], "--min-session-timeout 0: 1 to 2147483647"),
+    (GOOD + ["--max-session-timeout", "2147483648"], "--max-session-timeout 2147483648: 1 to 2147483647"),
+    (
+        GOOD + ["--min-session-timeout", "2", "--max-session-timeout", "1"],
+        "--min-session-timeout 2 is above --max-session-timeout 1; without them: 2 and 20 ticks",
+    ),
+    (GOOD + ["--max-session-timeout", "3999"], "--min-session-timeout 4000 is above --max-session-timeout 3999;"),
+    (
+        GOOD + ["--min-session-timeout", "2001", "--tick", "100"],
+        "--min-session-timeout 2001 is above --max-session-timeout 2000;",
+    ),
     (GOOD + ["--checkpoint", "64M"], "--checkpoint 64M: "),
     (GOOD + ["--give-up", "0"], "--give-up 0: "),
     (GOOD + ["--record"], "--record has no value"),

@@ -1,10 +1,12 @@
 """Configuration files: a server that is started by one, what `--check-config` tells, and what is wrong with one."""
 import contextlib
 import os
+import re
 import tempfile
 
 import commands
 import several
+from metrics import free_port
 from several import Following, Seat
 
 FILE = """\
@@ -13,7 +15,7 @@ tickTime=2000
 initLimit=10
 syncLimit = 5
 dataDir={folder}
-clientPort=0
+clientPort={port}
 clientPortAddress=127.0.0.1
 maxClientCnxns: 7
 4lw.commands.whitelist=srvr, isro, \\
@@ -37,7 +39,8 @@ def file_of(text, number=several.ID):
 
 
 def text_of(*others):
-    return FILE.replace("{others}", "\n".join(others)).replace("{id}", str(several.ID))
+    values = {"others": "\n".join(others), "id": str(several.ID), "port": str(free_port())}
+    return re.sub(r"\{(others|id|port)\}", lambda it: values[it[1]], FILE)
 
 
 class ByFile(Following):
@@ -73,20 +76,37 @@ def test_an_option_wins():
 
 def test_what_a_file_would_do():
     lines = ["server.7=zk1:2888:3888", "server.8=zk2:2888:3888|zk3:2889:3889", "digest.enabled=true", "skipACL=yes"]
-    with file_of(text_of(*lines)) as name:
+    text = text_of(*lines)
+    port = re.search("clientPort=([0-9]+)", text)[1]
+    with file_of(text) as name:
         status, out, told = commands.run("--check-config", name)
         assert (status, told) == (0, ""), (status, told)
         assert out.splitlines() == [
             f"{name}:13: digest.enabled means nothing here",
             f"{name}:14: skipACL isn't heeded",
-            "observer serve --servers zk1:2888,zk2:2888,zk3:2889 --client 127.0.0.1:0 --id 1 --dialect 3.8"
+            f"observer serve --servers zk1:2888,zk2:2888,zk3:2889 --client 127.0.0.1:{port} --id 1 --dialect 3.8"
             " --workers 4 --batch 256 --max-per-address 7 --tick 2000 --init-limit 10 --sync-limit 5 --checkpoint 64"
-            " --max-under-way 64 --max-watches 500000 --unconnected 10 --words isro,srvr,stat",
+            " --min-session-timeout 4000 --max-session-timeout 40000 --max-under-way 64 --max-watches 500000"
+            " --unconnected 10 --words isro,srvr,stat",
         ], out
     with file_of(text_of(*lines, "tickTimes=1")) as name:
         status, out, told = commands.run("--check-config", name)
         assert status == 2 and f"{name}:15: tickTimes is unknown" in out.splitlines(), (status, out)
         assert told.splitlines() == [f"observer: {name}:15: unknown key", "usage"], told
+
+
+def test_timeouts():
+    """The bounds of timeouts: of the file, of an option, and of the tick; -1 in a file is as without the key."""
+    for lines, words, least, greatest in (
+        (["minSessionTimeout=5000", "maxSessionTimeout=60000"], [], 5000, 60000),
+        (["minSessionTimeout=5000", "maxSessionTimeout=60000"], ["--min-session-timeout", "60000"], 60000, 60000),
+        (["minSessionTimeout=5000", "maxSessionTimeout=-1"], ["--tick", "3600000"], 5000, 72000000),
+        (["minSessionTimeout=-1", "tickTime=300"], [], 600, 6000),
+    ):
+        with file_of(text_of("server.7=zk1:2888:3888", *lines)) as name:
+            status, out, told = commands.run("--check-config", name, *words)
+        assert (status, told) == (0, ""), (status, told)
+        assert f" --min-session-timeout {least} --max-session-timeout {greatest} " in out, (lines, words, out)
 
 
 def test_metrics():
@@ -122,7 +142,11 @@ BAD = [
     ("localSessionsEnabled=true", "11: there are no local sessions"),
     ("dataLogDir=C:\\\\zookeeper", "11: escapes aren't read"),
     ("server.9=zk1", "11: server.N="),
+    ("server.9=::1:2888:3888", "11: server.N="),
+    ("server.9=zk1:2888:3888:Observer|zk2:2888:3888:participant", "11: server.N="),
     ("tickTime=0", " --tick 0: 1 to 3600000"),
+    ("minSessionTimeout=0", " --min-session-timeout 0: 1 to 2147483647"),
+    ("minSessionTimeout=40001", " --min-session-timeout 40001 is above --max-session-timeout 40000"),
     ("clientPort=x", " --client 127.0.0.1:x: PORT or HOST:PORT"),
     (
         "metricsProvider.httpPort=x\nmetricsProvider.className=org.apache.zookeeper.metrics.prometheus.PrometheusMetricsProvider",
@@ -142,7 +166,7 @@ def test_what_is_wrong_with_a_file():
     with file_of(text_of("server.7=zk1:2888:3888").replace(":observer", "")) as name:
         status, _, told = commands.run("--check-config", name)
         assert status == 2 and "12: this server votes" in told, (status, told)
-    with file_of("clientPort=0\n") as name:
+    with file_of("clientPort=2181\n") as name:
         status, _, told = commands.run("--config", name, "--id", "9")
         assert status == 2 and "--leader or --servers is missing" in told, (status, told)
         status, _, told = commands.run("--config", name, "--check-config", name)

@@ -38,20 +38,26 @@ IDS, NO_IDS = (f"{OWN}\n", str(OWN), f" {OWN} \r\n", f"0{OWN}\n"), ("", "0\n", "
 WRONG, UNKNOWN = 40, 25
 
 HOSTS = ("zk1", "zk-0.zk.svc", "10.0.0.7", "[fe80::1]", "[::1]", "localhost")
-CLIENTS = (";2181", ";0", ";0.0.0.0:2181", ";[::]:2182", ";zk1:02183")
-ADDRESSES = ("127.0.0.1", "0.0.0.0", "localhost", "::1", "fe80::1", "zk1")
+CLIENTS = (";2181", ";0", ";0.0.0.0:2181", ";[::]:2182", ";zk1:02183", ";+2184", ";[zk1]:+2185")
+ROLES = (":observer", ":Observer", ":OBSERVER", ": observer ")
+VOTING = ("", "", ":participant", ":PARTICIPANT", ":")
+ADDRESSES = ("127.0.0.1", "0.0.0.0", "localhost", "::1", "fe80::1", "zk1", "[::1]", "[fe80::1]", "[zk1]")
 # Values that are right, and those that are wrong.
 NUMBERS = {
     "tickTime": (("1", "2000", "3600000", "02000"), ("0", "", "3600001", "-1", "2000 ms", "x")),
-    "initLimit": (("0", "10", "1000000"), ("1000001", "", "+5")),
+    "initLimit": (("0", "10", "1000000", "+5", "+0010"), ("1000001", "", "++5", "+")),
     "syncLimit": (("0", "5", "1000000", "007"), ("1000001", "5.0", "x")),
-    "maxClientCnxns": (("0", "1", "60", "100000"), ("-1", "", "many")),
-    "maxCnxns": (("0", "1", "60", "100000"), ("-1", "", "0x10")),
-    "clientPort": (("0", "2181", "65535", "02181"), ("65536", "", "-1", "client")),
+    "minSessionTimeout": (("1", "2", "+2", "-1", "-01"), ("0", "-2", "2147483648", "x")),
+    "maxSessionTimeout": (("9000000", "2147483647", "+72000000", "-1"), ("0", "-2", "2147483648", "")),
+    "maxClientCnxns": (("0", "1", "60", "100000", "00", "-0", "-5", "+060"), ("", "many", "++1")),
+    "maxCnxns": (("0", "1", "60", "100000", "000", "-1", "+7"), ("", "0x10", "-")),
+    "clientPort": (("2181", "65535", "02181", "+2181"), ("65536", "", "-1", "client", "+")),
 }
 IDLE = {
     "peerType": ("observer", "participant"), "standaloneEnabled": ("false", "true"), "electionAlg": ("3",),
     "quorumListenOnAllIPs": ("true",), "leaderServes": ("yes",), "version": ("100000000",), "syncEnabled": ("true",),
+    "forceSync": ("no", "yes"), "fsync.warningthresholdms": ("20",), "txnLogSizeLimitInKb": ("-1",),
+    "multiAddress.enabled": ("true",), "digest.enabled": ("true", "false"),
     "dataLogDir": ("/var/log/zk", "/a b/c:d=e"), "snapCount": ("100000", ""), "preAllocSize": ("65536",),
     "commitLogCount": ("500",), "snapSizeLimitInKb": ("4194304",), "group.1": ("1:2:3",), "weight.1": ("1",),
     "observer.x": ("1",), "autopurge.purgeInterval": ("1",), "autopurge.snapRetainCount": ("3",),
@@ -81,8 +87,13 @@ UNKNOWN_KEYS = (
     "noSuchKey", "TICKTIME", "ticktime", "tick.Time", "server", "servers.1", "clientport", "4lw.commands", "weights.1",
     "metricsprovider.httpPort", "x", "", "schlüssel",
 )
-NO_SERVERS = ("", "zk1", "zk1:2888", ":2888", "zk1;2181", ":observer:x", "zk1:x:3888", "zk1:65536:3888", ":2888:3888")
-NO_NUMBERS = ("0", "256", "x", "", "-1", "+7", "1.5", "99999999999999999999")
+NO_SERVERS = (
+    "", "zk1", "zk1:2888", ":2888", "zk1;2181", ":observer:x", "zk1:x:3888", "zk1:65536:3888", ":2888:3888",
+    "::1:2888:3888", "fe80::1:2888:3888:observer", "[::1:2888:3888", "zk1:2888:3888:leader", "zk1:2888:x:observer",
+    "zk1:2888:3888:observer|zk2:2888:3888:participant", "zk1:2888:3888|", "|zk1:2888:3888", "zk1:2888:3888;;2181",
+    "zk1:2888:3888;x", "zk1:2888:3888;::1:2181", "zk1:2888:3888;2181;2182", "zk1:2888:3888:observer:x",
+)
+NO_NUMBERS = ("0", "256", "x", "", "-1", "++7", "1.5", "99999999999999999999")
 COMMENTS = (
     "# tickTime=5", "!tickTime=5", "#", "!", "#server.9=zk9:2888:3888", "# ends with \\", "! sslQuorum=true\\",
     "# größer", "## a", "",
@@ -103,33 +114,39 @@ class Made(NamedTuple):
 
 
 class Drawn(NamedTuple):
-    """The files of a seed by their names, each as its lines, and options with their values."""
+    """The files of a seed by their names, each as its lines, options with their values, and the files' encoding."""
 
     files: Dict[str, List[str]]
     options: Dict[str, str]
+    encoding: str
 
     def text(self, name):
         return "".join(self.files[name]) if name in self.files else None
 
 
-def server_value(chance, role=None, clients=("", "", *CLIENTS)):
-    """Draws a server's line: one address or several, its role, and where it serves clients."""
-    count = chance.choice((1, 1, 1, 2, 3))
-    addresses = (f"{chance.choice(HOSTS)}:{chance.randint(1, 65535)}:{chance.randint(1, 65535)}" for _ in range(count))
-    role = chance.choice(("", "", ":participant")) if role is None else role
-    return "|".join(addresses) + role + chance.choice(clients)
+def server_value(chance, roles=None, clients=("", "", *CLIENTS)):
+    """Draws a server's line: one address or several, its role at one of them or at several, and where it serves
+    clients."""
+    count, chosen, plus = chance.choice((1, 1, 1, 2, 3)), chance.choice(roles or VOTING), ("", "", "", "+", "0")
+    addresses = []
+    for at in range(count):
+        ports = ":".join(chance.choice(plus) + str(chance.randint(1, 65535)) for _ in range(2))
+        role = chosen if at == 0 or chance.randrange(2) else ""
+        addresses.append(f"{chance.choice(HOSTS)}:{ports}{role}")
+    chance.shuffle(addresses)
+    return "|".join(addresses) + chance.choice(clients)
 
 
 def drawn_servers(chance, has_port):
     """Draws the lines of servers. This one's is among them if the file has no other port for clients."""
     others = chance.sample([it for it in range(1, 256) if it != OWN], chance.choice((1, 1, 2, 3, 3, 5, 9)))
-    found = [(f"server.{it}", server_value(chance, chance.choice((None, None, None, ":observer")))) for it in others]
+    found = [(f"server.{it}", server_value(chance, chance.choice((None, None, None, ROLES)))) for it in others]
     # One at least may lead.
     found.append((f"server.{chance.choice((250, 251, 255))}", server_value(chance)))
     if not has_port:
-        found.append((f"server.{OWN}", server_value(chance, ":observer", CLIENTS)))
+        found.append((f"server.{OWN}", server_value(chance, ROLES, CLIENTS)))
     elif chance.randrange(4):
-        found.append((f"server.{OWN}", server_value(chance, ":observer")))
+        found.append((f"server.{OWN}", server_value(chance, ROLES)))
     chance.shuffle(found)
     return list(dict(found).items())
 
@@ -169,7 +186,7 @@ def wrong_entry(chance):
     if kind == 6:
         return f"server.{chance.choice(NO_NUMBERS)}", server_value(chance)
     if kind == 7:
-        return f"server.{OWN}", server_value(chance, chance.choice(("", ":participant")))
+        return f"server.{OWN}", server_value(chance)
     return chance.choice((
         ("DigestAuthenticationProvider.superDigest", chance.choice(("super:test", "", SUPER[6:], SUPER + "="))),
         ("metricsProvider.httpPort", "x"), ("clientPortAddress", ""), ("dataDir", "none"),
@@ -183,6 +200,9 @@ def drawn_entries(chance, has_port):
         found.append(("clientPort", chance.choice(NUMBERS["clientPort"][0])))
     for key in ("tickTime", "initLimit", "syncLimit", "maxClientCnxns", "maxCnxns"):
         if chance.randrange(2):
+            found.append((key, chance.choice(NUMBERS[key][0])))
+    for key in ("minSessionTimeout", "maxSessionTimeout"):
+        if chance.randrange(4) == 0:
             found.append((key, chance.choice(NUMBERS[key][0])))
     if chance.randrange(3) == 0:
         found.append(("clientPortAddress", chance.choice(ADDRESSES)))
@@ -209,7 +229,7 @@ def doubled(chance, entries):
             continue
         other = chance.choice(NUMBERS[key][0]) if key in NUMBERS else value
         if key.startswith("server."):
-            other = server_value(chance, ":observer" if key == f"server.{OWN}" else None)
+            other = server_value(chance, ROLES if key == f"server.{OWN}" else None)
             if other == value:
                 continue
         found.insert(chance.randrange(len(found) + 1), (key, other))
@@ -248,7 +268,7 @@ def spelled(chance, entry, end):
 
 def lines_of(chance, entries):
     """Spells a file: its entries with comments and empty lines between them, as lines with their ends."""
-    ends = chance.choice((("\n",), ("\n",), ("\r\n",), ("\n", "\r\n")))
+    ends = chance.choice((("\n",), ("\n",), ("\r\n",), ("\r",), ("\n", "\r\n"), ("\n", "\r\n", "\r")))
     found, comments = [], 5
     for entry in entries:
         end = chance.choice(ends)
@@ -308,7 +328,7 @@ def drawn(seed):
     options = drawn_options(chance)
     if made.myid in NO_IDS and chance.randrange(2):
         options["--id"] = str(OWN)
-    return Drawn(files, options)
+    return Drawn(files, options, chance.choice(("utf-8", "utf-8", "latin-1")))
 
 
 # ---- beside the program
@@ -320,7 +340,7 @@ def told(program, room, one):
     for name in (FILE, DYNAMIC, MYID):
         path = os.path.join(room, name)
         if name in one.files:
-            with open(path, "w", encoding="utf-8", newline="") as it:
+            with open(path, "w", encoding=one.encoding, newline="") as it:
                 it.write(one.text(name))
         elif os.path.exists(path):
             os.remove(path)
@@ -346,7 +366,7 @@ def shrunk(program, room, one):
     for name in (FILE, DYNAMIC):
         at = 0
         while at < len(one.files.get(name, ())):
-            less = Drawn({**one.files, name: one.files[name][:at] + one.files[name][at + 1 :]}, one.options)
+            less = one._replace(files={**one.files, name: one.files[name][:at] + one.files[name][at + 1 :]})
             if differs(program, room, less)[0]:
                 one = less
             else:

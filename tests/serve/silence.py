@@ -195,7 +195,7 @@ def test_it_is_frozen_beside_a_busy_leader():
 
 def is_closed_before_its_session_ends():
     """A session of 4 seconds: its leader is given up after 3, though it might be silent for longer."""
-    with Following([Seat()], "--tick", "200", "--sync-limit", "50") as server:
+    with Following([Seat()], "--tick", "200", "--sync-limit", "50", "--max-session-timeout", "40000") as server:
         line = server.seats[0].accept()
         leader = line.leads(1)
         with server.connection() as longer, server.connection() as client:
@@ -226,7 +226,7 @@ def counts_those_that_are_connected():
 
 def is_left_three_half_ticks():
     """Where three quarters of a session are less than three half ticks, a leader may be silent for these."""
-    with Following([Seat()], "--tick", "2400") as server:
+    with Following([Seat()], "--tick", "2400", "--min-session-timeout", "4000") as server:
         line = server.seats[0].accept()
         leader = line.leads(1)
         with server.connection() as client:

@@ -21,10 +21,11 @@ STATE = (
     r"Latency min/avg/max: (\d+)/(\d+\.\d{4})/(\d+)\nReceived: (\d+)\nSent: (\d+)\nConnections: (\d+)\n"
     r"Outstanding: (\d+)\nZxid: 0x([0-9a-f]+)\nMode: observer\nNode count: (\d+)\n"
 )
+# In the order of a server of 3.8.0.
 MNTR = (
-    "version server_state peer_state uptime avg_latency max_latency min_latency packets_received packets_sent"
-    " num_alive_connections outstanding_requests connection_rejected znode_count watch_count ephemerals_count"
-    " global_sessions open_file_descriptor_count max_file_descriptor_count"
+    "version server_state peer_state ephemerals_count num_alive_connections avg_latency outstanding_requests"
+    " znode_count global_sessions packets_sent packets_received watch_count min_latency max_file_descriptor_count"
+    " open_file_descriptor_count uptime max_latency connection_rejected"
 ).split()
 
 
@@ -162,7 +163,7 @@ def test_descriptors():
 def test_settings_and_version():
     with Server("--max-per-address", "7", "--tick", "500", "--dialect", "3.4") as server:
         assert server.word(b"conf").decode() == (
-            f"clientPort={server.port}\ntickTime=500\nmaxClientCnxns=7\nminSessionTimeout=4000\nmaxSessionTimeout=40000\n"
+            f"clientPort={server.port}\ntickTime=500\nmaxClientCnxns=7\nminSessionTimeout=1000\nmaxSessionTimeout=10000\n"
             "serverId=1\ninitLimit=10\nsyncLimit=5\npeerType=1\n"
         )
         assert re.fullmatch(r"Environment:\nzookeeper\.version=3\.4\.14-kezhundam-\S+\n", server.word(b"envi").decode())

@@ -129,9 +129,15 @@ def value_of(option, text):
     return KINDS[option](text) if option in KINDS else number(text, *OPTIONS[option].bounds())
 
 
+def plain(text):
+    """Returns a number without the plus that Java takes in front."""
+    return text[1:] if text.startswith("+") else text
+
+
 def at(host, port):
-    """Returns HOST:PORT. A host with colons gets brackets, if it has none."""
-    return f"[{host.strip('[]')}]:{port}" if ":" in host else f"{host}:{port}"
+    """Returns HOST:PORT. A host with colons gets brackets; one that has brackets loses them first."""
+    host = re.sub(r"\[([^\]]*)\]", r"\1", host) if re.fullmatch(r"\[[^\]]*\]", host) else host
+    return f"[{host}]:{plain(port)}" if ":" in host else f"{host}:{plain(port)}"
 
 
 # ---- what keys say
@@ -153,19 +159,22 @@ REFUSED_UNLESS_FALSE = {
     "localSessionsEnabled": SESSIONS,
 }
 
-# The option of a key whose value it has, and what it is without the key.
+# The option of a key whose number it has, and what it is without the key.
 BY_KEY = {
     "tickTime": ("--tick", "3000"),
     "initLimit": ("--init-limit", None),
     "syncLimit": ("--sync-limit", None),
+    "minSessionTimeout": ("--min-session-timeout", None),
+    "maxSessionTimeout": ("--max-session-timeout", None),
     "maxClientCnxns": ("--max-per-address", "60"),
     "maxCnxns": ("--max-clients", "0"),
-    "DigestAuthenticationProvider.superDigest": ("--super-digest", None),
 }
-# Of these, 0 is any number, for which there is no option.
+# Of these, a number that isn't above 0 is any number, for which there is no option; of those, -1 is as without the key.
 UNBOUNDED = ("maxClientCnxns", "maxCnxns")
+BY_TICKS = {"--min-session-timeout": 2, "--max-session-timeout": 20}
+SUPER = "DigestAuthenticationProvider.superDigest"
 HEEDED = (
-    *BY_KEY, "dynamicConfigFile", "dataDir", "clientPort", "clientPortAddress", "4lw.commands.whitelist",
+    *BY_KEY, SUPER, "dynamicConfigFile", "dataDir", "clientPort", "clientPortAddress", "4lw.commands.whitelist",
     "metricsProvider.httpHost", "metricsProvider.httpPort",
 )
 PROMETHEUS = "org.apache.zookeeper.metrics.prometheus.PrometheusMetricsProvider"
@@ -176,15 +185,16 @@ NOT_HEEDED = (("observerMasterPort", "skipACL", "globalOutstandingLimit"), ("met
 IDLE = (
     (
         *REFUSED_UNLESS_FALSE, "peerType", "standaloneEnabled", "electionAlg", "quorumListenOnAllIPs", "leaderServes",
-        "version", "syncEnabled", "dataLogDir", "snapCount", "preAllocSize", "commitLogCount", "snapSizeLimitInKb",
+        "version", "syncEnabled", "forceSync", "fsync.warningthresholdms", "dataLogDir", "snapCount", "preAllocSize",
+        "commitLogCount", "snapSizeLimitInKb", "txnLogSizeLimitInKb", "digest.enabled",
     ),
-    ("group.", "weight.", "observer.", "autopurge.", "snapshot.", "admin.", "quorum.auth."),
+    ("group.", "weight.", "observer.", "multiAddress.", "autopurge.", "snapshot.", "admin.", "quorum.auth."),
 )
 # These options no key sets.
 UNSET = (
     "--dialect", "--workers", "--batch", "--checkpoint", "--max-under-way", "--max-watches", "--unconnected",
 )
-SET = ("--servers", "--client", "--id", "--words", "--metrics", *(option for option, _ in BY_KEY.values()))
+SET = ("--servers", "--client", "--id", "--words", "--metrics", "--super-digest", *(option for option, _ in BY_KEY.values()))
 # The last line of standard error, by the status.
 LAST_WORDS = {2: "usage", 3: "cannot open"}
 
@@ -223,22 +233,52 @@ def whitelisted(text):
     return "all" if "*" in parts else ",".join(it for it in parts if it in WORDS) or "none"
 
 
-class Server(NamedTuple):
-    """A line ADDRESSES[:ROLE][;CLIENT] of a server. The id and the quorum ports are None if they aren't right."""
+def is_as_unset(key, text):
+    """Returns whether a number says that its key is as without it."""
+    found = re.fullmatch("(-?)([0-9]+)", text)
+    if key in UNBOUNDED:
+        return found and (int(found[2]) == 0 or found[1] and int(found[2]) <= 2**31)
+    return key.endswith("SessionTimeout") and found and found[1] and int(found[2]) == 1
 
+
+class Server(NamedTuple):
+    """A line ADDRESSES[;CLIENT] of a server: what is wrong with it is said by `is_right` alone."""
+
+    is_right: bool
     id: int
     is_observer: bool
     quorum: List[str]
     client: str
 
 
+HOST = r"(\[[^\]]+\]|[^:\[][^:]*)"
+
+
+def address_of(text):
+    """Returns the quorum place and the role of HOST:PORT:PORT[:ROLE], or None if the text is none."""
+    found = re.fullmatch(HOST + r":(\+?[0-9]+):(\+?[0-9]+)(?::(.*))?", text, re.S)
+    if not found or None in [number(plain(it), 0, 65535) for it in (found[2], found[3])]:
+        return None
+    role = found[4] and found[4].strip().lower()
+    return (at(found[1], found[2]), role) if role in (None, "", "observer", "participant") else None
+
+
+def client_of(text):
+    """Returns [HOST:]PORT as an option has it, or None if the text is none."""
+    found = re.fullmatch(f"(?:{HOST}:)?" + r"(\+?[0-9]+)", text, re.S)
+    is_port = found and number(plain(found[2]), 0, 65535) is not None
+    return at(found[1] or "0.0.0.0", found[2]) if is_port else None
+
+
 def server_of(entry):
-    """Returns the server of a line, whose port of elections isn't looked at."""
+    """Returns the server of a line."""
     front, _, client = entry.value.partition(";")
-    addresses, role = re.fullmatch("(.*?)(:observer|:participant)?", front, re.S).groups()
-    quorum = [it.rpartition(":")[0] for it in addresses.split("|")]
-    quorum = quorum if all(":" in it for it in quorum) else None
-    return Server(number(entry.key[len("server.") :], 1, 255), role == ":observer", quorum, client)
+    own = number(plain(entry.key[len("server.") :]), 1, 255)
+    addresses = [address_of(it) for it in front.split("|")]
+    roles = {it[1] for it in addresses if it} - {None, ""}
+    is_right = own is not None and None not in addresses and len(roles) < 2 and (not client or client_of(client))
+    quorum = [it[0] for it in addresses if it]
+    return Server(bool(is_right), own, "observer" in roles, quorum, client_of(client) or "")
 
 
 # ---- a file as a whole
@@ -289,18 +329,14 @@ class Reading:
             name = self.values["dynamicConfigFile"]
             entries = self.entries_in(name)
         quorum, client, last = [], "", {it.key: it for it in entries}
-        for it in [it for it in entries if it.key.startswith("server.")]:
+        for it in [it for it in entries if it.key.startswith("server.") and it is last[it.key]]:
             found, wrong = server_of(it), f"observer: {name}:{it.line}: "
-            if found.id is None:
+            if not found.is_right:
                 self.faults.add((2, wrong + SERVER))
-            elif it is not last[it.key]:
-                continue
             elif found.id == own and not found.is_observer:
                 self.faults.add((2, wrong + VOTES))
             elif found.id == own:
                 client = found.client
-            elif not found.is_observer and not found.quorum:
-                self.faults.add((2, wrong + SERVER))
             elif not found.is_observer:
                 quorum += found.quorum
         if quorum:
@@ -310,14 +346,17 @@ class Reading:
     def read_values(self, client):
         """Reads what is in no line of a server. `client` is where this server's line has clients served."""
         values, filed = self.values, self.filed
-        if "clientPort" in values:
+        # A port of 0 is as without the key.
+        if "clientPort" in values and number(plain(values["clientPort"]), 0, 0) is None:
             filed["--client"] = at(values.get("clientPortAddress", "0.0.0.0"), values["clientPort"])
         elif client:
-            filed["--client"] = client if ":" in client else at("0.0.0.0", client)
+            filed["--client"] = client
         for key, (option, default) in BY_KEY.items():
             value = values.get(key, default)
-            if value is not None and not (key in UNBOUNDED and value == "0"):
-                filed[option] = value
+            if value is not None and not is_as_unset(key, plain(value)):
+                filed[option] = plain(value)
+        if SUPER in values:
+            filed["--super-digest"] = values[SUPER]
         filed["--words"] = whitelisted(values.get("4lw.commands.whitelist", "srvr"))
         if values.get("metricsProvider.className") == PROMETHEUS:
             host = values.get("metricsProvider.httpHost", "0.0.0.0")
@@ -338,7 +377,18 @@ class Reading:
                 self.faults.add((2, f"observer: {told} is missing"))
         if "--servers" not in found and "--leader" not in found:
             self.faults.add((2, "observer: --leader or --servers is missing"))
-        return {option: value_of(option, text) for option, text in found.items()}
+        return self.with_timeouts({option: value_of(option, text) for option, text in found.items()})
+
+    def with_timeouts(self, values):
+        """Returns the options with the bounds of timeouts, which are so many ticks if they aren't set."""
+        if values["--tick"] is None:
+            return values
+        values = {**{option: ticks * values["--tick"] for option, ticks in BY_TICKS.items()}, **values}
+        least, most = (values[option] for option in BY_TICKS)
+        if least is not None and most is not None and least > most:
+            front = "" if any(option in self.options for option in BY_TICKS) else f"{self.name}: "
+            self.faults.add((2, f"observer: {front}--min-session-timeout {least} is above --max-session-timeout {most}"))
+        return values
 
     def checked(self):
         self.read_values(self.read_servers(self.own_id()))

@@ -6,5 +6,6 @@ pub mod Agreeing
 pub mod Numbering
 pub mod Turning
 pub mod Adding
+pub mod Slots
 pub mod Hubs
 pub mod Ending

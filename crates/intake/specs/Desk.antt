@@ -1,8 +1,9 @@
 -- A desk, and the contract of a turn.
-use Rattle.std.specs.Prelude.{◌≡◌, ◌≢◌, ◌≤◌, ◌⊎◌, ◌+◌, ℕ, List, [], ◌++◌, length, Contains, Bool, true, false, Option, Some, None, IsSome, Result, Ok, Err, refl}
+use Rattle.std.specs.Prelude.{◌≡◌, ◌≢◌, ◌≤◌, ◌⊎◌, ◌↔◌, ◌+◌, ℕ, List, [], ◌++◌, length, Contains, Bool, true, false, Option, Some, None, IsSome, Result, Ok, Err, refl}
 use Rattle.std.specs.FinMap as finmap
 use Rattle.std.specs.Coded.{Coded, code_by, coded×, coded_ℕ, coded_list}
 use Rattle.rtrb.specs.Ring.{producer_capacity}
+use Rattle.port_hints.specs.Slots.{Slots, port_at}
 use Rattle.observer_core.specs.Machine.{Machine}
 use Rattle.observer_core.specs.Play.{play}
 use Rattle.observer_core.specs.declared.engine.Stop.{Stop}
@@ -10,7 +11,7 @@ use Rattle.observer_core.specs.declared.engine.Stop.TheVariants as stops
 use Rattle.intake.specs.Messages.{PortMessage, events_of, part_of_port, share_of_port, LeaderComesFirst}
 use Rattle.intake.specs.declared.port.PortEnd.{PortEnd}
 use Rattle.intake.specs.Ports.{sent_through, received_through}
-use Rattle.intake.specs.Links.{Links, is_open_port, taken_at, waiting_at, room_at, owed_at, IsEnd, AllStay, TakesNoMessage, KeepOnlyIfFull}
+use Rattle.intake.specs.Links.{Links, is_open_port, taken_at, waiting_at, room_at, owed_at, slot_at, IsEnd, AllStay, TakesNoMessage, KeepOnlyIfFull}
 
 -- An observer with its open ports; a closed one has no machine.
 pub record Desk : Type 0 where
@@ -31,6 +32,18 @@ new_desk m = record { machine = Some m; links = finmap.empty; next = 0; fresh = 
 abbrev pub IsOpenUnless : Bool → Option Machine → Type 0
 IsOpenUnless true engine = Unit {0}
 IsOpenUnless false engine = IsSome engine
+
+-- A slot is given to a port exactly if it is that of an open port.
+abbrev pub AreSlotsOf : Links → Slots → Type 0
+AreSlotsOf links slots = (n slot : ℕ) → (port_at slots slot ≡ Some n) ↔ (slot_at links n ≡ Some slot)
+
+-- What always holds inside a desk.
+pub record IsSoundDesk (closed : Bool) (engine : Option Machine) (links : Links) (next : ℕ) (slots : Slots) : Type 0 where
+  pub is_open : IsOpenUnless closed engine
+  -- No port that is yet to come is open.
+  pub unused : (n : ℕ) → next ≤ n → finmap.get links n ≡ None
+  -- No slot is lost, and no two ports have one.
+  pub given : AreSlotsOf links slots
 
 -- The next port is open, and nothing has gone through it.
 pub record AddsPort (old : Desk) (port : PortEnd) (new : Desk) : Type 0 where

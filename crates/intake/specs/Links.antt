@@ -52,6 +52,10 @@ abbrev pub kept_for : Option Link → List Output
 kept_for None = []
 kept_for (Some link) = link.kept.items
 
+abbrev pub slot_from : Option Link → Option ℕ
+slot_from None = None
+slot_from (Some link) = Some link.slot
+
 -- Outputs are kept for a port only if its outbox was full when it was last looked at.
 abbrev pub KeepsIfFull : Option Link → Type 0
 KeepsIfFull None = Unit {0}
@@ -100,6 +104,10 @@ owed_at links n = owed_to (finmap.get links n)
 
 abbrev pub kept_at : Links → ℕ → List Output
 kept_at links n = kept_for (finmap.get links n)
+
+-- The slot that a port's thread marks.
+abbrev pub slot_at : Links → ℕ → Option ℕ
+slot_at links n = slot_from (finmap.get links n)
 
 -- Each port for which outputs are kept is among these.
 abbrev pub KeepersAreAmong : List ℕ → Links → Type 0

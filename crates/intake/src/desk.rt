@@ -88,7 +88,7 @@ impl Model for Desk {
     ghost use Rattle.observer_core.specs.contracts.engine.Engine as of_engine;
     ghost use Rattle.intake.specs.contracts.links.Links as of_links;
     ghost use Rattle.intake.specs.contracts.message.Message as of_message;
-    ghost use Rattle.intake.specs.Desk.{Desk as TheDesk, desk_code, IsOpenUnless};
+    ghost use Rattle.intake.specs.Desk.{Desk as TheDesk, desk_code, IsSoundDesk};
 
     ghost Value = { TheDesk };
 
@@ -103,7 +103,7 @@ impl Model for Desk {
       later = d.later.items;
     } };
 
-    ghost invariant = { λ d. IsOpenUnless d.closed d.engine };
+    ghost invariant = { λ d. IsSoundDesk d.closed d.engine d.links d.next d.marks.slots };
 }
 
 impl Drop for Desk {
@@ -138,9 +138,8 @@ impl Desk {
     pub fn new(alloc: Global, config: Config) -> Result<Desk, NoMemory>
         ensures { IfOk result (λ d. d ≡ new_desk (new_machine config.settings)) }
     {
-        let marks = Marks::new(alloc)?;
         let engine = Engine::new(alloc, config)?;
-        Ok(Desk::with_engine(alloc, engine, marks))
+        Desk::with_engine(alloc, engine)
     }
 
     /// A desk whose observer follows a leader in epoch 1, with connection 1 open. Fails only if an allocation is
@@ -148,16 +147,16 @@ impl Desk {
     pub fn primed(alloc: Global, config: Config) -> Result<Desk, NoMemory>
         ensures { IfOk result (λ d. d ≡ new_desk (primed_machine config.settings)) }
     {
-        let marks = Marks::new(alloc)?;
         let engine = Engine::primed(alloc, config)?;
-        Ok(Desk::with_engine(alloc, engine, marks))
+        Desk::with_engine(alloc, engine)
     }
 
-    fn with_engine(alloc: Global, engine: Engine, marks: Marks) -> Desk
+    fn with_engine(alloc: Global, engine: Engine) -> Result<Desk, NoMemory>
         requires { IsSome engine }
-        ensures { (m : TheMachine) → engine ≡ Some m → result ≡ new_desk m }
+        ensures { (m : TheMachine) → engine ≡ Some m → IfOk result (λ d. d ≡ new_desk m) }
     {
-        Desk {
+        let marks = Marks::new(alloc)?;
+        Ok(Desk {
             alloc,
             engine,
             closed: false,
@@ -171,7 +170,7 @@ impl Desk {
             round: Round::new(),
             is_behind: false,
             spare: Vec::new(alloc),
-        }
+        })
     }
 
     /// Adds the next port, with room for `capacity` messages (1 to 1024) and as many outputs. Numbers count from 0, and

@@ -24,7 +24,8 @@
 //! something to read while half of what may be under way to all ([`Limits`]) is.
 //!
 //! No contract says which ports may have sent something, how much is under way, or that a thread is woken: these are
-//! hints between threads (`port_hints`), and tests check them.
+//! hints between threads (`port_hints`), and tests check them. But each open port always has a slot of its own for its
+//! marks, and a closed one has none (`IsSoundDesk` in specs/Desk).
 //!
 //! ```text
 //! let mut desk = Desk::primed(alloc, config)?;

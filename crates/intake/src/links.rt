@@ -3,7 +3,7 @@
 ghost use Rattle.std.specs.Prelude.{◌≡◌, ◌++◌, [], ◌∷◌, length, false, IfOk, OnOk, OnErr};
 ghost use Rattle.std.specs.FinMap as finmap;
 ghost use Rattle.intake.specs.Ports.{sent_through, received_through, unread_through, SamePort};
-ghost use Rattle.intake.specs.Links.{taken_at, waiting_at, outbox_at, IsEnd, AllStay, SameWait, TakesNoMessage, LooksAt, TakesSeen, PutsShares, kept_at, KeepOnlyIfFull, PutsKept, links_of};
+ghost use Rattle.intake.specs.Links.{taken_at, waiting_at, outbox_at, slot_at, IsEnd, AllStay, SameWait, TakesNoMessage, LooksAt, TakesSeen, PutsShares, kept_at, KeepOnlyIfFull, PutsKept, links_of};
 
 use crate::events::port_of;
 use crate::link::Link;
@@ -72,7 +72,8 @@ impl Links {
     }
 
     pub fn remove(&mut self, number: usize) -> Option<Link>
-        ensures { self.new ≡ finmap.remove self.old number }
+        ensures link { result ≡ finmap.get self.old number }
+        ensures links { self.new ≡ finmap.remove self.old number }
     {
         self.map.remove(&number)
     }
@@ -134,9 +135,13 @@ impl Links {
     }
 
     /// The slot of the port.
-    pub fn slot(&self, number: usize) -> Option<usize> {
-        let link = self.map.get(&number)?;
-        Some(link.slot)
+    pub fn slot(&self, number: usize) -> Option<usize>
+        ensures { result ≡ slot_at self.now number }
+    {
+        match self.map.get(&number) {
+            None => return None,
+            Some(link) => Some(link.slot),
+        }
     }
 
     /// How many bytes are under way to the port.

@@ -7,7 +7,6 @@ use intake::Limits;
 use log::Log;
 use serve_bounds::{Places, are_too_many};
 use serve_options::{Options, Words};
-use settings::TimeoutBounds;
 use std::io::Write;
 
 const MIB: u64 = 1024 * 1024;
@@ -36,7 +35,7 @@ fn allowed(words: Words) -> AllowedWords {
 impl Bounds {
     /// The bounds that the options set. A client that doesn't read is closed after the greatest timeout of a session, since
     /// its session has ended by then if it says nothing, too.
-    pub fn new(options: &Options<'_>, timeouts: TimeoutBounds) -> Bounds {
+    pub fn new(options: &Options<'_>) -> Bounds {
         Bounds {
             places: Places {
                 in_all: options.max_clients,
@@ -44,7 +43,7 @@ impl Bounds {
             },
             session: SessionLimits {
                 unconnected: options.unconnected.saturating_mul(1000),
-                unread: u64::try_from(timeouts.greatest()).unwrap_or(0),
+                unread: u64::try_from(options.timeouts.greatest()).unwrap_or(0),
                 words: allowed(options.words),
                 dialect: options.dialect,
                 ..SessionLimits::default()

@@ -26,7 +26,7 @@ use serve_journal::Journal;
 use serve_metrics::{DescriptorCount, STATUS, start_scraping};
 use serve_options::{Address, Options, Servers};
 use serve_record::Record;
-use settings::{Epochs, FirstCounter, Secret, TimeoutBounds};
+use settings::{Epochs, FirstCounter, Secret};
 use std::alloc::Global;
 use std::fs::File;
 use std::io::Write;
@@ -68,7 +68,7 @@ fn config_of(
     let settings = Settings {
         server_id: options.server_id,
         epochs: Epochs::default(),
-        timeouts: TimeoutBounds::default(),
+        timeouts: options.timeouts,
         secret,
         first_counter,
         dialect: options.dialect,
@@ -224,10 +224,9 @@ fn prepare<R: Net + Clock + Files<File = File>>(
     port: u16,
 ) -> Result<Prepared, Failure> {
     let mut clock = Stopwatch::start(rt);
-    let timeouts = TimeoutBounds::default();
-    let bounds = Bounds::new(options, timeouts);
+    let bounds = Bounds::new(options);
     let ahead = Arc::new(alloc, ReadsAhead::new(READS_AHEAD))?;
-    let tally = tally_of(rt, alloc, options, port, timeouts)?;
+    let tally = tally_of(rt, alloc, options, port)?;
     let (source, beginning) = begin_at(alloc, options, origin, clock.now(rt))?;
     let Accepting {
         acceptor,

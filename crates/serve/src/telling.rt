@@ -6,7 +6,7 @@ use log::Log;
 use serve_options::{Options, VERSION, Words};
 use server_tally::{EngineFigures, Tally, TallySettings};
 use server_words::{AnsweredWords, ServerSettings, ServerWord};
-use settings::{Dialect, TimeoutBounds};
+use settings::Dialect;
 use std::alloc::Global;
 use std::io::Write;
 use std::net::SocketAddr;
@@ -37,13 +37,13 @@ fn version_text(alloc: Global, dialect: Dialect) -> Result<Text, NoMemory> {
     Text::new(alloc, text.as_str())
 }
 
-fn settings_of(options: &Options<'_>, client_port: u16, timeouts: TimeoutBounds) -> ServerSettings {
+fn settings_of(options: &Options<'_>, client_port: u16) -> ServerSettings {
     ServerSettings {
         client_port: client_port as u64,
         tick: options.tick,
         per_address: options.max_per_address.unwrap_or(0),
-        least_timeout: u64::try_from(timeouts.least()).unwrap_or(0),
-        greatest_timeout: u64::try_from(timeouts.greatest()).unwrap_or(0),
+        least_timeout: u64::try_from(options.timeouts.least()).unwrap_or(0),
+        greatest_timeout: u64::try_from(options.timeouts.greatest()).unwrap_or(0),
         server_id: u64::try_from(options.server_id.number()).unwrap_or(0),
         init_limit: options.init_limit,
         sync_limit: options.sync_limit,
@@ -56,12 +56,11 @@ pub(crate) fn tally_of<R: Clock>(
     alloc: Global,
     options: &Options<'_>,
     client_port: u16,
-    timeouts: TimeoutBounds,
 ) -> Result<Arc<Tally, Global>, NoMemory> {
     let told = TallySettings {
         version: version_text(alloc, options.dialect)?,
         dialect: options.dialect,
-        settings: settings_of(options, client_port, timeouts),
+        settings: settings_of(options, client_port),
         words: answered(options.words),
     };
     Ok(Arc::new(alloc, Tally::new(rt, alloc, told))?)

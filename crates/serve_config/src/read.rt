@@ -5,9 +5,10 @@ use serve_options::{
     Filed, Given, Name, OptionError, Options, filed_by, given_by, options_over, value_given,
 };
 use std::alloc::Global;
+use std::io::Read;
 use std::rt::Files;
 use std::{fs, io};
-use zoo_config::{ConfigError, Entry, parse, value_in};
+use zoo_config::{ConfigError, Entry, parse, text_of, value_in};
 
 /// The lines of a file, of which some aren't followed.
 #[derive(Clone, Copy)]
@@ -26,6 +27,18 @@ impl<'a> FileLines<'a> {
     }
 }
 
+// Whether what is wrong is in the file: none of the words says it.
+fn is_in_file(words: &[String], error: &OptionError<'_>) -> bool {
+    match error {
+        OptionError::Invalid { name, .. } => value_given(words, *name).is_none(),
+        OptionError::CrossedTimeouts { .. } => {
+            value_given(words, Name::MinSessionTimeout).is_none()
+                && value_given(words, Name::MaxSessionTimeout).is_none()
+        }
+        _ => false,
+    }
+}
+
 /// A file that was read, and what it sets.
 #[derive(Drop)]
 pub struct ReadFile<'a> {
@@ -34,14 +47,16 @@ pub struct ReadFile<'a> {
     filed: Vec<Filed>,
 }
 
+fn bytes_of<R: Files>(rt: &R, alloc: Global, name: &str) -> io::Result<Vec<u8>> {
+    let mut bytes = Vec::new(alloc);
+    fs::open(rt, name)?.read_to_end(&mut bytes)?;
+    Ok(bytes)
+}
+
 // The text of a file.
-fn text_of<R: Files>(rt: &R, alloc: Global, name: &str) -> Result<String, Failure> {
-    let text = match fs::open(rt, name) {
-        Ok(file) => io::read_to_string(alloc, file),
-        Err(error) => Err(error),
-    };
-    match text {
-        Ok(text) => Ok(text),
+fn text_in<R: Files>(rt: &R, alloc: Global, name: &str) -> Result<String, Failure> {
+    match bytes_of(rt, alloc, name) {
+        Ok(bytes) => Ok(text_of(alloc, bytes.as_slice())?),
         Err(error) => Err(Failure::system(alloc, Step::Open, &name, error)),
     }
 }
@@ -56,7 +71,7 @@ fn wrong(alloc: Global, name: &str, error: ConfigError) -> Failure {
 
 // The entries of a file.
 fn entries_in<R: Files>(rt: &R, alloc: Global, name: &str) -> Result<Vec<Entry>, Failure> {
-    let text = text_of(rt, alloc, name)?;
+    let text = text_in(rt, alloc, name)?;
     match parse(alloc, text.as_str()) {
         Ok(entries) => Ok(entries),
         Err(error) => Err(wrong(alloc, name, error)),
@@ -77,7 +92,7 @@ fn id_of<R: Files>(
         return Ok(None);
     };
     let name = format!(in alloc; "{folder}/myid")?;
-    let text = text_of(rt, alloc, name.as_str())?;
+    let text = text_in(rt, alloc, name.as_str())?;
     Ok(Some(String::from_str(alloc, text.as_str().trim())?))
 }
 
@@ -153,10 +168,9 @@ impl<'a> ReadFile<'a> {
 
     // What is wrong with the options: with a value that is in the file, or with the words.
     fn failure(&self, alloc: Global, words: &[String], error: &OptionError<'_>) -> Failure {
-        match error {
-            OptionError::Invalid { name, .. } if value_given(words, *name).is_none() =>
-                Failure::in_file(alloc, self.name, 0, error),
-            _ => Failure::of_options(alloc, error),
+        if is_in_file(words, error) {
+            return Failure::in_file(alloc, self.name, 0, error);
         }
+        Failure::of_options(alloc, error)
     }
 }

@@ -55,9 +55,16 @@ impl<'a> SettingsLine<'a> {
             words,
             ..
         } = self.options;
+        let timeouts = self.options.timeouts;
+        let least = timeouts.least();
+        let greatest = timeouts.greatest();
         write!(
             f,
-            " --max-under-way {max_under_way} --max-watches {max_watches} --unconnected {unconnected} --words {words}"
+            " --min-session-timeout {least} --max-session-timeout {greatest} --max-under-way {max_under_way}"
+        )?;
+        write!(
+            f,
+            " --max-watches {max_watches} --unconnected {unconnected} --words {words}"
         )
     }
 

@@ -3,7 +3,7 @@ use Rattle.std.proofs.Common.{◌≡◌, ◌≢◌, ◌<◌, ◌+◌, ℕ, zero,
 use Rattle.std.specs.Prelude.{slice_index_or}
 use Rattle.std.proofs.Math.Nat.{eq-or-lt_of_le}
 use Rattle.serve_options.specs.declared.row.Name.{Name}
-use Rattle.serve_options.specs.declared.row.Name.TheVariants.{Config, CheckConfig, Leader, Servers, Client, Id, Dialect, Counter, SecretFile, SuperDigest, Workers, Batch, MaxClients, MaxPerAddress, MaxUnderWay, MaxWatches, Unconnected, Words, Tick, InitLimit, SyncLimit, Checkpoint, GiveUp, Metrics, Record, Log, LogFormat, Help, Version}
+use Rattle.serve_options.specs.declared.row.Name.TheVariants.{Config, CheckConfig, Leader, Servers, Client, Id, Dialect, Counter, SecretFile, SuperDigest, Workers, Batch, MaxClients, MaxPerAddress, MaxUnderWay, MaxWatches, Unconnected, Words, Tick, InitLimit, SyncLimit, MinSessionTimeout, MaxSessionTimeout, Checkpoint, GiveUp, Metrics, Record, Log, LogFormat, Help, Version}
 use Rattle.serve_options.specs.declared.row.TheConstants.{NAMES}
 use Rattle.serve_options.specs.Places.{name_place}
 use Rattle.serve_options.specs.Rows.{option_word}
@@ -30,6 +30,8 @@ name_at Words = refl
 name_at Tick = refl
 name_at InitLimit = refl
 name_at SyncLimit = refl
+name_at MinSessionTimeout = refl
+name_at MaxSessionTimeout = refl
 name_at Checkpoint = refl
 name_at GiveUp = refl
 name_at Metrics = refl
@@ -39,7 +41,7 @@ name_at LogFormat = refl
 name_at Help = refl
 name_at Version = refl
 
-pub place_below : (name : Name) → name_place name < 29
+pub place_below : (name : Name) → name_place name < 31
 place_below Config = lit< tt
 place_below CheckConfig = lit< tt
 place_below Leader = lit< tt
@@ -61,6 +63,8 @@ place_below Words = lit< tt
 place_below Tick = lit< tt
 place_below InitLimit = lit< tt
 place_below SyncLimit = lit< tt
+place_below MinSessionTimeout = lit< tt
+place_below MaxSessionTimeout = lit< tt
 place_below Checkpoint = lit< tt
 place_below GiveUp = lit< tt
 place_below Metrics = lit< tt
@@ -82,7 +86,7 @@ placed_at (name ∷ names) first zero d are below = are.0 ∙ omega arith
 placed_at (name ∷ names) first (suc i) d are below =
     placed_at names (suc first) i d are.1 (omega arith) ∙ omega arith
 
-pub place_at : (i : ℕ) (d : Name) → i < 29 → name_place (slice_index_or NAMES i d) ≡ i
+pub place_at : (i : ℕ) (d : Name) → i < 31 → name_place (slice_index_or NAMES i d) ≡ i
 place_at i d below = placed_at NAMES 0 i d all below ∙ omega arith
   where
     all : ArePlaced 0 NAMES
@@ -142,7 +146,7 @@ place_at i d below = placed_at NAMES 0 i d all below ∙ omega arith
                                                           refl,
                                                           (
                                                             refl,
-                                                            (refl, tt),
+                                                            (refl, (refl, (refl, tt))),
                                                           ),
                                                         ),
                                                       ),

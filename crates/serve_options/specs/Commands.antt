@@ -1,10 +1,12 @@
 -- What a command line asks for.
-use Rattle.std.specs.Prelude.{◌≡◌, ◌↔◌, ◌≤◌, ℕ, pos, List, Option, Some, None, IfSome, IsTrue, vec_len, ◌++◌, if◌then◌else◌}
+use Rattle.std.specs.Prelude.{◌≡◌, ◌↔◌, ◌≤◌, ℕ, ◌*◌, ℤ, pos, List, Option, Some, None, IfSome, IsTrue, vec_len, ◌++◌, if◌then◌else◌}
 use Rattle.std.specs.Option.{unwrap_or, option_map}
 use Rattle.settings.specs.declared.dialect.Dialect.{Dialect}
+use Rattle.settings.specs.Settings.{TimeoutPair, timeouts_of}
 use Rattle.values.specs.Maybe.{◌>>=◌}
 use Rattle.log.specs.declared.level.LevelFilter.{LevelFilter}
 use Rattle.log.specs.declared.level.LevelFilter.TheVariants.{Info}
+use Rattle.serve_options.specs.declared.row.Name.{Name}
 use Rattle.serve_options.specs.declared.row.Name.TheVariants as names
 use Rattle.serve_options.specs.declared.given.Given.{Given}
 use Rattle.serve_options.specs.declared.command.Options.{Options}
@@ -20,10 +22,11 @@ use Rattle.serve_options.specs.declared.command.Command.{Command}
 use Rattle.serve_options.specs.declared.command.Command.TheVariants as commands
 use Rattle.serve_options.specs.Given.{given_of, value_of, number_given, IsGivenBy}
 use Rattle.serve_options.specs.Rows.{option_bounds, option_word, IsWithin}
-use Rattle.serve_options.specs.Values.{SpellsAddress, ArePlaces, level_of, format_of, dialect_of}
+use Rattle.serve_options.specs.Values.{number_within, SpellsAddress, ArePlaces, level_of, format_of, dialect_of}
 use Rattle.serve_options.specs.Words.{is_among, named_words, parts_of}
 
--- Each number is within the bounds of its option. Those of the server's id and of the limits are kept by their types.
+-- Each number is within the bounds of its option. Those of the server's id, of the limits and of timeouts are kept by
+-- their types.
 pub record IsWithinBounds (options : Options) : Type 0 where
   pub counter : IfSome options.first_counter (IsWithin (option_bounds names.Counter))
   pub clients : IfSome options.max_clients (IsWithin (option_bounds names.MaxClients))
@@ -54,6 +57,22 @@ AreServersOf given (followed.Any addresses) =
 -- The id that is given, or 1.
 abbrev pub id_given : List Given → ℕ
 id_given given = unwrap_or (number_given names.Id given) 1
+
+-- A bound of timeouts: the number that is given, or else so many ticks.
+abbrev pub ticks_given : ℕ → List Given → Option ℕ
+ticks_given count given = option_map (λ tick. count * tick) (number_given names.Tick given)
+
+abbrev pub timeout_given : Name → ℕ → List Given → Option ℤ
+timeout_given name count given =
+    option_map pos
+    (unwrap_or (option_map (number_within (option_bounds name)) (value_of name given)) (ticks_given count given))
+
+-- The least isn't above the greatest.
+abbrev pub timeouts_given : List Given → Option TimeoutPair
+timeouts_given given = do
+  least ← timeout_given names.MinSessionTimeout 2 given
+  greatest ← timeout_given names.MaxSessionTimeout 20 given
+  timeouts_of least greatest
 
 -- The words of a text that names some of them.
 abbrev pub words_given : List Given → Option Words
@@ -94,6 +113,7 @@ options_of servers others = record {
   tick = others.tick;
   init_limit = others.init_limit;
   sync_limit = others.sync_limit;
+  timeouts = others.timeouts;
   checkpoint = others.checkpoint;
   give_up = others.give_up;
   metrics = others.metrics;
@@ -122,6 +142,7 @@ pub record IsSetBy (given : List Given) (options : Options) : Type 0 where
   pub tick : number_given names.Tick given ≡ Some options.tick
   pub init_limit : number_given names.InitLimit given ≡ Some options.init_limit
   pub sync_limit : number_given names.SyncLimit given ≡ Some options.sync_limit
+  pub timeouts : timeouts_given given ≡ Some options.timeouts
   pub checkpoint : number_given names.Checkpoint given ≡ Some options.checkpoint
   pub give_up : options.give_up ≡ number_given names.GiveUp given
   pub metrics : IsAddressOf (value_of names.Metrics given) options.metrics

@@ -1,6 +1,6 @@
 -- What a configuration file sets, beside the options that are given.
-use Rattle.std.specs.Prelude.{ℕ, List, [], ◌∷◌, Bool, ◌&&◌, not, Option, Some, None, nat_eq, if◌then◌else◌, string_bytes, codes}
-use Rattle.std.specs.Option.{option_map, unwrap_or}
+use Rattle.std.specs.Prelude.{ℕ, List, [], ◌∷◌, Bool, ◌&&◌, not, Option, Some, None, is_some, nat_eq, if◌then◌else◌, string_bytes, codes}
+use Rattle.std.specs.Option.{option_map}
 use Rattle.std.specs.Str.{bytes_eq}
 use Rattle.serve_options.specs.declared.row.Name.{Name}
 use Rattle.serve_options.specs.declared.row.Name.TheVariants as names
@@ -8,9 +8,12 @@ use Rattle.serve_options.specs.declared.filed.Filed.{Filed}
 use Rattle.serve_options.specs.declared.given.Given.{Given}
 use Rattle.zoo_config.specs.declared.form.Entry.{Entry}
 use Rattle.zoo_config.specs.declared.server.Server.{Server}
+use Rattle.texts.specs.Number.{number_up_to}
+use Rattle.zoo_config.specs.Addresses.{without_plus, bare_host}
+use Rattle.zoo_config.specs.Servers.{place_spelling}
 use Rattle.zoo_config.specs.Keys.{value_in, setting_in, serves_metrics}
 use Rattle.serve_options.specs.Places.{name_place}
-use Rattle.serve_options.specs.Texts.{has_colon, place_text}
+use Rattle.serve_options.specs.Texts.{place_text}
 
 abbrev pub first_word : List (List ℕ) → Option (List ℕ)
 first_word [] = None
@@ -36,23 +39,29 @@ counts_beside has_leader option = not (has_leader && nat_eq (name_place option.n
 
 -- An address and a port: all addresses where none is named.
 abbrev pub filed_address : Option (List ℕ) → List ℕ → List ℕ
-filed_address address port = place_text (unwrap_or address (codes "0.0.0.0")) port
+filed_address None port = place_text (codes "0.0.0.0") (without_plus port)
+filed_address (Some address) port = place_text (bare_host address) (without_plus port)
 
--- Where this server serves clients by its own line: at a port, or at an address and a port.
-abbrev pub own_client : Option Server → Option (List ℕ)
+-- Where this server serves clients by its own line: at a port, or at a host and a port.
+abbrev pub own_client : Option Server → Option (Option (List ℕ) × List ℕ)
 own_client None = None
-own_client (Some server) = option_map (λ client. client.now) server.client
+own_client (Some server) = option_map place_spelling server.client
 
-abbrev pub whole_place : List ℕ → List ℕ
-whole_place client = if has_colon client then client else filed_address None client
+-- A port of 0 is as without the key.
+abbrev pub unless_none : Option (List ℕ) → Option (List ℕ)
+unless_none None = None
+unless_none (Some port) = if is_some (number_up_to 0 (without_plus port)) then None else Some port
+
+abbrev pub client_port : List Entry → Option (List ℕ)
+client_port entries = unless_none (value_in (codes "clientPort") entries)
 
 -- The keys for it go before its own line.
-abbrev pub client_by : List Entry → Option (List ℕ) → Option (List ℕ) → Option (List ℕ)
-client_by entries None own = option_map whole_place own
+abbrev pub client_by : List Entry → Option (List ℕ) → Option (Option (List ℕ) × List ℕ) → Option (List ℕ)
+client_by entries None own = option_map (λ place. filed_address place.0 place.1) own
 client_by entries (Some port) own = Some (filed_address (value_in (codes "clientPortAddress") entries) port)
 
-abbrev pub client_place : List Entry → Option (List ℕ) → Option (List ℕ)
-client_place entries own = client_by entries (value_in (codes "clientPort") entries) own
+abbrev pub client_place : List Entry → Option (Option (List ℕ) × List ℕ) → Option (List ℕ)
+client_place entries own = client_by entries (client_port entries) own
 
 -- Where metrics are served, if the file asks for it.
 abbrev pub metrics_place : List Entry → Option (List ℕ)

@@ -1,7 +1,7 @@
 -- The place of each option in the list of all.
 use Rattle.std.specs.Prelude.{ℕ}
 use Rattle.serve_options.specs.declared.row.Name.{Name}
-use Rattle.serve_options.specs.declared.row.Name.TheVariants.{Config, CheckConfig, Leader, Servers, Client, Id, Dialect, Counter, SecretFile, SuperDigest, Workers, Batch, MaxClients, MaxPerAddress, MaxUnderWay, MaxWatches, Unconnected, Words, Tick, InitLimit, SyncLimit, Checkpoint, GiveUp, Metrics, Record, Log, LogFormat, Help, Version}
+use Rattle.serve_options.specs.declared.row.Name.TheVariants.{Config, CheckConfig, Leader, Servers, Client, Id, Dialect, Counter, SecretFile, SuperDigest, Workers, Batch, MaxClients, MaxPerAddress, MaxUnderWay, MaxWatches, Unconnected, Words, Tick, InitLimit, SyncLimit, MinSessionTimeout, MaxSessionTimeout, Checkpoint, GiveUp, Metrics, Record, Log, LogFormat, Help, Version}
 
 abbrev pub name_place : Name → ℕ
 name_place Config = 0
@@ -25,11 +25,13 @@ name_place Words = 17
 name_place Tick = 18
 name_place InitLimit = 19
 name_place SyncLimit = 20
-name_place Checkpoint = 21
-name_place GiveUp = 22
-name_place Metrics = 23
-name_place Record = 24
-name_place Log = 25
-name_place LogFormat = 26
-name_place Help = 27
-name_place Version = 28
+name_place MinSessionTimeout = 21
+name_place MaxSessionTimeout = 22
+name_place Checkpoint = 23
+name_place GiveUp = 24
+name_place Metrics = 25
+name_place Record = 26
+name_place Log = 27
+name_place LogFormat = 28
+name_place Help = 29
+name_place Version = 30

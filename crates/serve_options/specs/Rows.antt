@@ -1,7 +1,7 @@
 -- The options: the word of each, and what its value may be.
 use Rattle.std.specs.Prelude.{ℕ, ◌-◌, ◌^◌, ◌≤◌, List, codes}
 use Rattle.serve_options.specs.declared.row.Name.{Name}
-use Rattle.serve_options.specs.declared.row.Name.TheVariants.{Config, CheckConfig, Leader, Servers, Client, Id, Dialect, Counter, SecretFile, SuperDigest, Workers, Batch, MaxClients, MaxPerAddress, MaxUnderWay, MaxWatches, Unconnected, Words, Tick, InitLimit, SyncLimit, Checkpoint, GiveUp, Metrics, Record, Log, LogFormat, Help, Version}
+use Rattle.serve_options.specs.declared.row.Name.TheVariants.{Config, CheckConfig, Leader, Servers, Client, Id, Dialect, Counter, SecretFile, SuperDigest, Workers, Batch, MaxClients, MaxPerAddress, MaxUnderWay, MaxWatches, Unconnected, Words, Tick, InitLimit, SyncLimit, MinSessionTimeout, MaxSessionTimeout, Checkpoint, GiveUp, Metrics, Record, Log, LogFormat, Help, Version}
 use Rattle.serve_options.specs.declared.row.Bounds.{Bounds}
 use Rattle.serve_options.specs.declared.row.Kind.{Kind}
 use Rattle.serve_options.specs.declared.row.Kind.TheVariants as kinds
@@ -28,6 +28,8 @@ option_word Words = codes "--words"
 option_word Tick = codes "--tick"
 option_word InitLimit = codes "--init-limit"
 option_word SyncLimit = codes "--sync-limit"
+option_word MinSessionTimeout = codes "--min-session-timeout"
+option_word MaxSessionTimeout = codes "--max-session-timeout"
 option_word Checkpoint = codes "--checkpoint"
 option_word GiveUp = codes "--give-up"
 option_word Metrics = codes "--metrics"
@@ -63,6 +65,8 @@ option_kind Words = kinds.Words
 option_kind Tick = from_to 1 3600000
 option_kind InitLimit = from_to 0 1000000
 option_kind SyncLimit = from_to 0 1000000
+option_kind MinSessionTimeout = from_to 1 2147483647
+option_kind MaxSessionTimeout = from_to 1 2147483647
 option_kind Checkpoint = from_to 0 1048576
 option_kind GiveUp = from_to 1 31536000
 option_kind Metrics = kinds.Address

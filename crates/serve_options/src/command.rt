@@ -6,7 +6,7 @@ ghost use Rattle.serve_options.specs.Values.{number_within, is_digest_text};
 ghost use Rattle.serve_options.specs.Words.{is_among};
 ghost use Rattle.serve_options.specs.Given.{value_of, number_given, number_answer};
 ghost use Rattle.serve_options.specs.declared.command.Servers.{Servers as Followed};
-ghost use Rattle.serve_options.specs.Commands.{IsWithinBounds, IsSetBy, IsAddressOf, IsFileOf, AreOptionsOver, AreWordsOf, command_asked, AreServersOf, id_given, words_given, level_given, format_given, dialect_given, options_of};
+ghost use Rattle.serve_options.specs.Commands.{IsWithinBounds, IsSetBy, IsAddressOf, IsFileOf, AreOptionsOver, AreWordsOf, command_asked, AreServersOf, id_given, timeout_given, timeouts_given, words_given, level_given, format_given, dialect_given, options_of};
 
 use crate::error::OptionError;
 use crate::given::{Given, find_given, given_in, spelled};
@@ -18,7 +18,7 @@ use crate::value::{
 use crate::words::{Words, words_of};
 use batcher::Limits;
 use log::LevelFilter;
-use settings::{Dialect, FirstCounter, ServerId};
+use settings::{Dialect, FirstCounter, ServerId, TimeoutBounds};
 use std::alloc::Global;
 
 /// Which servers to follow.
@@ -69,6 +69,8 @@ pub struct Options<'a> {
     pub init_limit: u64,
     /// How many ticks it may be silent afterwards; 0: any number. At most 1,000,000.
     pub sync_limit: u64,
+    /// The bounds of the timeouts of sessions.
+    pub timeouts: TimeoutBounds,
     /// The least MiB of the leader's bytes between two checkpoints, at most 1,048,576; 0: none is taken.
     pub checkpoint: u64,
     /// For how many seconds a leader is looked for, from 1 to 31,536,000; None: without end.
@@ -234,6 +236,37 @@ fn limits_in<'a>(given: &[Given<'a>]) -> Result<Limits, OptionError<'a>>
     }
 }
 
+// The least timeout of sessions, as it is given or as ZooKeeper takes it: two ticks.
+fn least_timeout<'a>(given: &[Given<'a>]) -> Result<i32, OptionError<'a>>
+    ensures { IfOk result (λ least. timeout_given Name.MinSessionTimeout 2 given.now ≡ Some least) }
+{
+    match number_in(given, Name::MinSessionTimeout)? {
+        Some(least) => Ok(least as i32),
+        None => Ok((2 * number(given, Name::Tick)?) as i32),
+    }
+}
+
+// The greatest one: twenty ticks, if it isn't given.
+fn greatest_timeout<'a>(given: &[Given<'a>]) -> Result<i32, OptionError<'a>>
+    ensures { IfOk result (λ greatest. timeout_given Name.MaxSessionTimeout 20 given.now ≡ Some greatest) }
+{
+    match number_in(given, Name::MaxSessionTimeout)? {
+        Some(greatest) => Ok(greatest as i32),
+        None => Ok((20 * number(given, Name::Tick)?) as i32),
+    }
+}
+
+fn timeouts_in<'a>(given: &[Given<'a>]) -> Result<TimeoutBounds, OptionError<'a>>
+    ensures { IfOk result (λ timeouts. timeouts_given given.now ≡ Some timeouts) }
+{
+    let least = least_timeout(given)?;
+    let greatest = greatest_timeout(given)?;
+    match TimeoutBounds::new(least, greatest) {
+        Some(timeouts) => Ok(timeouts),
+        None => Err(OptionError::CrossedTimeouts { least, greatest }),
+    }
+}
+
 fn words_in<'a>(given: &[Given<'a>]) -> Result<Words, OptionError<'a>>
     ensures { IfOk result (λ words. words_given given.now ≡ Some words) }
 {
@@ -320,6 +353,7 @@ pub struct Others<'a> {
     pub tick: u64,
     pub init_limit: u64,
     pub sync_limit: u64,
+    pub timeouts: TimeoutBounds,
     pub checkpoint: u64,
     pub give_up: Option<u64>,
     pub metrics: Option<Address<'a>>,
@@ -351,6 +385,7 @@ fn others_in<'a>(given: &[Given<'a>]) -> Result<Others<'a>, OptionError<'a>>
         tick: number(given, Name::Tick)?,
         init_limit: number(given, Name::InitLimit)?,
         sync_limit: number(given, Name::SyncLimit)?,
+        timeouts: timeouts_in(given)?,
         checkpoint: number(given, Name::Checkpoint)?,
         give_up: number_in(given, Name::GiveUp)?,
         metrics: address_in(given, Name::Metrics)?,
@@ -385,6 +420,7 @@ fn options_in<'a>(alloc: Global, given: &[Given<'a>]) -> Result<Options<'a>, Opt
             tick: others.tick,
             init_limit: others.init_limit,
             sync_limit: others.sync_limit,
+            timeouts: others.timeouts,
             checkpoint: others.checkpoint,
             give_up: others.give_up,
             metrics: others.metrics,

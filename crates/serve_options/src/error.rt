@@ -40,6 +40,12 @@ pub enum OptionError<'a> {
     NoServers,
     #[error("--leader and --servers are given: one of the two")]
     LeaderAndServers,
+    /// The least timeout of sessions is above the greatest, each as it is given or by the tick.
+    #[error("--min-session-timeout {least} is above --max-session-timeout {greatest}; without them: 2 and 20 ticks")]
+    CrossedTimeouts {
+        least: i32,
+        greatest: i32,
+    },
     #[error("--config and --check-config are given: one of the two")]
     TwoFiles,
     /// An allocation was refused.

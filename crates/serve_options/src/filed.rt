@@ -3,7 +3,7 @@
 ghost use Rattle.std.specs.Prelude.{◌≡◌, IfOk, map, filter, string_bytes, option_map};
 ghost use Rattle.serve_options.specs.Rows.{option_word};
 ghost use Rattle.serve_options.specs.Texts.{place_text};
-ghost use Rattle.serve_options.specs.Filed.{word_after, given_spelling, filed_spelling, counts_beside, filed_address, client_place, own_client, metrics_place};
+ghost use Rattle.serve_options.specs.Filed.{word_after, given_spelling, filed_spelling, counts_beside, filed_address, client_port, client_place, own_client, metrics_place};
 
 use crate::given::Given;
 use crate::row::Name;
@@ -13,8 +13,9 @@ use std::alloc::{AllocError, Global};
 use std::fmt;
 use texts::number_up_to;
 use zoo_config::{
-    BadLine, ConfigError, Entry, Reason, Server, server_in, serves_metrics, setting_in, value_in,
-    voters_beside,
+    BadLine, ClientPlace, ConfigError, Entry, Reason, Server, addresses_in, bare_host,
+    is_negative_up_to, server_in, serves_metrics, setting_in, value_in, voters_beside,
+    without_plus,
 };
 
 /// An option that a file sets, and its value as it would be spelled.
@@ -24,17 +25,15 @@ pub struct Filed {
     pub value: String,
 }
 
-// The options that are set by one key each.
-const KEYS: [(&str, Name); 6] = [
+// The options that are set by one key each, whose value is a number.
+const KEYS: [(&str, Name); 7] = [
     ("tickTime", Name::Tick),
     ("initLimit", Name::InitLimit),
     ("syncLimit", Name::SyncLimit),
+    ("minSessionTimeout", Name::MinSessionTimeout),
+    ("maxSessionTimeout", Name::MaxSessionTimeout),
     ("maxClientCnxns", Name::MaxPerAddress),
     ("maxCnxns", Name::MaxClients),
-    (
-        "DigestAuthenticationProvider.superDigest",
-        Name::SuperDigest,
-    ),
 ];
 
 const MOST_ID: u64 = 255;
@@ -44,15 +43,32 @@ fn put(filed: &mut Vec<Filed>, name: Name, value: String) -> Result<(), AllocErr
     Ok(())
 }
 
-// Sets the options of one key each. No bound is 0 in a file, and not given as an option.
+const MOST_NEGATIVE: u64 = 2_147_483_648;
+
+// Whether the value says that the key is as without it, where the option isn't given then: a bound of connections that
+// isn't above zero is none, and a timeout of minus one is that of the ticks.
+fn is_unset(name: Name, value: &str) -> bool {
+    match name {
+        Name::MaxPerAddress | Name::MaxClients => is_negative_up_to(MOST_NEGATIVE, value),
+        Name::MinSessionTimeout | Name::MaxSessionTimeout => {
+            is_negative_up_to(1, value) && number_up_to(0, value.as_bytes()).is_none()
+        }
+        _ => false,
+    }
+}
+
+// Sets the options of one key each. A number may have a plus in front.
 fn put_keys(alloc: Global, filed: &mut Vec<Filed>, entries: &[Entry]) -> Result<(), AllocError> {
     for (key, name) in KEYS {
-        let is_bound = name == Name::MaxPerAddress || name == Name::MaxClients;
         if let Some(value) = setting_in(entries, key) {
-            if !is_bound || value != "0" {
+            let value = without_plus(value);
+            if !is_unset(name, value) {
                 put(filed, name, String::from_str(alloc, value)?)?;
             }
         }
+    }
+    if let Some(digest) = value_in(entries, "DigestAuthenticationProvider.superDigest") {
+        put(filed, Name::SuperDigest, String::from_str(alloc, digest)?)?;
     }
     Ok(())
 }
@@ -78,13 +94,14 @@ fn whitelisted(alloc: Global, list: &str) -> Result<String, AllocError> {
     Ok(words)
 }
 
-// The servers of a file, each by the last line that names it.
+// The servers of a file, each by the last line that has its key.
 fn servers_of<'a>(alloc: Global, entries: &'a [Entry]) -> Result<Vec<Server<'a>>, ConfigError> {
     let mut servers = Vec::new(alloc);
-    for entry in entries {
-        if let Some(server) = server_in(entry).map_err(ConfigError::Bad)? {
-            let key = entry.key.as_str();
-            if value_in(entries, key) == Some(entry.value.as_str()) {
+    let mut rest = entries;
+    while let Some((entry, others)) = rest.split_first() {
+        rest = others;
+        if value_in(rest, entry.key.as_str()).is_none() {
+            if let Some(server) = server_in(alloc, entry)? {
                 servers.push(server)?;
             }
         }
@@ -99,19 +116,18 @@ fn wrong(server: &Server<'_>, reason: Reason) -> ConfigError {
     })
 }
 
-// Appends the quorum ports of a server, which come before the ports of elections.
-fn put_quorum(out: &mut String, server: &Server<'_>) -> Result<(), ConfigError> {
-    for address in server.addresses.split("|") {
-        let Some((quorum, _)) = address.rsplit_once(":") else {
+// Appends the quorum ports of a server.
+fn put_quorum(alloc: Global, out: &mut String, server: &Server<'_>) -> Result<(), ConfigError> {
+    let addresses = addresses_in(alloc, server.addresses)?;
+    for address in addresses.as_slice() {
+        let Some(address) = address else {
             return Err(wrong(server, Reason::Server));
         };
-        if !quorum.contains(":") {
-            return Err(wrong(server, Reason::Server));
-        }
         if !out.as_str().is_empty() {
             out.push_str(",")?;
         }
-        out.push_str(quorum)?;
+        let place = place_text(alloc, address.host, address.port)?;
+        out.push_str(place.as_str())?;
     }
     Ok(())
 }
@@ -121,7 +137,7 @@ fn voters_text(alloc: Global, servers: &[Server<'_>], id: u64) -> Result<String,
     let mut out = String::new(alloc);
     let voters = voters_beside(alloc, servers, id)?;
     for server in voters.as_slice() {
-        put_quorum(&mut out, server)?;
+        put_quorum(alloc, &mut out, server)?;
     }
     Ok(out)
 }
@@ -175,9 +191,20 @@ fn address_text(alloc: Global, address: Option<&str>, port: &str) -> Result<Stri
         string_bytes text ≡ filed_address (option_map (λ host. host.now) address.entry) port.now) }
 {
     match address {
-        Some(host) => place_text(alloc, host, port),
-        None => place_text(alloc, "0.0.0.0", port),
+        Some(host) => place_text(alloc, bare_host(host), without_plus(port)),
+        None => place_text(alloc, "0.0.0.0", without_plus(port)),
     }
+}
+
+// The port of clients, by the key for it; 0 is as without the key.
+fn client_port(entries: &[Entry]) -> Option<&str>
+    ensures { option_map (λ port. port.now) result ≡ client_port entries.now }
+{
+    let port = value_in(entries, "clientPort")?;
+    if number_up_to(0, without_plus(port).as_bytes()).is_some() {
+        return None;
+    }
+    Some(port)
 }
 
 // Where clients are served: by the keys for it, or by this server's own line.
@@ -188,7 +215,7 @@ fn client_of(
 ) -> Result<Option<String>, AllocError>
     ensures { IfOk result (λ place. option_map string_bytes place ≡ client_place entries.now (own_client own.entry)) }
 {
-    if let Some(port) = value_in(entries, "clientPort") {
+    if let Some(port) = client_port(entries) {
         let address = value_in(entries, "clientPortAddress");
         return Ok(Some(address_text(alloc, address, port)?));
     }
@@ -198,8 +225,7 @@ fn client_of(
     };
     match client {
         None => Ok(None),
-        Some(client) if has_colon(client) => Ok(Some(String::from_str(alloc, client)?)),
-        Some(port) => Ok(Some(address_text(alloc, None, port)?)),
+        Some(ClientPlace { host, port }) => Ok(Some(address_text(alloc, host, port)?)),
     }
 }
 

@@ -32,6 +32,8 @@ pub enum Name {
     Tick,
     InitLimit,
     SyncLimit,
+    MinSessionTimeout,
+    MaxSessionTimeout,
     Checkpoint,
     GiveUp,
     Metrics,
@@ -43,7 +45,7 @@ pub enum Name {
 }
 
 /// The options, in the order in which help lists them.
-pub const NAMES: [Name; 29] = [
+pub const NAMES: [Name; 31] = [
     Name::Config,
     Name::CheckConfig,
     Name::Leader,
@@ -65,6 +67,8 @@ pub const NAMES: [Name; 29] = [
     Name::Tick,
     Name::InitLimit,
     Name::SyncLimit,
+    Name::MinSessionTimeout,
+    Name::MaxSessionTimeout,
     Name::Checkpoint,
     Name::GiveUp,
     Name::Metrics,
@@ -175,7 +179,7 @@ const CONFIG: Row = Row {
     value: "FILE",
     kind: Kind::File,
     without: Without::Meaning("no file is read"),
-    help: "takes what the `zoo.cfg` of the ensemble sets, where no option does",
+    help: "takes from the ensemble's `zoo.cfg` what no option sets",
 };
 
 const CHECK_CONFIG: Row = Row {
@@ -238,8 +242,10 @@ const SECRET_FILE: Row = Row {
     word: "--secret-file",
     value: "FILE",
     kind: Kind::File,
-    without: Without::Meaning("as ZooKeeper's own servers make them; in dialect 3.4 of no secret"),
-    help: "makes the passwords of sessions of the 1 to 64 bytes in this file, which others can't read",
+    without: Without::Meaning(
+        "as ZooKeeper's own servers make them; in dialect 3.4 from no secret",
+    ),
+    help: "makes the passwords of sessions from the 1 to 64 bytes of this file, which others must not be able to read",
 };
 
 const SUPER_DIGEST: Row = Row {
@@ -247,7 +253,7 @@ const SUPER_DIGEST: Row = Row {
     value: "USER:HASH",
     kind: Kind::Digest,
     without: Without::Meaning("there is no super user"),
-    help: "makes the super user of who knows the password of this digest, whom every access list lets in",
+    help: "whoever shows the password of this digest is the super user, whom every access list lets in",
 };
 
 const WORKERS: Row = Row {
@@ -338,6 +344,22 @@ const SYNC_LIMIT: Row = Row {
     help: "the ticks that it may be silent afterwards; 0: as long as it likes",
 };
 
+const MIN_SESSION_TIMEOUT: Row = Row {
+    word: "--min-session-timeout",
+    value: "MS",
+    kind: from_to!(1, 2_147_483_647),
+    without: Without::Meaning("two ticks"),
+    help: "the least timeout that a session is given, whatever its client asks for",
+};
+
+const MAX_SESSION_TIMEOUT: Row = Row {
+    word: "--max-session-timeout",
+    value: "MS",
+    kind: from_to!(1, 2_147_483_647),
+    without: Without::Meaning("twenty ticks"),
+    help: "the greatest timeout that a session is given, not below the least",
+};
+
 const CHECKPOINT: Row = Row {
     word: "--checkpoint",
     value: "MIB",
@@ -403,7 +425,7 @@ const VERSION: Row = Row {
 };
 
 /// The rows of all options, in the order of [`NAMES`].
-pub(crate) static ROWS: [Row; 29] = [
+pub(crate) static ROWS: [Row; 31] = [
     CONFIG,
     CHECK_CONFIG,
     LEADER,
@@ -425,6 +447,8 @@ pub(crate) static ROWS: [Row; 29] = [
     TICK,
     INIT_LIMIT,
     SYNC_LIMIT,
+    MIN_SESSION_TIMEOUT,
+    MAX_SESSION_TIMEOUT,
     CHECKPOINT,
     GIVE_UP,
     METRICS,
@@ -436,7 +460,7 @@ pub(crate) static ROWS: [Row; 29] = [
 ];
 
 // The row of an option in a table.
-fn row_in(rows: &[Row; 29], name: Name) -> Row
+fn row_in(rows: &[Row; 31], name: Name) -> Row
     ensures { IsOptionTable rows.now → row_said result ≡ option_said name }
 {
     rows[name.place()]
@@ -446,7 +470,7 @@ impl Name {
     // The place of the option among all.
     fn place(self) -> usize
         ensures place { result ≡ name_place self }
-        ensures bound { result < 29 }
+        ensures bound { result < 31 }
     {
         self as usize
     }

@@ -1,9 +1,11 @@
 -- The lines of a record, in the form of a script.
-use Rattle.std.specs.Prelude.{◌≡◌, ℕ, ℤ, zero, suc, List, [], ◌∷◌, ◌++◌, Option, Some, None, codes, decimal}
+use Rattle.std.specs.Prelude.{◌≡◌, ℕ, ℤ, zero, suc, List, [], ◌∷◌, ◌++◌, Option, Some, None, ◌&&◌, if◌then◌else◌, codes, decimal}
 use Rattle.std.specs.Fmt.{signed_decimal}
 use Rattle.std.specs.List.{flat_map}
+use Rattle.std.specs.Ordering.{int_eq}
 use Rattle.std.specs.Int.{w64, cast_unsigned, to_be_bytes}
 use Rattle.values.specs.Hex.{hex_digits}
+use Rattle.settings.specs.Settings.{TimeoutPair, default_timeouts}
 use Rattle.serve_options.specs.Values.{dialect_of}
 use Rattle.world.specs.declared.world.Settings.{Settings}
 use Rattle.intake.specs.declared.message.Message.{Message}
@@ -40,6 +42,12 @@ message_lines messages = flat_map (λ m. message_line m.0 m.1) messages
 
 -- ---- settings
 
+-- The bounds of timeouts, if they aren't those of a script without the line.
+abbrev pub timeouts_line : TimeoutPair → List ℕ
+timeouts_line timeouts =
+    if int_eq timeouts.least default_timeouts.least && int_eq timeouts.greatest default_timeouts.greatest then []
+    else codes "timeouts " ++ signed_decimal timeouts.least ++ codes " " ++ signed_decimal timeouts.greatest ++ line_end
+
 -- Without a secret there is no line of one.
 abbrev pub secret_line : List ℕ → List ℕ
 secret_line [] = []
@@ -55,9 +63,12 @@ number_lines settings release =
     codes "server " ++ signed_decimal settings.server_id ++ codes "\ndialect " ++ release ++ codes "\ncounter "
     ++ decimal settings.first_counter ++ line_end
 
+unfoldable pub bounded_lines : Settings → List ℕ → List ℕ
+bounded_lines settings release = number_lines settings release ++ timeouts_line settings.timeouts
+
 abbrev pub settings_lines : Settings → List ℕ → List ℕ
 settings_lines settings release =
-    number_lines settings release ++ secret_line settings.secret ++ super_line settings.super_digest
+    bounded_lines settings release ++ secret_line settings.secret ++ super_line settings.super_digest
 
 abbrev pub AreLinesOf : Settings → List ℕ → Type 0
 AreLinesOf settings lines =

@@ -3,13 +3,14 @@
 ghost use Rattle.std.specs.Prelude.{◌≡◌, ◌++◌, ℕ, List, Some, true, IfSome, IsOk, OnOk};
 ghost use Rattle.std.specs.Io.KnownBytes.{Appends};
 ghost use Rattle.serve_options.specs.Values.{dialect_of};
-ghost use Rattle.serve_record.specs.Lines.{port_words, address_words, session_digits, message_line, message_lines, number_lines, secret_line, super_line, AreLinesOf};
+ghost use Rattle.serve_record.specs.Lines.{port_words, address_words, session_digits, message_line, message_lines, number_lines, timeouts_line, bounded_lines, secret_line, super_line, AreLinesOf};
 ghost use Rattle.serve_record.specs.Records.{GainsLines};
 
 use intake::Message;
 use observer_core::Settings;
 use replay_script::put_hex;
 use serve_options::release_of;
+use settings::TimeoutBounds;
 use std::alloc::Global;
 use std::io::Write;
 use std::marker::Model;
@@ -102,6 +103,22 @@ fn put_numbers(out: &mut Vec<u8>, settings: &Settings) -> Result<(), NoMemory>
     }
 }
 
+// Appends the line of the bounds of timeouts, if they aren't those of every script.
+fn put_timeouts(out: &mut Vec<u8>, timeouts: TimeoutBounds) -> Result<(), NoMemory>
+    ensures { OnOk result (out.new.items ≡ out.old.items ++ timeouts_line timeouts) }
+{
+    let least = timeouts.least();
+    let greatest = timeouts.greatest();
+    let usual = TimeoutBounds::default();
+    if least == usual.least() && greatest == usual.greatest() {
+        return Ok(());
+    }
+    match write!(out, "timeouts {least} {greatest}\n") {
+        Ok(()) => Ok(()),
+        Err(_) => Err(NoMemory),
+    }
+}
+
 fn put_secret(out: &mut Vec<u8>, secret: &[u8]) -> Result<(), NoMemory>
     ensures { OnOk result (out.new.items ≡ out.old.items ++ secret_line secret.now) }
 {
@@ -113,12 +130,22 @@ fn put_secret(out: &mut Vec<u8>, secret: &[u8]) -> Result<(), NoMemory>
     put(out, b"\n")
 }
 
+// Appends the lines of the settings that every observer has, and of the bounds of timeouts.
+#[tactic(auto, unfolding(crate::specs::Lines::bounded_lines))]
+fn put_bounded(out: &mut Vec<u8>, settings: &Settings) -> Result<(), NoMemory>
+    ensures { OnOk result ((release : List ℕ) × (dialect_of release ≡ Some settings.now.dialect)
+        × (out.new.items ≡ out.old.items ++ bounded_lines settings.now release)) }
+{
+    put_numbers(out, settings)?;
+    put_timeouts(out, settings.timeouts)
+}
+
 // Appends the lines of settings.
 fn put_settings(out: &mut Vec<u8>, settings: &Settings) -> Result<(), NoMemory>
     ensures { OnOk result ((lines : List ℕ) × AreLinesOf settings.now lines
         × (out.new.items ≡ out.old.items ++ lines)) }
 {
-    put_numbers(out, settings)?;
+    put_bounded(out, settings)?;
     put_secret(out, settings.secret.as_slice())?;
     put_super(out, settings)
 }
@@ -196,8 +223,8 @@ impl<W: Write + Drop> Record<W> {
     }
 
     /// Records the observer's settings that aren't those of every script: its id, the dialect, the counter after which
-    /// its session ids begin, and the secret of passwords and the super user's digest, if there are any. If they can't be
-    /// made or written, the record has ended.
+    /// its session ids begin, the bounds of timeouts if they are others, and the secret of passwords and the super
+    /// user's digest, if there are any. If they can't be made or written, the record has ended.
     pub fn begin(&mut self, settings: &Settings)
         ensures { GainsLines W.contents (AreLinesOf settings.now) self.old self.new }
     {

@@ -66,11 +66,11 @@ pub record WorkedRows : Type 0 where
   pub mntr :
       answer_text Mntr worked_report
       ≡ codes "zk_version\t3.8.0-kezhundam\nzk_server_state\tobserver\nzk_peer_state\tobserving - broadcast\n"
-      ++ codes "zk_uptime\t61500\nzk_avg_latency\t0.6666\nzk_max_latency\t1\nzk_min_latency\t0\n"
-      ++ codes "zk_packets_received\t7\nzk_packets_sent\t6\nzk_num_alive_connections\t2\n"
-      ++ codes "zk_outstanding_requests\t1\nzk_connection_rejected\t0\nzk_znode_count\t5\nzk_watch_count\t5\n"
-      ++ codes "zk_ephemerals_count\t1\nzk_global_sessions\t3\n"
-      ++ codes "zk_open_file_descriptor_count\t31\nzk_max_file_descriptor_count\t1024\n"
+      ++ codes "zk_ephemerals_count\t1\nzk_num_alive_connections\t2\nzk_avg_latency\t0.6666\n"
+      ++ codes "zk_outstanding_requests\t1\nzk_znode_count\t5\nzk_global_sessions\t3\n"
+      ++ codes "zk_packets_sent\t6\nzk_packets_received\t7\nzk_watch_count\t5\nzk_min_latency\t0\n"
+      ++ codes "zk_max_file_descriptor_count\t1024\nzk_open_file_descriptor_count\t31\n"
+      ++ codes "zk_uptime\t61500\nzk_max_latency\t1\nzk_connection_rejected\t0\n"
   pub mntr_without_descriptors : mntr_descriptors None ≡ []
   pub conf :
       answer_text Conf worked_report

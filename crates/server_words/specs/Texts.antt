@@ -1,5 +1,5 @@
--- The answer to each word. Each line is one of ZooKeeper 3.8, which has more: lines are left out whose figures aren't
--- known here. They are in its order, but for the lines of `mntr`, which have no order there.
+-- The answer to each word. The lines are those of ZooKeeper 3.8 in its order, without the lines whose figures aren't
+-- known here.
 use Rattle.std.specs.Prelude.{◌≡◌, ◌==◌, ℕ, ◌+◌, ◌*◌, ◌/◌, ◌%◌, ℤ, List, [], ◌++◌, Option, Some, None, false, if◌then◌else◌, codes, decimal}
 use Rattle.std.specs.List.{flat_map}
 use Rattle.std.specs.Int.{w64, cast_unsigned}
@@ -74,22 +74,17 @@ stat_text r =
 abbrev pub cons_text : Report → List ℕ
 cons_text r = flat_map client_line r.clients ++ codes "\n"
 
-abbrev pub mntr_state : List ℕ → ServerFigures → List ℕ
-mntr_state version f =
+abbrev pub mntr_state : List ℕ → List ℕ
+mntr_state version =
     codes "zk_version\t" ++ version
-    ++ codes "\nzk_server_state\tobserver\nzk_peer_state\tobserving - broadcast\nzk_uptime\t"
-    ++ decimal f.uptime ++ codes "\n"
+    ++ codes "\nzk_server_state\tobserver\nzk_peer_state\tobserving - broadcast\n"
 
 abbrev pub traffic_of : ServerFigures → List ℕ → List ℕ
 traffic_of f average =
-    codes "zk_avg_latency\t" ++ average
-    ++ codes "\nzk_max_latency\t" ++ decimal (f.latency.most / 1000)
-    ++ codes "\nzk_min_latency\t" ++ decimal (f.latency.least / 1000)
-    ++ codes "\nzk_packets_received\t" ++ decimal f.received
-    ++ codes "\nzk_packets_sent\t" ++ decimal f.sent
+    codes "zk_ephemerals_count\t" ++ decimal f.pairs
     ++ codes "\nzk_num_alive_connections\t" ++ decimal f.connections
-    ++ codes "\nzk_outstanding_requests\t" ++ decimal f.outstanding
-    ++ codes "\nzk_connection_rejected\t" ++ decimal f.rejected ++ codes "\n"
+    ++ codes "\nzk_avg_latency\t" ++ average
+    ++ codes "\nzk_outstanding_requests\t" ++ decimal f.outstanding ++ codes "\n"
 
 abbrev pub mntr_traffic : Report → List ℕ
 mntr_traffic r = traffic_of r.figures (average_text r.dialect r.figures.latency)
@@ -97,23 +92,32 @@ mntr_traffic r = traffic_of r.figures (average_text r.dialect r.figures.latency)
 abbrev pub mntr_tree : ServerFigures → List ℕ
 mntr_tree f =
     codes "zk_znode_count\t" ++ decimal (node_total f)
+    ++ codes "\nzk_global_sessions\t" ++ decimal f.sessions
+    ++ codes "\nzk_packets_sent\t" ++ decimal f.sent
+    ++ codes "\nzk_packets_received\t" ++ decimal f.received
     ++ codes "\nzk_watch_count\t" ++ decimal f.watches
-    ++ codes "\nzk_ephemerals_count\t" ++ decimal f.pairs
-    ++ codes "\nzk_global_sessions\t" ++ decimal f.sessions ++ codes "\n"
+    ++ codes "\nzk_min_latency\t" ++ decimal (f.latency.least / 1000) ++ codes "\n"
 
 abbrev pub descriptor_lines : Descriptors → List ℕ
 descriptor_lines d =
-    codes "zk_open_file_descriptor_count\t" ++ decimal d.count
-    ++ codes "\nzk_max_file_descriptor_count\t" ++ decimal d.most ++ codes "\n"
+    codes "zk_max_file_descriptor_count\t" ++ decimal d.most
+    ++ codes "\nzk_open_file_descriptor_count\t" ++ decimal d.count ++ codes "\n"
 
--- The last lines, where the system tells of descriptors.
+-- These lines are there where the system tells of descriptors.
 abbrev pub mntr_descriptors : Option Descriptors → List ℕ
 mntr_descriptors None = []
 mntr_descriptors (Some d) = descriptor_lines d
 
+abbrev pub mntr_end : ServerFigures → List ℕ
+mntr_end f =
+    codes "zk_uptime\t" ++ decimal f.uptime
+    ++ codes "\nzk_max_latency\t" ++ decimal (f.latency.most / 1000)
+    ++ codes "\nzk_connection_rejected\t" ++ decimal f.rejected ++ codes "\n"
+
 abbrev pub mntr_report : Report → List ℕ
 mntr_report r =
-    mntr_state r.version r.figures ++ mntr_traffic r ++ mntr_tree r.figures ++ mntr_descriptors r.figures.descriptors
+    mntr_state r.version ++ mntr_traffic r ++ mntr_tree r.figures ++ mntr_descriptors r.figures.descriptors
+    ++ mntr_end r.figures
 
 -- A server whose peerType is 1 is an observer.
 abbrev pub conf_text : ServerSettings → List ℕ

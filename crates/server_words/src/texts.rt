@@ -2,7 +2,7 @@
 
 ghost use Rattle.std.specs.Prelude.{◌≡◌, ◌++◌, OnOk, OnErr, codes};
 ghost use Rattle.std.specs.List.{flat_map};
-ghost use Rattle.server_words.specs.Texts.{answer_text, told_text, version_line, average_text, state_traffic, zxid_line, mode_text, state_text, mntr_state, mntr_traffic, mntr_tree, descriptor_lines, mntr_descriptors, mntr_report, conf_text, envi_text, client_line, stat_text, srvr_report, cons_text};
+ghost use Rattle.server_words.specs.Texts.{answer_text, told_text, version_line, average_text, state_traffic, zxid_line, mode_text, state_text, mntr_state, mntr_traffic, mntr_tree, descriptor_lines, mntr_descriptors, mntr_end, mntr_report, conf_text, envi_text, client_line, stat_text, srvr_report, cons_text};
 
 use crate::average::Average;
 use crate::figures::{ClientFigures, Descriptors, Report, ServerFigures, ServerSettings};
@@ -128,13 +128,12 @@ fn put_cons(out: &mut Vec<u8>, report: &Report<'_>) -> Result<(), NoMemory>
 }
 
 fn put_mntr_state(out: &mut Vec<u8>, report: &Report<'_>) -> Result<(), NoMemory>
-    ensures { OnOk result (out.new.items ≡ out.old.items ++ mntr_state report.now.version report.now.figures) }
+    ensures { OnOk result (out.new.items ≡ out.old.items ++ mntr_state report.now.version) }
 {
     let version = report.version.as_str();
-    let uptime = report.figures.uptime;
     match write!(
         out,
-        "zk_version\t{version}\nzk_server_state\tobserver\nzk_peer_state\tobserving - broadcast\nzk_uptime\t{uptime}\n"
+        "zk_version\t{version}\nzk_server_state\tobserver\nzk_peer_state\tobserving - broadcast\n"
     ) {
         Ok(()) => Ok(()),
         Err(_) => Err(NoMemory),
@@ -145,17 +144,14 @@ fn put_mntr_traffic(out: &mut Vec<u8>, report: &Report<'_>) -> Result<(), NoMemo
     ensures { OnOk result (out.new.items ≡ out.old.items ++ mntr_traffic report.now) }
 {
     let figures = &report.figures;
-    let latency = figures.latency;
     let average = Average {
         dialect: report.dialect,
-        latency,
+        latency: figures.latency,
     };
-    let least = latency.least / 1000;
-    let most = latency.most / 1000;
     match write!(
         out,
-        "zk_avg_latency\t{average}\nzk_max_latency\t{most}\nzk_min_latency\t{least}\nzk_packets_received\t{}\nzk_packets_sent\t{}\nzk_num_alive_connections\t{}\nzk_outstanding_requests\t{}\nzk_connection_rejected\t{}\n",
-        figures.received, figures.sent, figures.connections, figures.outstanding, figures.rejected
+        "zk_ephemerals_count\t{}\nzk_num_alive_connections\t{}\nzk_avg_latency\t{average}\nzk_outstanding_requests\t{}\n",
+        figures.pairs, figures.connections, figures.outstanding
     ) {
         Ok(()) => Ok(()),
         Err(_) => Err(NoMemory),
@@ -167,10 +163,11 @@ fn put_mntr_tree(out: &mut Vec<u8>, report: &Report<'_>) -> Result<(), NoMemory>
 {
     let figures = &report.figures;
     let nodes = figures.paths as u128 + 1;
+    let least = figures.latency.least / 1000;
     match write!(
         out,
-        "zk_znode_count\t{nodes}\nzk_watch_count\t{}\nzk_ephemerals_count\t{}\nzk_global_sessions\t{}\n",
-        figures.watches, figures.pairs, figures.sessions
+        "zk_znode_count\t{nodes}\nzk_global_sessions\t{}\nzk_packets_sent\t{}\nzk_packets_received\t{}\nzk_watch_count\t{}\nzk_min_latency\t{least}\n",
+        figures.sessions, figures.sent, figures.received, figures.watches
     ) {
         Ok(()) => Ok(()),
         Err(_) => Err(NoMemory),
@@ -182,8 +179,8 @@ fn put_descriptor_lines(out: &mut Vec<u8>, descriptors: Descriptors) -> Result<(
 {
     match write!(
         out,
-        "zk_open_file_descriptor_count\t{}\nzk_max_file_descriptor_count\t{}\n",
-        descriptors.count, descriptors.most
+        "zk_max_file_descriptor_count\t{}\nzk_open_file_descriptor_count\t{}\n",
+        descriptors.most, descriptors.count
     ) {
         Ok(()) => Ok(()),
         Err(_) => Err(NoMemory),
@@ -199,13 +196,29 @@ fn put_mntr_descriptors(out: &mut Vec<u8>, descriptors: Option<Descriptors>) -> 
     }
 }
 
+fn put_mntr_end(out: &mut Vec<u8>, figures: &ServerFigures) -> Result<(), NoMemory>
+    ensures { OnOk result (out.new.items ≡ out.old.items ++ mntr_end figures.now) }
+{
+    let uptime = figures.uptime;
+    let most = figures.latency.most / 1000;
+    let rejected = figures.rejected;
+    match write!(
+        out,
+        "zk_uptime\t{uptime}\nzk_max_latency\t{most}\nzk_connection_rejected\t{rejected}\n"
+    ) {
+        Ok(()) => Ok(()),
+        Err(_) => Err(NoMemory),
+    }
+}
+
 fn put_mntr(out: &mut Vec<u8>, report: &Report<'_>) -> Result<(), NoMemory>
     ensures { OnOk result (out.new.items ≡ out.old.items ++ mntr_report report.now) }
 {
     put_mntr_state(out, report)?;
     put_mntr_traffic(out, report)?;
     put_mntr_tree(out, report)?;
-    put_mntr_descriptors(out, report.figures.descriptors)
+    put_mntr_descriptors(out, report.figures.descriptors)?;
+    put_mntr_end(out, &report.figures)
 }
 
 fn put_conf(out: &mut Vec<u8>, settings: &ServerSettings) -> Result<(), NoMemory>

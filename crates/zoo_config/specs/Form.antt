@@ -1,7 +1,7 @@
 -- The form of a configuration file, which is that of Java's properties. An escape is read as its letters.
-use Rattle.std.specs.Prelude.{ℕ, ◌+◌, ◌==◌, ◌||◌, List, [], ◌∷◌, ◌++◌, drop, Bool, true, false, Option, Some, None, if◌then◌else◌}
+use Rattle.std.specs.Prelude.{ℕ, ◌+◌, ◌==◌, ◌||◌, List, [], ◌∷◌, ◌++◌, drop, Bool, true, false, Option, Some, None, if◌then◌else◌, encode_utf8}
 use Rattle.std.specs.Char.{is_ascii_whitespace}
-use Rattle.std.specs.List.{before_first, position_or_len}
+use Rattle.std.specs.List.{before_first, position_or_len, slice_split, flat_map}
 use Rattle.std.specs.Option.{option_map}
 use Rattle.std.specs.Str.{trim_start, trim}
 use Rattle.std.specs.Str.Lines.{lines}
@@ -83,5 +83,18 @@ entries_after count before (line ∷ lines) =
     let part = part_of before (count + 1) (trim_start line) in
     ended_entries part ++ entries_after (count + 1) (line_behind part) lines
 
+-- ---- lines: each ends with LF, CR, or both
+
+abbrev pub short_lines : List ℕ → List (List ℕ)
+short_lines line = slice_split (λ byte. byte == 13) line
+
+abbrev pub all_lines : List ℕ → List (List ℕ)
+all_lines text = flat_map short_lines (lines text)
+
 abbrev pub entries_of : List ℕ → List Entry
-entries_of text = entries_after 0 None (lines text)
+entries_of text = entries_after 0 None (all_lines text)
+
+-- ---- bytes that are letters of Latin-1
+
+abbrev pub latin_text : List ℕ → List ℕ
+latin_text bytes = flat_map encode_utf8 bytes

@@ -56,7 +56,8 @@ is_taken key =
     starts_with nat_eq key (codes "server.")
     || is_one_of
     (codes "dynamicConfigFile" ∷ codes "dataDir" ∷ codes "clientPort" ∷ codes "clientPortAddress" ∷ codes "tickTime"
-    ∷ codes "initLimit" ∷ codes "syncLimit" ∷ codes "maxClientCnxns" ∷ codes "maxCnxns" ∷ codes "4lw.commands.whitelist"
+    ∷ codes "initLimit" ∷ codes "syncLimit" ∷ codes "minSessionTimeout" ∷ codes "maxSessionTimeout"
+    ∷ codes "maxClientCnxns" ∷ codes "maxCnxns" ∷ codes "4lw.commands.whitelist"
     ∷ codes "DigestAuthenticationProvider.superDigest" ∷ [])
     key
 
@@ -83,8 +84,7 @@ abbrev pub is_unheeded : List ℕ → Bool
 is_unheeded key =
     starts_with nat_eq key (codes "metricsProvider.")
     || is_one_of
-    (codes "minSessionTimeout" ∷ codes "maxSessionTimeout" ∷ codes "observerMasterPort" ∷ codes "skipACL"
-    ∷ codes "globalOutstandingLimit" ∷ [])
+    (codes "observerMasterPort" ∷ codes "skipACL" ∷ codes "globalOutstandingLimit" ∷ [])
     key
 
 abbrev pub asks_for_reconfiguration : List ℕ → List ℕ → Bool
@@ -93,7 +93,7 @@ asks_for_reconfiguration key value = bytes_eq key (codes "reconfigEnabled") && n
 -- It speaks of voters, of elections, of files, or of what is off.
 abbrev pub is_of_servers : List ℕ → Bool
 is_of_servers key =
-    begins_as_one_of (codes "group." ∷ codes "weight." ∷ codes "observer." ∷ []) key
+    begins_as_one_of (codes "group." ∷ codes "weight." ∷ codes "observer." ∷ codes "multiAddress." ∷ []) key
     || is_one_of
     (codes "peerType" ∷ codes "standaloneEnabled" ∷ codes "electionAlg" ∷ codes "quorumListenOnAllIPs"
     ∷ codes "reconfigEnabled" ∷ codes "leaderServes" ∷ codes "digest.enabled" ∷ codes "version" ∷ [])
@@ -103,8 +103,8 @@ abbrev pub is_of_files : List ℕ → Bool
 is_of_files key =
     begins_as_one_of (codes "autopurge." ∷ codes "snapshot." ∷ codes "admin." ∷ []) key
     || is_one_of
-    (codes "syncEnabled" ∷ codes "dataLogDir" ∷ codes "snapCount" ∷ codes "preAllocSize" ∷ codes "commitLogCount"
-    ∷ codes "snapSizeLimitInKb" ∷ [])
+    (codes "syncEnabled" ∷ codes "forceSync" ∷ codes "fsync.warningthresholdms" ∷ codes "dataLogDir" ∷ codes "snapCount"
+    ∷ codes "preAllocSize" ∷ codes "commitLogCount" ∷ codes "snapSizeLimitInKb" ∷ codes "txnLogSizeLimitInKb" ∷ [])
     key
 
 abbrev pub is_switched_off : List ℕ → Bool

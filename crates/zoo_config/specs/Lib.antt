@@ -1,3 +1,4 @@
+pub mod Addresses
 pub mod Form
 pub mod Keys
 pub mod Lines

@@ -29,7 +29,7 @@ impl fmt::Display for Reason {
             Reason::Sasl => f.write_str("there are no SASL and no such authentication here"),
             Reason::LocalSessions => f.write_str("there are no local sessions here"),
             Reason::Server => f.write_str(
-                "server.N=HOST:PORT:PORT[:observer][;[ADDRESS:]PORT], N from 1 to 255",
+                "server.N=HOST:PORT:PORT[:observer][;[ADDRESS:]PORT], N from 1 to 255, and IPv6 in brackets",
             ),
             Reason::Votes => f.write_str(
                 "this server votes: the line of an observer has :observer",

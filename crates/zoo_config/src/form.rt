@@ -1,10 +1,11 @@
 //! The form of a configuration file, which is that of Java's properties.
 
-ghost use Rattle.std.specs.Prelude.{◌≡◌, ◌++◌, None, map, option_map, position, IfOk, OnOk};
-ghost use Rattle.std.specs.List.{position_or_len};
+ghost use Rattle.std.specs.Prelude.{◌≡◌, ◌++◌, None, map, option_map, position, string_bytes, IfOk, OnOk};
+ghost use Rattle.std.specs.List.{position_or_len, flat_map};
+ghost use Rattle.std.specs.Str.{IsUtf8};
 ghost use Rattle.std.specs.Str.{trim_start};
 ghost use Rattle.std.specs.Str.Lines.{lines};
-ghost use Rattle.zoo_config.specs.Form.{ends_key, begins_with_sign, without_sign, entry_value, is_remark, line_front, joined_line, part_of, entry_of, line_behind, ended_entries, entries_after, entries_of};
+ghost use Rattle.zoo_config.specs.Form.{ends_key, begins_with_sign, without_sign, entry_value, is_remark, line_front, joined_line, part_of, entry_of, line_behind, ended_entries, entries_after, entries_of, short_lines, all_lines, latin_text};
 
 use crate::joined::Joined;
 use std::alloc::{AllocError, Global};
@@ -138,10 +139,30 @@ fn part_of(alloc: Global, before: Option<Joined>, number: u64, text: &str) -> Re
     }
 }
 
-fn lines_of(alloc: Global, text: &str) -> Result<Vec<&str>, AllocError>
+// The lines that end with LF, or CR and LF.
+fn long_lines_of(alloc: Global, text: &str) -> Result<Vec<&str>, AllocError>
     ensures { IfOk result (λ found. map (λ line. line.now) found.items ≡ lines text.now) }
 {
     text.lines().collect(alloc)
+}
+
+// The lines of one of these, which ends with CR, too.
+fn short_lines_of(alloc: Global, line: &str) -> Result<Vec<&str>, AllocError>
+    ensures { IfOk result (λ found. map (λ line. line.now) found.items ≡ short_lines line.now) }
+{
+    line.split('\r').collect(alloc)
+}
+
+fn lines_of(alloc: Global, text: &str) -> Result<Vec<&str>, AllocError>
+    ensures { IfOk result (λ found. map (λ line. line.now) found.items ≡ all_lines text.now) }
+{
+    let long = long_lines_of(alloc, text)?;
+    let mut all = Vec::new(alloc);
+    for line in long.as_slice() {
+        let mut short = short_lines_of(alloc, line)?;
+        all.append(&mut short)?;
+    }
+    Ok(all)
 }
 
 // Takes the line of this number: an entry may end with it. Returns what goes on.
@@ -189,4 +210,26 @@ pub fn entries_of(alloc: Global, text: &str) -> Result<Vec<Entry>, NoMemory>
 {
     let lines = lines_of(alloc, text)?;
     entries_in(alloc, lines.as_slice())
+}
+
+// The text of bytes that are letters of Latin-1.
+fn latin_text(alloc: Global, bytes: &[u8]) -> Result<String, AllocError>
+    ensures { IfOk result (λ text. string_bytes text ≡ latin_text bytes.now) }
+{
+    let mut text = String::new(alloc);
+    for byte in bytes {
+        text.push(char::from(*byte))?;
+    }
+    Ok(text)
+}
+
+/// The text of a file. Java takes each byte for a letter of Latin-1; here a file whose bytes are UTF-8 is read so.
+pub fn text_of(alloc: Global, bytes: &[u8]) -> Result<String, AllocError>
+    ensures utf8 { IfOk result (λ text. IsUtf8 bytes.now → string_bytes text ≡ bytes.now) }
+    ensures latin { IfOk result (λ text. ¬ (IsUtf8 bytes.now) → string_bytes text ≡ latin_text bytes.now) }
+{
+    match str::from_utf8(bytes) {
+        Ok(text) => String::from_str(alloc, text),
+        Err(_) => latin_text(alloc, bytes),
+    }
 }

@@ -40,7 +40,7 @@ const SASL_SWITCHES: [&str; 4] = [
     "sessionRequireClientSASLAuth",
 ];
 
-const TAKEN: [&str; 11] = [
+const TAKEN: [&str; 13] = [
     "dynamicConfigFile",
     "dataDir",
     "clientPort",
@@ -48,21 +48,17 @@ const TAKEN: [&str; 11] = [
     "tickTime",
     "initLimit",
     "syncLimit",
+    "minSessionTimeout",
+    "maxSessionTimeout",
     "maxClientCnxns",
     "maxCnxns",
     "4lw.commands.whitelist",
     "DigestAuthenticationProvider.superDigest",
 ];
 
-const UNHEEDED: [&str; 5] = [
-    "minSessionTimeout",
-    "maxSessionTimeout",
-    "observerMasterPort",
-    "skipACL",
-    "globalOutstandingLimit",
-];
+const UNHEEDED: [&str; 3] = ["observerMasterPort", "skipACL", "globalOutstandingLimit"];
 
-const SERVER_FRONTS: [&str; 3] = ["group.", "weight.", "observer."];
+const SERVER_FRONTS: [&str; 4] = ["group.", "weight.", "observer.", "multiAddress."];
 
 const SERVER_KEYS: [&str; 8] = [
     "peerType",
@@ -77,13 +73,16 @@ const SERVER_KEYS: [&str; 8] = [
 
 const FILE_FRONTS: [&str; 3] = ["autopurge.", "snapshot.", "admin."];
 
-const FILE_KEYS: [&str; 6] = [
+const FILE_KEYS: [&str; 9] = [
     "syncEnabled",
+    "forceSync",
+    "fsync.warningthresholdms",
     "dataLogDir",
     "snapCount",
     "preAllocSize",
     "commitLogCount",
     "snapSizeLimitInKb",
+    "txnLogSizeLimitInKb",
 ];
 
 // Switches of what isn't here, where they are off.

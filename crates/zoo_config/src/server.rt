@@ -1,16 +1,30 @@
 //! The servers of a configuration file.
 
-ghost use Rattle.std.specs.Prelude.{◌≡◌, ◌++◌, ◌⊎◌, List, ℕ, Some, None, filter, IfOk, IfErr, IfSome, IfNone, nat_eq, codes, option_map};
-ghost use Rattle.std.specs.List.{ends_with};
-ghost use Rattle.texts.specs.Number.{number_up_to};
+ghost use Rattle.std.specs.Prelude.{◌≡◌, ◌++◌, List, ℕ, Some, None, filter, IfOk, IfSome, IfNone, codes, option_map};
+ghost use Rattle.zoo_config.specs.declared.error.ConfigError.TheVariants as errors;
 ghost use Rattle.zoo_config.specs.declared.error.Reason.TheVariants as reasons;
-ghost use Rattle.zoo_config.specs.Servers.{client_part, IsWithRole, IsServerKey, IsNoServer, SpellsServer, IsServerOf, is_voter_beside};
+ghost use Rattle.zoo_config.specs.declared.error.BadLine.{BadLine};
+ghost use Rattle.zoo_config.specs.Addresses.{parts_or_whole, halves_at};
+ghost use Rattle.zoo_config.specs.Servers.{server_id_in, place_spelling, client_place_in, served_at, IsServerKey, IsNoServer, SpellsServer, IsServerOf, IsWrongServer, is_voter_beside};
 
-use crate::error::{BadLine, Reason};
+use crate::address::{
+    ServerAddress, addresses_in, are_wrong, host_in, one_is_observer, parts_or_whole, port_in,
+    without_plus,
+};
+use crate::error::{BadLine, ConfigError, Reason};
 use crate::form::Entry;
 use std::alloc::Global;
 use texts::number_up_to;
 use values::NoMemory;
+
+/// Where a server serves clients.
+#[derive(Clone, Copy, Debug)]
+pub struct ClientPlace<'a> {
+    /// Without brackets; None: at all addresses.
+    pub host: Option<&'a str>,
+    /// In decimal digits.
+    pub port: &'a str,
+}
 
 /// A server of the ensemble.
 #[derive(Clone, Copy, Debug)]
@@ -19,78 +33,94 @@ pub struct Server<'a> {
     pub line: u64,
     pub id: u64,
     pub is_observer: bool,
-    /// One or more of HOST:PORT:PORT, with bars between.
+    /// One or more of HOST:PORT:PORT[:ROLE], with bars between; `addresses_in` reads them, and none is wrong.
     pub addresses: &'a str,
-    /// Where it serves clients: PORT or ADDRESS:PORT.
-    pub client: Option<&'a str>,
+    pub client: Option<ClientPlace<'a>>,
 }
 
 const MOST_ID: u64 = 255;
 
-// The part before a semicolon, and the one after it.
-fn parts_of(value: &str) -> (&str, Option<&str>)
-    ensures { value.now ≡ result.0.now ++ client_part (option_map (λ client. client.now) result.1) }
+// The id that the digits spell: one from 1 to 255.
+fn server_id_in(digits: &str) -> Option<u64>
+    ensures { result ≡ server_id_in digits.now }
 {
-    match value.split_once(";") {
-        Some((front, client)) => (front, Some(client)),
-        None => (value, None),
+    let id = number_up_to(MOST_ID, without_plus(digits).as_bytes())?;
+    if id == 0 {
+        return None;
     }
+    Some(id)
 }
 
-fn is_observer(front: &str) -> bool
-    ensures { result ≡ ends_with nat_eq front.now (codes ":observer") }
+// The place of a port, or of a host and a port.
+fn client_place_in(text: &str) -> Option<ClientPlace<'_>>
+    ensures { option_map place_spelling result ≡ client_place_in text.now }
 {
-    front.as_bytes().ends_with(b":observer")
-}
-
-fn without_role(front: &str) -> &str
-    ensures { IsWithRole front.now result.now }
-{
-    if let Some(addresses) = front.strip_suffix(":observer") {
-        return addresses;
-    }
-    match front.strip_suffix(":participant") {
-        Some(addresses) => addresses,
-        None => front,
+    match host_in(text) {
+        None => {
+            let port = port_in(text)?;
+            Some(ClientPlace { host: None, port })
+        }
+        Some((host, rest)) => {
+            if host.is_empty() {
+                return None;
+            }
+            let port = port_in(rest)?;
+            Some(ClientPlace {
+                host: Some(host),
+                port,
+            })
+        }
     }
 }
 
 // The server of a line, or None if the line is wrong.
-fn server_of<'a>(number: &str, entry: &'a Entry) -> Option<Server<'a>>
-    ensures some { IfSome result (IsServerOf number.now entry.now) }
-    ensures none { IfNone result ((number_up_to 255 number.now ≡ None) ⊎ (number_up_to 255 number.now ≡ Some 0)) }
+fn server_of<'a>(
+    alloc: Global,
+    digits: &str,
+    entry: &'a Entry,
+) -> Result<Option<Server<'a>>, NoMemory>
+    ensures some { IfOk result (λ found. IfSome found (IsServerOf digits.now entry.now)) }
+    ensures none { IfOk result (λ found. IfNone found (IsWrongServer digits.now entry.now)) }
 {
-    let id = number_up_to(MOST_ID, number.as_bytes())?;
-    let (front, client) = parts_of(entry.value.as_str());
-    if id == 0 {
-        return None;
+    let Some(id) = server_id_in(digits) else {
+        return Ok(None);
+    };
+    let (front, behind) = parts_or_whole(';', entry.value.as_str());
+    let addresses = addresses_in(alloc, front)?;
+    if are_wrong(addresses.as_slice()) {
+        return Ok(None);
     }
-    Some(Server {
+    let is_observer = one_is_observer(addresses.as_slice());
+    let client = client_place_in(behind);
+    if client.is_none() && !behind.is_empty() {
+        return Ok(None);
+    }
+    Ok(Some(Server {
         line: entry.line,
         id,
-        is_observer: is_observer(front),
-        addresses: without_role(front),
+        is_observer,
+        addresses: front,
         client,
-    })
+    }))
 }
 
 /// The server of an entry whose key begins with `server.`; None of any other. Fails if the number after that isn't one
-/// from 1 to 255.
-pub fn server_in<'a>(entry: &'a Entry) -> Result<Option<Server<'a>>, BadLine>
+/// from 1 to 255, if the value isn't that of a server, or if an allocation is refused.
+pub fn server_in<'a>(alloc: Global, entry: &'a Entry) -> Result<Option<Server<'a>>, ConfigError>
     ensures server { IfOk result (λ found. IfSome found (SpellsServer entry.now)) }
     ensures others { IfOk result (λ found. IfNone found ((digits : List ℕ) → IsServerKey entry.now.key digits → ⊥)) }
-    ensures bad { IfErr result (λ bad.
-        (bad.line ≡ entry.now.line) × (bad.reason ≡ reasons.Server) × IsNoServer entry.now) }
+    ensures bad { (line : BadLine) → result ≡ Err (errors.Bad line)
+        → (line.line ≡ entry.now.line) × (line.reason ≡ reasons.Server) × IsNoServer entry.now }
 {
-    let Some(number) = entry.key.as_str().strip_prefix("server.") else {
+    let Some(digits) = entry.key.as_str().strip_prefix("server.") else {
         return Ok(None);
     };
-    match server_of(number, entry) {
+    match server_of(alloc, digits, entry)? {
         Some(server) => Ok(Some(server)),
-        None => Err(BadLine {
+        None => Err(ConfigError::Bad(BadLine {
             line: entry.line,
             reason: Reason::Server,
-        }),
+        })),
     }
 }
 

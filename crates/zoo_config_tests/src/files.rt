@@ -125,7 +125,7 @@ fn whole_files_are_read(rt: HostRuntime) -> Result<(), Fail> {
         sets(
             alloc,
             OPERATED,
-            "--servers zk-0.zk.svc:2888,zk-1.zk.svc:2888;--client 0.0.0.0:2182;--id 101;--tick 2000;--init-limit 10;--sync-limit 2;--max-clients 500;--super-digest super:D/InIHSb7yEEbrWz8b9l71RjZJU=;--words cons,envi,conf,crst,srvr,stat,mntr,ruok;--metrics 0.0.0.0:7000;",
+            "--servers zk-0.zk.svc:2888,zk-1.zk.svc:2888;--client 0.0.0.0:2182;--id 101;--tick 2000;--init-limit 10;--sync-limit 2;--min-session-timeout 4000;--max-session-timeout 40000;--max-clients 500;--super-digest super:D/InIHSb7yEEbrWz8b9l71RjZJU=;--words cons,envi,conf,crst,srvr,stat,mntr,ruok;--metrics 0.0.0.0:7000;",
         )?
     );
     Ok(())
@@ -148,6 +148,113 @@ fn defaults_are_those_of_zookeeper(rt: HostRuntime) -> Result<(), Fail> {
             "--servers a:2888,b:2889;--client [::1]:1;--id 101;--tick 3000;--max-per-address 60;--words all;",
         )?
     );
+    Ok(())
+}
+
+#[test]
+fn a_timeout_of_minus_one_is_as_without_the_key(rt: HostRuntime) -> Result<(), Fail> {
+    let alloc = rt.alloc();
+    assert!(rt;
+        sets(
+            alloc,
+            "tickTime=500\nminSessionTimeout=-1\nmaxSessionTimeout=9000\nmaxClientCnxns=0\n",
+            "--id 101;--tick 500;--max-session-timeout 9000;--words srvr;",
+        )?
+    );
+    Ok(())
+}
+
+// The servers that a file with this line beside this server's has tried.
+fn tries(alloc: Global, line: &str, wanted: &str) -> Result<bool, Fail> {
+    let text = format!(in alloc;
+        "clientPort=1\nserver.101=here:2888:3888:observer\nserver.1=a:2:3\n{line}\n"
+    )?;
+    let wanted = format!(in alloc;
+        "--servers a:2{wanted};--client 0.0.0.0:1;--id 101;--tick 3000;--max-per-address 60;--words srvr;"
+    )?;
+    sets(alloc, text.as_str(), wanted.as_str())
+}
+
+#[test]
+fn servers_are_those_of_zookeeper(rt: HostRuntime) -> Result<(), Fail> {
+    let alloc = rt.alloc();
+    for (line, wanted) in [
+        ("server.2=b:2888:3888:Observer", ""),
+        ("server.2=b:2888:3888: observer ;2181", ""),
+        ("server.2=b:2888:3888|c:2889:3889:OBSERVER", ""),
+        ("server.2=b:2888:3888:observer|c:2889:3889", ""),
+        ("server.2=b:2888:3888:PARTICIPANT", ",b:2888"),
+        ("server.2=b:2888:3888:", ",b:2888"),
+        ("server.2=b:02888:+3888;", ",b:02888"),
+        ("server.+2 = b:+2888:3888;[::1]:2181", ",b:2888"),
+        (
+            "server.2=[fe80::1]:2888:3888:participant|b:2889:3889",
+            ",[fe80::1]:2888,b:2889",
+        ),
+        ("server.2=[b]:2888:3888", ",b:2888"),
+        ("server.2=b:4:5\nserver.2=b:6:7", ",b:6"),
+        ("server.2=b:6:7\nserver.2=b:6:7", ",b:6"),
+        ("server.2=b\nserver.2=b:6:7", ",b:6"),
+    ] {
+        assert!(rt; tries(alloc, line, wanted)?, "{line}");
+    }
+    Ok(())
+}
+
+#[test]
+fn numbers_are_read_as_java_reads_them(rt: HostRuntime) -> Result<(), Fail> {
+    let alloc = rt.alloc();
+    for (text, wanted) in [
+        (
+            "tickTime=+02000\nmaxClientCnxns=+060\nmaxCnxns=00",
+            "--tick 02000;--max-per-address 060;",
+        ),
+        (
+            "maxClientCnxns=00\nmaxCnxns=-0\nminSessionTimeout=-01\nmaxSessionTimeout=+09000",
+            "--tick 3000;--max-session-timeout 09000;",
+        ),
+        (
+            "maxClientCnxns=-5\ninitLimit=+5",
+            "--tick 3000;--init-limit 5;",
+        ),
+        (
+            "maxClientCnxns=++5\nminSessionTimeout=0",
+            "--tick 3000;--min-session-timeout 0;--max-per-address +5;",
+        ),
+    ] {
+        let wanted = format!(in alloc; "--id 101;{wanted}--words srvr;")?;
+        assert!(rt; sets(alloc, text, wanted.as_str())?, "{text}");
+    }
+    Ok(())
+}
+
+#[test]
+fn clients_are_served_where_zookeeper_serves_them(rt: HostRuntime) -> Result<(), Fail> {
+    let alloc = rt.alloc();
+    for (text, wanted) in [
+        ("clientPort=1\nclientPortAddress=[::1]", "--client [::1]:1;"),
+        ("clientPort=1\nclientPortAddress=::1", "--client [::1]:1;"),
+        ("clientPort=+1\nclientPortAddress=[b]", "--client b:1;"),
+        ("clientPort=0\nclientPortAddress=[::1]", ""),
+        ("clientPortAddress=[::1]", ""),
+        (
+            "clientPort=0\nserver.101=here:2888:3888:observer;2182",
+            "--client 0.0.0.0:2182;",
+        ),
+        (
+            "server.101=here:2888:3888:observer;[::1]:2182",
+            "--client [::1]:2182;",
+        ),
+        (
+            "server.101=here:2888:3888:Observer;a:2182",
+            "--client a:2182;",
+        ),
+    ] {
+        let wanted = format!(in alloc;
+            "{wanted}--id 101;--tick 3000;--max-per-address 60;--words srvr;"
+        )?;
+        assert!(rt; sets(alloc, text, wanted.as_str())?, "{text}");
+    }
     Ok(())
 }
 
@@ -191,6 +298,24 @@ fn wrong_servers_are_refused(rt: HostRuntime) -> Result<(), Fail> {
         ("server.256=a:1:2", Reason::Server),
         ("server.1=a", Reason::Server),
         ("server.1=a:1", Reason::Server),
+        ("server.1=", Reason::Server),
+        ("server.1=a:1:x", Reason::Server),
+        ("server.1=a:1:65536", Reason::Server),
+        ("server.1=a:1:2:foo", Reason::Server),
+        ("server.1=a:1:2:observer:x", Reason::Server),
+        ("server.1=a:1:2\t:observer", Reason::Server),
+        ("server.1=::1:2888:3888", Reason::Server),
+        ("server.1=fe80::1:2888:3888:observer", Reason::Server),
+        ("server.1=[::1:2888:3888", Reason::Server),
+        ("server.1=::1]:2888:3888", Reason::Server),
+        ("server.1=|a:1:2", Reason::Server),
+        ("server.1=a:1:2 | b:1:2", Reason::Server),
+        ("server.1=a:1:2:observer|b:1:2:participant", Reason::Server),
+        ("server.1=a:1:2;x", Reason::Server),
+        ("server.1=a:1:2;;2181", Reason::Server),
+        ("server.1=a:1:2;2181;2182", Reason::Server),
+        ("server.1=a:1:2;::1:2182", Reason::Server),
+        ("server.1=a:1:2;a:2181:x", Reason::Server),
         ("server.101=a:1:2", Reason::Votes),
         ("server.101=a:1:2:participant;2181", Reason::Votes),
     ] {

@@ -2,7 +2,9 @@
 
 use std::alloc::Global;
 use std::test::Fail;
-use zoo_config::{BadLine, ConfigError, Meaning, Reason, entries_of, meaning_of, parse, value_in};
+use zoo_config::{
+    BadLine, ConfigError, Meaning, Reason, entries_of, meaning_of, parse, text_of, value_in,
+};
 
 // The entries of a text, each as LINE:KEY=VALUE and a semicolon.
 fn shown(alloc: Global, text: &str) -> Result<String, Fail> {
@@ -34,9 +36,28 @@ fn lines_are_read_as_properties(rt: HostRuntime) -> Result<(), Fail> {
         ("a=b\\", "1:a=b;"),
         ("a=\nb\n", "1:a=;2:b=;"),
         ("a=1\na=2\n", "1:a=1;2:a=2;"),
+        ("a=1\rb=2\r\nc=3\n\rd=4\r", "1:a=1;2:b=2;3:c=3;5:d=4;"),
+        ("#a\rb=2\rc=3\\\r  4\r", "2:b=2;3:c=34;"),
     ] {
         let found = shown(alloc, text)?;
         assert!(rt; found.as_str() == wanted, "{text}: {found}");
+    }
+    Ok(())
+}
+
+#[test]
+fn a_file_of_latin_1_is_read(rt: HostRuntime) -> Result<(), Fail> {
+    let alloc = rt.alloc();
+    for (bytes, wanted) in [
+        (
+            &b"# gr\xF6\xDFer\na=\xE9"[..],
+            "# gr\u{F6}\u{DF}er\na=\u{E9}",
+        ),
+        (&b"# gr\xC3\xB6\xC3\x9Fer"[..], "# gr\u{F6}\u{DF}er"),
+        (&b""[..], ""),
+    ] {
+        let text = text_of(alloc, bytes)?;
+        assert!(rt; text.as_str() == wanted, "{text}");
     }
     Ok(())
 }
@@ -92,6 +113,10 @@ fn keys_mean_what_they_mean_to_an_observer(rt: HostRuntime) -> Result<(), Fail> 
         ("digest.enabled", "true", Meaning::Idle),
         ("quorum.auth.enableSasl", "false", Meaning::Idle),
         ("reconfigEnabled", "false", Meaning::Idle),
+        ("forceSync", "no", Meaning::Idle),
+        ("fsync.warningthresholdms", "20", Meaning::Idle),
+        ("txnLogSizeLimitInKb", "-1", Meaning::Idle),
+        ("multiAddress.enabled", "true", Meaning::Idle),
         ("reconfigEnabled", "true", Meaning::Unheeded),
         ("autopurge.purgeInterval", "1", Meaning::Idle),
         ("observerMasterPort", "2191", Meaning::Unheeded),
@@ -113,7 +138,8 @@ fn keys_mean_what_they_mean_to_an_observer(rt: HostRuntime) -> Result<(), Fail> 
             Meaning::Unheeded,
         ),
         ("metricsProvider.exportJvmInfo", "true", Meaning::Unheeded),
-        ("minSessionTimeout", "4000", Meaning::Unheeded),
+        ("minSessionTimeout", "4000", Meaning::Taken),
+        ("maxSessionTimeout", "-1", Meaning::Taken),
         ("tickTimes", "2000", Meaning::Unknown),
         ("zookeeper.sslQuorum", "true", Meaning::Unknown),
     ] {

@@ -4,6 +4,7 @@ use Rattle.intake.specs.declared.port.PortEnd.{PortEnd}
 use Rattle.intake.specs.Ports.{HasRoom}
 use Rattle.intake.specs.Desk.{AddsPort}
 use Rattle.intake.proofs.Adding.{AreNew, seen_desk, added}
+use Rattle.intake.proofs.Slots.{sound_added}
 use Rattle.intake.proofs.desk.Desk.open_port.Goals as goal
 
 pub returns-clause-ok : goal.returns-clause-ok
@@ -45,3 +46,9 @@ returns-clause-room c =
       inbox = c.in_ok-to_hub.ensures.producer.2;
       outbox = c.in_ok-outbox.ensures.consumer.2;
     })
+
+pub invariant_of-self-2 : goal.invariant_of-self-2
+invariant_of-self-2 c =
+    sound_added c.self.inside.closed c.self.inside.engine c.self.inside.links c.add-2.new.self c.self.inside.next
+    c.in-Some.next c.self.inside.marks.slots c.add.new.self.slots c.in_ok-slot.slot c.new-link.result c.in-Ok.ensures.ok
+    (search rules) c.new-link.ensures.slot c.in_ok-slot.ensures.free c.in_ok-slot.ensures.given c.self.invariant

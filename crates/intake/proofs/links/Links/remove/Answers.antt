@@ -1,12 +1,17 @@
 use Rattle.std.proofs.Common.{ap, sym, ◌∙◌, subst}
 use Rattle.std.specs.FinMap as finmap
-use Rattle.world.proofs.NatMaps.{seen-remove}
+use Rattle.world.proofs.NatMaps.{get-seen, seen-remove}
 use Rattle.intake.specs.Links.{Links, links_of, KeepersAreAmong}
 use Rattle.intake.proofs.Kept.{among_without}
 use Rattle.intake.proofs.links.Links.remove.Goals as goal
 
-pub returns : goal.returns
-returns c =
+pub returns-clause-link : goal.returns-clause-link
+returns-clause-link c =
+    c.remove.ensures.value ∙ sym (get-seen c.self.inside.map c.args.number)
+    ∙ ap (λ (l : Links). finmap.get l c.args.number) c.self.view_is
+
+pub returns-clause-links : goal.returns-clause-links
+returns-clause-links c =
     seen-remove c.args.number c.self.inside.map c.remove.new.self c.remove.ensures.updates
     ∙ ap (λ m. finmap.remove m c.args.number) c.self.view_is
 

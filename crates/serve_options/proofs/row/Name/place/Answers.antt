@@ -2,7 +2,7 @@ use Rattle.std.proofs.Common.{◌≡◌, ◌<◌, refl, sym, subst}
 use denote.Enum.Declared.{tag_of}
 use Rattle.serve_options.specs.contracts.row.Name.{the_type}
 use Rattle.serve_options.specs.declared.row.Name.{Name}
-use Rattle.serve_options.specs.declared.row.Name.TheVariants.{Config, CheckConfig, Leader, Servers, Client, Id, Dialect, Counter, SecretFile, SuperDigest, Workers, Batch, MaxClients, MaxPerAddress, MaxUnderWay, MaxWatches, Unconnected, Words, Tick, InitLimit, SyncLimit, Checkpoint, GiveUp, Metrics, Record, Log, LogFormat, Help, Version}
+use Rattle.serve_options.specs.declared.row.Name.TheVariants.{Config, CheckConfig, Leader, Servers, Client, Id, Dialect, Counter, SecretFile, SuperDigest, Workers, Batch, MaxClients, MaxPerAddress, MaxUnderWay, MaxWatches, Unconnected, Words, Tick, InitLimit, SyncLimit, MinSessionTimeout, MaxSessionTimeout, Checkpoint, GiveUp, Metrics, Record, Log, LogFormat, Help, Version}
 use Rattle.serve_options.specs.Places.{name_place}
 use Rattle.serve_options.proofs.Names.{place_below}
 use Rattle.serve_options.proofs.row.Name.place.Goals as goal
@@ -29,6 +29,8 @@ place_is Words = refl
 place_is Tick = refl
 place_is InitLimit = refl
 place_is SyncLimit = refl
+place_is MinSessionTimeout = refl
+place_is MaxSessionTimeout = refl
 place_is Checkpoint = refl
 place_is GiveUp = refl
 place_is Metrics = refl
@@ -41,5 +43,5 @@ place_is Version = refl
 pub returns : goal.returns
 returns c = record {
   place = place_is c.args.self;
-  bound = subst (λ n. n < 29) (sym (place_is c.args.self)) (place_below c.args.self);
+  bound = subst (λ n. n < 31) (sym (place_is c.args.self)) (place_below c.args.self);
 }
