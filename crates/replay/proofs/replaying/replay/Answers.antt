@@ -17,8 +17,8 @@ returns-in-Ok g c =
     c.in_default.ensures.bytes
 
 -- What was printed before the flush failed is a front.
-pub returns-in-Err : goal.returns-in-Err
-returns-in-Err g c =
+pub returns : goal.returns
+returns g c =
     let old = g.W.Write.contents c.args.writer.now in
     let ending = c.replay_text-ending.result in
     if_some (g.R.Read.remaining c.args.reader.now) _ _
@@ -26,5 +26,5 @@ returns-in-Err g c =
     flush_failed ending text old (g.W.Write.contents c.replay_text-ending.new.writer) _
     (subst (λ t. EndsReplay ending t old (g.W.Write.contents c.replay_text-ending.new.writer))
     (c.as_slice.ensures.value ∙ e ∙ ap (λ xs. xs ++ text) c.new-text.ensures.items) c.replay_text-ending.ensures)
-    c.in-Err.ensures.bytes)
+    c.flush.ensures.bytes)
     c.in_default.ensures.bytes

@@ -1,8 +1,7 @@
-use Rattle.std.proofs.Common.{◌≡◌, ℕ, ◌-◌, List, [], ◌++◌, length, take, drop, rules, sym, ap, ◌∙◌, subst, append_assoc, append-nil, take-append-drop, drop_of_length-le, Result, Ok, Err, Option}
+use Rattle.std.proofs.Common.{◌≡◌, ℕ, ◌-◌, List, [], ◌++◌, length, take, drop, rules, sym, ap, ◌∙◌, subst, append_assoc, append-nil, take-append-drop, drop_of_length-le}
 use Rattle.std.proofs.lemmas.List.{take_rest}
 use Rattle.std.specs.Io.KnownBytes.{Appends}
 use Rattle.std.proofs.KnownBytes.{Appends-trans, Appends-kept}
-use Rattle.replay.specs.Writing.{WritesPart}
 use Rattle.replay.proofs.writing.write_whole.Goals as goal
 use Rattle.replay.proofs.writing.write_whole.Goals.{in-Ok, in-Err}
 
