@@ -15,6 +15,7 @@ use Rattle.replay_script.specs.declared.script.Script.{Script}
 use Rattle.replay.specs.Lines.{count_line}
 use Rattle.replay.specs.Replay.{event_of_script, machine_of}
 use Rattle.replay.specs.Ending.{status_of}
+use Rattle.replay.specs.Writing.{WritesPart}
 use Rattle.replay.specs.declared.ending.Ending.{Ending}
 use Rattle.replay.specs.declared.ending.Ending.TheVariants as endings
 use Rattle.auditing.specs.declared.auditing.Uncounted.{Uncounted}
@@ -56,23 +57,26 @@ AuditsLog kept path (Ok found) = FindsCount kept path found
 AuditsLog kept path (Err NotClean) = IsNotClean kept
 AuditsLog kept path (Err NoMemory) = Unit {0}
 
--- The line of a count was printed, or a write failed; after a refused allocation nothing was printed.
+-- The line of a count was printed, or a front of it where a write failed; after a refused allocation nothing was.
 abbrev pub PrintsCount : Ending → ℤ → ℤ → Option (List ℕ) → Option (List ℕ) → Type 0
 PrintsCount endings.Done cversion pzxid old new = Appends old new (count_line cversion pzxid)
 PrintsCount (endings.BadLine number) cversion pzxid old new = ⊥
-PrintsCount endings.Failed cversion pzxid old new = Unit {0}
+PrintsCount endings.Failed cversion pzxid old new = WritesPart old new (count_line cversion pzxid)
 PrintsCount endings.NoMemory cversion pzxid old new = Keeps old new
 PrintsCount endings.NotClean cversion pzxid old new = ⊥
 PrintsCount endings.NoNode cversion pzxid old new = ⊥
 
--- The output, by how the audit of a text ended: the line of the count; or nothing, unless the text is a script and a
+-- The output, by how the audit of a text ended: the line of the count; or nothing, but a front of that line where a
 -- write failed.
 abbrev pub EndsAudit : Ending → List ℕ → Bytes → Option (List ℕ) → Option (List ℕ) → Type 0
 EndsAudit endings.Done text path old new =
     (script : Script) × (count : ℤ × ℤ) × (script_of text ≡ Ok script) × FindsCount (log_of script) path (Some count)
     × Appends old new (count_line count.0 count.1)
 EndsAudit (endings.BadLine number) text path old new = (script_of text ≡ Err number) × Keeps old new
-EndsAudit endings.Failed text path old new = Keeps old new ⊎ ((script : Script) × (script_of text ≡ Ok script))
+EndsAudit endings.Failed text path old new =
+    Keeps old new
+    ⊎ ((script : Script) × (count : ℤ × ℤ) × (script_of text ≡ Ok script)
+    × FindsCount (log_of script) path (Some count) × WritesPart old new (count_line count.0 count.1))
 EndsAudit endings.NoMemory text path old new = Keeps old new
 EndsAudit endings.NotClean text path old new =
     (script : Script) × (script_of text ≡ Ok script) × IsNotClean (log_of script) × Keeps old new

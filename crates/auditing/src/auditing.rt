@@ -8,7 +8,7 @@ ghost use Rattle.auditing.specs.declared.auditing.Uncounted.TheVariants as uncou
 
 use audit::{AuditError, audit_stat};
 use observer_core::{Engine, Event, Settings, Stop, default_limits};
-use replay::{Ending, engine_of, event_of, put_count};
+use replay::{Ending, engine_of, event_of, put_count, write_whole};
 use replay_script::{Script, ScriptError, ScriptEvent, parse};
 use std::alloc::Global;
 use std::io::{ErrorKind, Read, Write};
@@ -133,7 +133,7 @@ fn print_count<W: Write>(alloc: Global, cversion: i32, pzxid: i64, writer: &mut 
     if put_count(&mut line, cversion, pzxid).is_err() {
         return Ending::NoMemory;
     }
-    match writer.write_all(line.as_slice()) {
+    match write_whole(writer, line.as_slice()) {
         Ok(()) => Ending::Done,
         Err(_) => Ending::Failed,
     }

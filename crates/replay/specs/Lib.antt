@@ -1,4 +1,5 @@
 pub mod Command
 pub mod Ending
 pub mod Lines
+pub mod Writing
 pub mod Replay

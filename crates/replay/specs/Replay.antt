@@ -17,6 +17,7 @@ use Rattle.replay_script.specs.declared.event.ScriptEvent.TheVariants.{LeaderUp,
 use Rattle.replay_script.specs.declared.script.Script.{Script}
 use Rattle.replay.specs.Lines.{output_line, end_line}
 use Rattle.replay.specs.Ending.{status_of}
+use Rattle.replay.specs.Writing.{WritesPart}
 use Rattle.replay.specs.declared.ending.Ending.{Ending}
 use Rattle.replay.specs.declared.ending.Ending.TheVariants.{Done, BadLine, Failed, NoMemory, NotClean, NoNode}
 
@@ -72,11 +73,13 @@ PrintsFront script old new = Keeps old new ⊎ WritesFront old new (replay_of sc
 
 -- The output, by how the replay of a text ended: the lines of all outputs and the end line; nothing, if the text isn't
 -- a script; after a refused allocation nothing, or the lines of the first outputs; and after a failed read or write
--- nothing, unless the text is a script.
+-- nothing, or a front of all these lines.
 abbrev pub EndsReplay : Ending → List ℕ → Option (List ℕ) → Option (List ℕ) → Type 0
 EndsReplay Done text old new = (script : Script) × (script_of text ≡ Ok script) × PrintsAll script old new
 EndsReplay (BadLine number) text old new = (script_of text ≡ Err number) × Keeps old new
-EndsReplay Failed text old new = Keeps old new ⊎ ((script : Script) × (script_of text ≡ Ok script))
+EndsReplay Failed text old new =
+    Keeps old new
+    ⊎ ((script : Script) × (script_of text ≡ Ok script) × WritesPart old new (printed_lines (replay_of script)))
 EndsReplay NoMemory text old new =
     Keeps old new ⊎ ((script : Script) × (script_of text ≡ Ok script) × PrintsFront script old new)
 EndsReplay NotClean text old new = ⊥

@@ -17,8 +17,10 @@ mod command;
 mod ending;
 mod print;
 mod replaying;
+mod writing;
 
 pub use command::{Command, Source, command_of};
 pub use ending::Ending;
 pub use print::{put_count, put_end, put_output};
 pub use replaying::{engine_of, event_of, replay_on};
+pub use writing::write_whole;

@@ -1,16 +1,18 @@
 //! A script that is fed to an observer.
 
-ghost use Rattle.std.specs.Prelude.{◌≡◌, ◌++◌, Some, Err, IsOk, IfOk, IfSome, OnOk, map, if◌then◌else◌};
+ghost use Rattle.std.specs.Prelude.{◌≡◌, ◌++◌, ◌⊎◌, Some, Err, IsOk, IfOk, IfSome, OnOk, map, if◌then◌else◌};
 ghost use Rattle.std.specs.List.{flat_map};
 ghost use Rattle.std.specs.Io.KnownBytes.{Appends};
 ghost use Rattle.observer_core.specs.Machine.{Machine as TheMachine};
 ghost use Rattle.observer_core.specs.Play.{play, primed_machine, new_machine};
 ghost use Rattle.replay.specs.Lines.{output_line};
-ghost use Rattle.replay.specs.Replay.{event_of_script, end_line_of, printed_lines, WritesFront, PrintsAll, PrintsFront, EndsReplay, EndsReplayWith};
+ghost use Rattle.replay.specs.Replay.{event_of_script, end_line_of, replay_of, printed_lines, WritesFront, PrintsAll, PrintsFront, EndsReplay, EndsReplayWith};
+ghost use Rattle.replay.specs.Writing.{WritesPart};
 ghost use Rattle.replay.specs.declared.replaying.PrintError.TheVariants as print_errors;
 
 use crate::ending::Ending;
 use crate::print::{put_end, put_output};
+use crate::writing::write_whole;
 use apply_workers::OpenGate;
 use batcher::Limits;
 use observer_core::{Config, Engine, Event, Output, Settings, Stop};
@@ -93,10 +95,12 @@ fn print_output<W: Write>(
     ensures ok { OnOk result
         (Appends (W.contents writer.old) (W.contents writer.new) (output_line output.now)) }
     ensures no_memory { result ≡ Err print_errors.NoMemory → writer.new ≡ writer.old }
+    ensures unwritable { result ≡ Err print_errors.Unwritable
+        → WritesPart (W.contents writer.old) (W.contents writer.new) (output_line output.now) }
 {
     line.clear();
     put_output(line, output)?;
-    match writer.write_all(line.as_slice()) {
+    match write_whole(writer, line.as_slice()) {
         Ok(()) => Ok(()),
         Err(_) => Err(PrintError::Unwritable),
     }
@@ -112,6 +116,8 @@ fn print_outputs<W: Write>(
         OnOk result (Appends (W.contents writer.old) (W.contents writer.new) lines) }
     ensures no_memory { result ≡ Err print_errors.NoMemory
         → WritesFront (W.contents writer.old) (W.contents writer.new) outputs.now }
+    ensures unwritable { result ≡ Err print_errors.Unwritable
+        → WritesPart (W.contents writer.old) (W.contents writer.new) (flat_map output_line outputs.now) }
 {
     for output in outputs {
         print_output(line, output, writer)?;
@@ -127,10 +133,12 @@ fn print_end<W: Write>(
     ensures ok { OnOk result ((m : TheMachine) → engine.now ≡ Some m
         → Appends (W.contents writer.old) (W.contents writer.new) (end_line_of m)) }
     ensures no_memory { result ≡ Err print_errors.NoMemory → writer.new ≡ writer.old }
+    ensures unwritable { result ≡ Err print_errors.Unwritable → (m : TheMachine) → engine.now ≡ Some m
+        → WritesPart (W.contents writer.old) (W.contents writer.new) (end_line_of m) }
 {
     line.clear();
     put_end(line, engine.learner().last_zxid(), engine.tree().paths())?;
-    match writer.write_all(line.as_slice()) {
+    match write_whole(writer, line.as_slice()) {
         Ok(()) => Ok(()),
         Err(_) => Err(PrintError::Unwritable),
     }
@@ -150,6 +158,10 @@ fn print_fed<W: Write>(
         → Appends (W.contents writer.old) (W.contents writer.new) (lines ++ end_line_of m)) }
     ensures no_memory { result ≡ Err print_errors.NoMemory
         → WritesFront (W.contents writer.old) (W.contents writer.new) outputs.now }
+    ensures unwritable { let lines = flat_map output_line outputs.now in
+        result ≡ Err print_errors.Unwritable → WritesPart (W.contents writer.old) (W.contents writer.new) lines
+        ⊎ (IsOk fed × ((m : TheMachine) → engine.now ≡ Some m
+        → WritesPart (W.contents writer.old) (W.contents writer.new) (lines ++ end_line_of m))) }
 {
     let mut line = Vec::new(alloc);
     print_outputs(&mut line, outputs, writer)?;
@@ -172,6 +184,8 @@ fn feed<T: Threads + Sync, W: Write>(
         → Appends (W.contents writer.old) (W.contents writer.new) (printed_lines (play m events.now))) }
     ensures no_memory { result ≡ Err print_errors.NoMemory → (m : TheMachine) → engine ≡ Some m
         → WritesFront (W.contents writer.old) (W.contents writer.new) (play m events.now).outputs }
+    ensures unwritable { result ≡ Err print_errors.Unwritable → (m : TheMachine) → engine ≡ Some m
+        → WritesPart (W.contents writer.old) (W.contents writer.new) (printed_lines (play m events.now)) }
 {
     let mut outputs = Vec::new(alloc);
     let fed = engine.feed(rt, alloc, events, &OpenGate, &mut outputs);
@@ -189,6 +203,8 @@ fn play_script<T: Threads + Sync, W: Write>(
     ensures ok { OnOk result (PrintsAll script (W.contents writer.old) (W.contents writer.new)) }
     ensures no_memory { result ≡ Err print_errors.NoMemory
         → PrintsFront script (W.contents writer.old) (W.contents writer.new) }
+    ensures unwritable { result ≡ Err print_errors.Unwritable
+        → WritesPart (W.contents writer.old) (W.contents writer.new) (printed_lines (replay_of script)) }
 {
     let Script {
         server_id,

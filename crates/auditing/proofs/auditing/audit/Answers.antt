@@ -1,7 +1,7 @@
 use Rattle.std.proofs.Common.{List, ℕ, ◌++◌, subst, ap, ◌∙◌}
 use Rattle.replay.proofs.Printing.{if_some}
 use Rattle.auditing.specs.Auditing.{EndsAudit}
-use Rattle.auditing.proofs.Feeding.{ends_kept}
+use Rattle.auditing.proofs.Feeding.{ends_kept, flush_failed}
 use Rattle.auditing.proofs.auditing.audit.Goals as goal
 
 -- The bytes that were read are the text, and flushing keeps the output.
@@ -15,4 +15,17 @@ returns-in-Ok g c =
     (subst (λ t. EndsAudit ending t c.args.path.now old (g.W.Write.contents c.audit_text-ending.new.writer))
     (c.as_slice.ensures.value ∙ e ∙ ap (λ xs. xs ++ text) c.new-text.ensures.items) c.audit_text-ending.ensures)
     c.in-Ok.ensures.bytes)
+    c.in_default.ensures.bytes
+
+-- What was printed before the flush failed is a front.
+pub returns : goal.returns
+returns g c =
+    let old = g.W.Write.contents c.args.writer.now in
+    let ending = c.audit_text-ending.result in
+    if_some (g.R.Read.remaining c.args.reader.now) _ _
+    (λ (text : List ℕ) e.
+    flush_failed ending text c.args.path.now old (g.W.Write.contents c.audit_text-ending.new.writer) _
+    (subst (λ t. EndsAudit ending t c.args.path.now old (g.W.Write.contents c.audit_text-ending.new.writer))
+    (c.as_slice.ensures.value ∙ e ∙ ap (λ xs. xs ++ text) c.new-text.ensures.items) c.audit_text-ending.ensures)
+    c.flush.ensures.bytes)
     c.in_default.ensures.bytes
