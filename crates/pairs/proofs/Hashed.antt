@@ -13,7 +13,7 @@ use Rattle.std.proofs.lemmas.Map.Lookups.{exact_bytes}
 use Rattle.std.proofs.lemmas.Map.Text.{is_eq-slice_cmp}
 use Rattle.std.specs.FinMap as finmap
 use Rattle.std.specs.FinSet as set
-use Rattle.pairs.specs.Pairs.{Bytes, text_cmp, Texts}
+use Rattle.pairs.specs.Pairs.{Bytes, text_cmp, TextKeys}
 use Rattle.pairs.proofs.Totals.{text_total}
 use Rattle.pairs.proofs.SetCounts.{len-listed}
 
@@ -56,7 +56,7 @@ module _ {X : Type 0} where
 
 -- ---- sets
 
-abbrev pub set_of : List Bytes → Texts
+abbrev pub set_of : List Bytes → TextKeys
 set_of ks = set.from_list ks
 
 any-hashed : (ks : List Bytes) (q : Bytes) → list_any (eq_by_cmp text_cmp q) ks ≡ list_any (bytes_eq q) ks

@@ -7,7 +7,7 @@ use Rattle.std.specs.Cmp.{nat_cmp_total}
 use Rattle.std.proofs.lemmas.Map.Lookups.{exact_unsigned, exact_bytes}
 use Rattle.std.specs.FinSet as set
 use Rattle.pairs.proofs.Ties.{tied_then}
-use Rattle.pairs.specs.Pairs.{Bytes, text_cmp, pair_cmp, Numbers, Texts, TextPairs, same_text, same_number, numbers_of, texts_of, without_text, without_number, keys_in}
+use Rattle.pairs.specs.Pairs.{Bytes, text_cmp, pair_cmp, Numbers, TextKeys, TextPairs, same_text, same_number, numbers_at, texts_at, without_text, without_number, keys_in}
 use Rattle.pairs.proofs.Keys.{has-key}
 use Rattle.pairs.proofs.Totals.{text_total, pair_exact}
 
@@ -27,7 +27,7 @@ any-number text c (p ∷ ps) =
     by false = refl
 
 pub contains-numbers : (text : Bytes) (pairs : TextPairs) (c : ℕ)
-    → set.contains (numbers_of text pairs) c ≡ set.contains pairs (text, c)
+    → set.contains (numbers_at text pairs) c ≡ set.contains pairs (text, c)
 contains-numbers text pairs c =
     set.contains-from_list nat_cmp_total (map (λ (p : Bytes × ℕ). p.1)
     (filter (λ (p : Bytes × ℕ). same_text text p.0) (set.items pairs))) c
@@ -49,12 +49,12 @@ contains-without_number number pairs q =
 
 -- A set that has exactly the numbers as members.
 pub are_numbers : (text : Bytes) (pairs : TextPairs) (numbers : Numbers)
-    → ((c : ℕ) → set.contains numbers c ≡ set.contains pairs (text, c)) → numbers ≡ numbers_of text pairs
+    → ((c : ℕ) → set.contains numbers c ≡ set.contains pairs (text, c)) → numbers ≡ numbers_at text pairs
 are_numbers text pairs numbers is =
     set.same_set nat_cmp_total exact_unsigned _ _ (λ c. is c ∙ sym (contains-numbers text pairs c))
 
 pub no_number : (text : Bytes) (pairs : TextPairs) → ((c : ℕ) → set.contains pairs (text, c) ≡ false)
-    → numbers_of text pairs ≡ set.empty
+    → numbers_at text pairs ≡ set.empty
 no_number text pairs none = sym (are_numbers text pairs set.empty (λ c. set.contains-empty nat_cmp c ∙ sym (none c)))
 
 -- ---- the texts of a number
@@ -78,7 +78,7 @@ any-text number t (p ∷ ps) =
         (filter (λ (p : Bytes × ℕ). same_number number p.1) ps))) (sym (and-false (eq_by_cmp text_cmp t p.0)))
 
 pub contains-texts : (number : ℕ) (pairs : TextPairs) (t : Bytes)
-    → set.contains (texts_of number pairs) t ≡ set.contains pairs (t, number)
+    → set.contains (texts_at number pairs) t ≡ set.contains pairs (t, number)
 contains-texts number pairs t =
     set.contains-from_list text_total (map (λ (p : Bytes × ℕ). p.0)
     (filter (λ (p : Bytes × ℕ). same_number number p.1) (set.items pairs))) t
@@ -86,19 +86,19 @@ contains-texts number pairs t =
     ∙ sym (set.contains-items pairs (t, number))
 
 -- A set that has exactly the texts as members.
-pub are_texts : (number : ℕ) (pairs : TextPairs) (texts : Texts)
-    → ((t : Bytes) → set.contains texts t ≡ set.contains pairs (t, number)) → texts ≡ texts_of number pairs
+pub are_texts : (number : ℕ) (pairs : TextPairs) (texts : TextKeys)
+    → ((t : Bytes) → set.contains texts t ≡ set.contains pairs (t, number)) → texts ≡ texts_at number pairs
 are_texts number pairs texts is =
     set.same_set text_total exact_bytes _ _ (λ t. is t ∙ sym (contains-texts number pairs t))
 
 pub no_text : (number : ℕ) (pairs : TextPairs) → ((t : Bytes) → set.contains pairs (t, number) ≡ false)
-    → texts_of number pairs ≡ set.empty
+    → texts_at number pairs ≡ set.empty
 no_text number pairs none =
     sym (are_texts number pairs set.empty (λ t. set.contains-empty text_cmp t ∙ sym (none t)))
 
 -- A text that isn't the first part of a pair has no number.
 pub unlisted : (text : Bytes) (pairs : TextPairs) → set.contains (keys_in text_cmp pairs) text ≡ false
-    → numbers_of text pairs ≡ set.empty
+    → numbers_at text pairs ≡ set.empty
 unlisted text pairs none = no_number text pairs (λ n. by n (set.contains pairs (text, n)) refl)
   where
     by : (n : ℕ) (b : Bool) → set.contains pairs (text, n) ≡ b → set.contains pairs (text, n) ≡ false

@@ -8,7 +8,7 @@ use Rattle.std.proofs.lemmas.Map.Views.{tells_apart}
 use Rattle.std.proofs.lemmas.Map.Lookups.{exact_unsigned, exact_bytes}
 use Rattle.std.specs.FinSet as set
 use Rattle.pairs.proofs.Ties.{tied_then}
-use Rattle.pairs.specs.Pairs.{Bytes, Texts, Numbers, TextPairs, pair_cmp, text_cmp, numbers_of, pairs_of_number, without_text, without_number, same_text, same_number, keys_in, keys_beyond, numbers_in, numbers_beyond}
+use Rattle.pairs.specs.Pairs.{Bytes, TextKeys, Numbers, TextPairs, pair_cmp, text_cmp, numbers_at, pairs_of_number, without_text, without_number, same_text, same_number, keys_in, keys_beyond, numbers_in, numbers_beyond}
 use Rattle.pairs.specs.Inner.Stored.{NumberPairs, AgreeOn}
 use Rattle.pairs.proofs.Totals.{text_total, pair_total, pair_exact}
 use Rattle.pairs.proofs.NumbersOf.{contains-numbers}
@@ -34,7 +34,7 @@ any-of_number q d c (p ∷ ps) =
     by false b k = refl
 
 -- As many pairs as texts.
-pub len-texts : (pairs : TextPairs) (turn : NumberPairs) (c : ℕ) (texts : Texts) → AgreeOn pairs turn
+pub len-texts : (pairs : TextPairs) (turn : NumberPairs) (c : ℕ) (texts : TextKeys) → AgreeOn pairs turn
     → ((p : Bytes) → set.contains texts p ≡ set.contains turn (c, p)) → set.len texts ≡ set.len (pairs_of_number c pairs)
 len-texts pairs turn c texts agree is =
     sym (len-image text_total exact_bytes pair_total (λ (p : Bytes). (p, c)) alike texts)
@@ -68,7 +68,7 @@ no-texts pairs turn c agree none =
     sym (set.len-empty text_cmp)
     ∙ len-texts pairs turn c set.empty agree (λ p. set.contains-empty text_cmp p ∙ sym (none p))
 
-pub texts-within : (pairs : TextPairs) (turn : NumberPairs) (c : ℕ) (texts : Texts) (count some : ℕ) → AgreeOn pairs turn
+pub texts-within : (pairs : TextPairs) (turn : NumberPairs) (c : ℕ) (texts : TextKeys) (count some : ℕ) → AgreeOn pairs turn
     → ((p : Bytes) → set.contains texts p ≡ set.contains turn (c, p)) → count ≡ set.len pairs → some ≡ set.len texts
     → some ≤ count
 texts-within pairs turn c texts count some agree is all part =
@@ -80,7 +80,7 @@ texts-within pairs turn c texts count some agree is all part =
       len-parts pair_total pair_exact (λ (p : Bytes × ℕ). same_number c p.1) pairs,
     )
 
-pub texts-less : (pairs : TextPairs) (turn : NumberPairs) (c : ℕ) (texts : Texts) (count some : ℕ) → AgreeOn pairs turn
+pub texts-less : (pairs : TextPairs) (turn : NumberPairs) (c : ℕ) (texts : TextKeys) (count some : ℕ) → AgreeOn pairs turn
     → ((p : Bytes) → set.contains texts p ≡ set.contains turn (c, p)) → count ≡ set.len pairs → some ≡ set.len texts
     → count - some ≡ set.len (without_number c pairs)
 texts-less pairs turn c texts count some agree is all part =
@@ -107,7 +107,7 @@ any-of_text p q d (c ∷ cs) =
     by false a b = refl
 
 -- As many pairs as numbers.
-len-numbers : (pairs : TextPairs) (p : Bytes) (numbers : Numbers) → numbers ≡ numbers_of p pairs
+len-numbers : (pairs : TextPairs) (p : Bytes) (numbers : Numbers) → numbers ≡ numbers_at p pairs
     → set.len numbers ≡ set.len (set.retain pairs (λ (r : Bytes × ℕ). same_text p r.0))
 len-numbers pairs p numbers is =
     sym (len-image nat_cmp_total exact_unsigned pair_total (λ (c : ℕ). (p, c)) alike numbers)
@@ -138,7 +138,7 @@ len-numbers pairs p numbers is =
         ∙ sym (contains-kept pair_total pair_exact pairs (λ (r : Bytes × ℕ). same_text p r.0) (q, d))
 
 pub numbers-within : (pairs : TextPairs) (p : Bytes) (numbers : Numbers) (count some : ℕ)
-    → numbers ≡ numbers_of p pairs → count ≡ set.len pairs → some ≡ set.len numbers → some ≤ count
+    → numbers ≡ numbers_at p pairs → count ≡ set.len pairs → some ≡ set.len numbers → some ≤ count
 numbers-within pairs p numbers count some is all part =
     omega (
       arith,
@@ -149,7 +149,7 @@ numbers-within pairs p numbers count some is all part =
     )
 
 pub numbers-less : (pairs : TextPairs) (p : Bytes) (numbers : Numbers) (count some : ℕ)
-    → numbers ≡ numbers_of p pairs → count ≡ set.len pairs → some ≡ set.len numbers
+    → numbers ≡ numbers_at p pairs → count ≡ set.len pairs → some ≡ set.len numbers
     → count - some ≡ set.len (without_text p pairs)
 numbers-less pairs p numbers count some is all part =
     omega (

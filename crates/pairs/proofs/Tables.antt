@@ -8,7 +8,7 @@ use Rattle.std.proofs.lemmas.Map.Views.{tells_apart}
 use Rattle.std.proofs.lemmas.Map.Lookups.{exact_unsigned, exact_bytes}
 use Rattle.std.specs.FinSet as set
 use Rattle.pairs.proofs.Ties.{tied_then}
-use Rattle.pairs.specs.Pairs.{Bytes, Texts, Numbers, TextPairs, pair_cmp, text_cmp, numbers_of, texts_of, without_text, without_number, same_text, same_number, listed_pairs}
+use Rattle.pairs.specs.Pairs.{Bytes, TextKeys, Numbers, TextPairs, pair_cmp, text_cmp, numbers_at, texts_at, without_text, without_number, same_text, same_number, listed_pairs}
 use Rattle.pairs.specs.Inner.Stored.{NumberPairs, all_pairs, AgreeOn, HasLostTexts, HasLostNumbers, without_key}
 use Rattle.pairs.proofs.Totals.{text_total, pair_total, pair_exact, turned_total, turned_exact}
 use Rattle.pairs.proofs.NumbersOf.{contains-numbers, contains-without_text, contains-without_number, are_texts, no_text}
@@ -121,7 +121,7 @@ lost-numbers p cs numbers old new is listed d q =
     ∙ contains-without_numbers p cs old d q
     ∙ ap (λ b. set.contains old (d, q) && not (eq_by_cmp text_cmp q p && b)) (listed d)
 
-pub lost-texts : (c : ℕ) (ps : List Bytes) (texts : Texts) (old new : TextPairs)
+pub lost-texts : (c : ℕ) (ps : List Bytes) (texts : TextKeys) (old new : TextPairs)
     → new ≡ without_texts c ps old → ((q : Bytes) → list_any (eq_by_cmp text_cmp q) ps ≡ set.contains texts q)
     → HasLostTexts c texts old new
 lost-texts c ps texts old new is listed q d =
@@ -144,7 +144,7 @@ lost-one_number p c numbers old new one is =
 
 -- The text is removed at each of its numbers.
 pub agree-without_text : (pairs : TextPairs) (turn after : NumberPairs) (p : Bytes) (numbers : Numbers)
-    → AgreeOn pairs turn → numbers ≡ numbers_of p pairs → HasLostNumbers p numbers turn after
+    → AgreeOn pairs turn → numbers ≡ numbers_at p pairs → HasLostNumbers p numbers turn after
     → AgreeOn (without_text p pairs) after
 agree-without_text pairs turn after p numbers agree is lost q d =
     contains-without_text p pairs (q, d)
@@ -158,7 +158,7 @@ agree-without_text pairs turn after p numbers agree is lost q d =
     listed = ap (λ s. set.contains s d) is ∙ contains-numbers p pairs d
 
 -- A text without a number.
-pub textless : (p : Bytes) (pairs : TextPairs) → numbers_of p pairs ≡ set.empty → pairs ≡ without_text p pairs
+pub textless : (p : Bytes) (pairs : TextPairs) → numbers_at p pairs ≡ set.empty → pairs ≡ without_text p pairs
 textless p pairs none =
     set.same_set pair_total pair_exact _ _ (λ r. by r.0 r.1 (same_text p r.0) refl
     ∙ sym (contains-without_text p pairs r))
@@ -173,7 +173,7 @@ textless p pairs none =
     by q d false e = sym (and-true (set.contains pairs (q, d)))
 
 -- The number is removed at each of its texts.
-pub are_dropped : (pairs after : TextPairs) (turn : NumberPairs) (c : ℕ) (texts : Texts) → AgreeOn pairs turn
+pub are_dropped : (pairs after : TextPairs) (turn : NumberPairs) (c : ℕ) (texts : TextKeys) → AgreeOn pairs turn
     → ((p : Bytes) → set.contains texts p ≡ set.contains turn (c, p)) → HasLostTexts c texts pairs after
     → after ≡ without_number c pairs
 are_dropped pairs after turn c texts agree is lost = set.same_set pair_total pair_exact _ _ (λ r. each r.0 r.1)
@@ -212,12 +212,12 @@ numberless pairs turn c agree none =
 
 -- ---- the texts of a number
 
-pub turned_texts : (pairs : TextPairs) (turn : NumberPairs) (c : ℕ) (texts : Texts) → AgreeOn pairs turn
-    → ((p : Bytes) → set.contains texts p ≡ set.contains turn (c, p)) → texts ≡ texts_of c pairs
+pub turned_texts : (pairs : TextPairs) (turn : NumberPairs) (c : ℕ) (texts : TextKeys) → AgreeOn pairs turn
+    → ((p : Bytes) → set.contains texts p ≡ set.contains turn (c, p)) → texts ≡ texts_at c pairs
 turned_texts pairs turn c texts agree is = are_texts c pairs texts (λ p. is p ∙ sym (agree p c))
 
 pub no_turned_text : (pairs : TextPairs) (turn : NumberPairs) (c : ℕ) → AgreeOn pairs turn
-    → ((p : Bytes) → set.contains turn (c, p) ≡ false) → texts_of c pairs ≡ set.empty
+    → ((p : Bytes) → set.contains turn (c, p) ≡ false) → texts_at c pairs ≡ set.empty
 no_turned_text pairs turn c agree none = no_text c pairs (λ p. agree p c ∙ none p)
 
 -- ---- all pairs
@@ -238,7 +238,7 @@ any-append test (x ∷ xs) ys =
     or_assoc true b c = refl
     or_assoc false b c = refl
 
-any-listed : (t : Bytes) (n : ℕ) (es : List (ℕ × Texts))
+any-listed : (t : Bytes) (n : ℕ) (es : List (ℕ × TextKeys))
     → list_any (eq_by_cmp (pair_cmp text_cmp nat_cmp) (t, n)) (listed_pairs es)
     ≡ list_any (eq_by_cmp (pair_cmp nat_cmp text_cmp) (n, t)) (all_pairs es)
 any-listed t n [] = refl
@@ -249,7 +249,7 @@ any-listed t n (e ∷ es) =
     (all_pairs es))
 
 -- The pairs that are listed number by number.
-pub listed-agree : (pairs : TextPairs) (turn : NumberPairs) (es : List (ℕ × Texts)) → AgreeOn pairs turn
+pub listed-agree : (pairs : TextPairs) (turn : NumberPairs) (es : List (ℕ × TextKeys)) → AgreeOn pairs turn
     → set.from_list (all_pairs es) ≡ turn → set.from_list (listed_pairs es) ≡ pairs
 listed-agree pairs turn es agree is = set.same_set pair_total pair_exact _ _ (λ r. each r.0 r.1)
   where

@@ -14,8 +14,8 @@ Bytes = List ℕ
 abbrev pub text_cmp : Bytes → Bytes → Ordering
 text_cmp = slice_cmp nat_cmp
 
-abbrev pub Texts : Type 0
-Texts = set.FinSet text_cmp
+abbrev pub TextKeys : Type 0
+TextKeys = set.FinSet text_cmp
 
 abbrev pub Numbers : Type 0
 Numbers = set.FinSet nat_cmp
@@ -40,13 +40,13 @@ sorted_numbers numbers =
     finmap.keys (finmap.from_entries {R = nat_cmp} (map (λ (number : ℕ). (number, tt {0})) (set.items numbers)))
 
 -- The numbers of the text.
-abbrev pub numbers_of : Bytes → TextPairs → Numbers
-numbers_of text pairs =
+abbrev pub numbers_at : Bytes → TextPairs → Numbers
+numbers_at text pairs =
     set.from_list (map (λ (p : Bytes × ℕ). p.1) (filter (λ (p : Bytes × ℕ). same_text text p.0) (set.items pairs)))
 
 -- The texts of the number.
-abbrev pub texts_of : ℕ → TextPairs → Texts
-texts_of number pairs =
+abbrev pub texts_at : ℕ → TextPairs → TextKeys
+texts_at number pairs =
     set.from_list (map (λ (p : Bytes × ℕ). p.0) (filter (λ (p : Bytes × ℕ). same_number number p.1) (set.items pairs)))
 
 abbrev pub without_text : Bytes → TextPairs → TextPairs
@@ -59,7 +59,7 @@ abbrev pub pairs_of_number : ℕ → TextPairs → TextPairs
 pairs_of_number number pairs = set.retain pairs (λ (p : Bytes × ℕ). same_number number p.1)
 
 -- The pairs of each number with each of its texts.
-abbrev pub listed_pairs : List (ℕ × Texts) → List (Bytes × ℕ)
+abbrev pub listed_pairs : List (ℕ × TextKeys) → List (Bytes × ℕ)
 listed_pairs [] = []
 listed_pairs (e ∷ es) = map (λ (t : Bytes). (t, e.0)) (set.items e.1) ++ listed_pairs es
 

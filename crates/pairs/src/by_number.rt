@@ -4,7 +4,7 @@ ghost use Rattle.std.specs.Prelude.{◌≡◌, List, ℕ, OnOk, OnErr, IfSome, I
 ghost use Rattle.std.specs.Ordering.{nat_cmp};
 ghost use Rattle.std.specs.Map.Iter.{ShowsInOrder, deref_pair};
 ghost use Rattle.std.specs.FinSet as set;
-ghost use Rattle.pairs.specs.Pairs.{Texts, keys_in, keys_beyond};
+ghost use Rattle.pairs.specs.Pairs.{TextKeys, keys_in, keys_beyond};
 ghost use Rattle.pairs.specs.Inner.Stored.{all_pairs, keys_in_one, HasLostNumbers, without_key};
 
 use crate::hash_key::HashKey;
@@ -106,7 +106,7 @@ impl ByNumber {
     /// The numbers, each with its texts.
     pub fn iter(&self) -> Iter<'_, u64, TextTable>
         ensures pairs { set.from_list (all_pairs result) ≡ self.now }
-        ensures runs { ShowsInOrder (deref_pair {K = ℕ} {X = Texts}) }
+        ensures runs { ShowsInOrder (deref_pair {K = ℕ} {X = TextKeys}) }
     {
         self.map.iter()
     }
@@ -182,5 +182,15 @@ impl ByNumber {
         ensures rest { self.new ≡ without_key number self.old }
     {
         self.map.remove(&number)
+    }
+}
+
+impl Clone for ByNumber {
+    ghost is_clone = { λ x y. y ≡ x };
+
+    fn clone(&self) -> Result<ByNumber, AllocError> {
+        Ok(ByNumber {
+            map: self.map.clone()?,
+        })
     }
 }

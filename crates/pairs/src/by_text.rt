@@ -3,7 +3,7 @@
 ghost use Rattle.std.specs.Prelude.{◌≡◌, ℕ, List, OnOk, OnErr, IfOk, IfSome, IfNone, not};
 ghost use Rattle.std.specs.Ordering.{nat_cmp};
 ghost use Rattle.std.specs.FinSet as set;
-ghost use Rattle.pairs.specs.Pairs.{text_cmp, numbers_of, without_text, keys_in, keys_beyond};
+ghost use Rattle.pairs.specs.Pairs.{text_cmp, numbers_at, without_text, keys_in, keys_beyond};
 ghost use Rattle.pairs.specs.Inner.Stored.{keys_in_one, HasLostTexts};
 
 use crate::hash_key::HashKey;
@@ -95,8 +95,8 @@ impl ByText {
 
     /// The numbers of the text; None if it has none.
     pub fn of(&self, text: &str) -> Option<&Row>
-        ensures some { IfSome result (λ row. row.now ≡ numbers_of text.now self.now) }
-        ensures none { IfNone result (numbers_of text.now self.now ≡ set.empty) }
+        ensures some { IfSome result (λ row. row.now ≡ numbers_at text.now self.now) }
+        ensures none { IfNone result (numbers_at text.now self.now ≡ set.empty) }
     {
         match self.map.get(KeyQuery(text)) {
             None => return None,
@@ -148,10 +148,20 @@ impl ByText {
 
     /// Removes all pairs of a text and returns its numbers; None if it has none.
     pub fn take(&mut self, text: &str) -> Option<Row>
-        ensures row { IfSome result (λ row. row ≡ numbers_of text.now self.old) }
-        ensures none { IfNone result (numbers_of text.now self.old ≡ set.empty) }
+        ensures row { IfSome result (λ row. row ≡ numbers_at text.now self.old) }
+        ensures none { IfNone result (numbers_at text.now self.old ≡ set.empty) }
         ensures rest { self.new ≡ without_text text.now self.old }
     {
         self.map.swap_remove(KeyQuery(text))
+    }
+}
+
+impl Clone for ByText {
+    ghost is_clone = { λ x y. y ≡ x };
+
+    fn clone(&self) -> Result<ByText, AllocError> {
+        Ok(ByText {
+            map: self.map.clone()?,
+        })
     }
 }

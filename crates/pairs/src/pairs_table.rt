@@ -3,7 +3,7 @@
 ghost use Rattle.std.specs.Prelude.{◌≡◌, ◌≢◌, ◌↔◌, ℕ, OnOk, OnErr, IfOk, IfSome, IfNone, IsTrue, not};
 ghost use Rattle.std.specs.FinSet as set;
 ghost use Rattle.std.specs.Map.Iter.{ShowsInOrder, deref_pair};
-ghost use Rattle.pairs.specs.Pairs.{Texts, text_cmp, texts_of, numbers_of, without_text, without_number, pairs_of_number, listed_pairs};
+ghost use Rattle.pairs.specs.Pairs.{TextKeys, text_cmp, texts_at, numbers_at, without_text, without_number, pairs_of_number, listed_pairs};
 ghost use Rattle.pairs.specs.Pairs.{keys_in, keys_beyond, numbers_in, numbers_beyond};
 
 use crate::by_number::ByNumber;
@@ -11,7 +11,7 @@ use crate::by_text::ByText;
 use crate::hash_key::HashKey;
 use crate::number_set::NumberSet;
 use crate::text_table::TextTable;
-use std::alloc::Global;
+use std::alloc::{AllocError, Global};
 use std::collections::btree_map::Iter;
 use std::marker::Model;
 use values::NoMemory;
@@ -138,7 +138,7 @@ impl Pairs {
 
     /// Adds the numbers of the text to a set. A refused allocation may leave some of them added.
     pub fn add_numbers_of(&self, numbers: &mut NumberSet, text: &str) -> Result<(), NoMemory>
-        ensures { OnOk result (numbers.new ≡ set.union numbers.old (numbers_of text.now self.now)) }
+        ensures { OnOk result (numbers.new ≡ set.union numbers.old (numbers_at text.now self.now)) }
     {
         match self.by_text.of(text) {
             None => return Ok(()),
@@ -148,7 +148,7 @@ impl Pairs {
 
     /// The numbers of the text. Fails only if an allocation is refused.
     pub fn numbers_of(&self, alloc: Global, text: &str) -> Result<NumberSet, NoMemory>
-        ensures { IfOk result (λ numbers. numbers ≡ numbers_of text.now self.now) }
+        ensures { IfOk result (λ numbers. numbers ≡ numbers_at text.now self.now) }
     {
         let mut numbers = NumberSet::new(alloc);
         self.add_numbers_of(&mut numbers, text)?;
@@ -157,9 +157,9 @@ impl Pairs {
 
     /// The texts of the number; None if it has none.
     pub fn texts_of(&self, number: u64) -> Option<&TextTable>
-        ensures texts { IfSome result (λ texts. texts.now ≡ texts_of number self.now) }
+        ensures texts { IfSome result (λ texts. texts.now ≡ texts_at number self.now) }
         ensures some { IfSome result (λ texts. texts.now ≢ set.empty) }
-        ensures none { IfNone result (texts_of number self.now ≡ set.empty) }
+        ensures none { IfNone result (texts_at number self.now ≡ set.empty) }
     {
         match self.by_number.of(number) {
             None => return None,
@@ -175,7 +175,7 @@ impl Pairs {
     /// All pairs: the numbers that have a text, each with its texts.
     pub fn iter(&self) -> Iter<'_, u64, TextTable>
         ensures pairs { set.from_list (listed_pairs result) ≡ self.now }
-        ensures runs { ShowsInOrder (deref_pair {K = ℕ} {X = Texts}) }
+        ensures runs { ShowsInOrder (deref_pair {K = ℕ} {X = TextKeys}) }
     {
         self.by_number.iter()
     }
@@ -232,8 +232,8 @@ impl Pairs {
 
     /// Removes the pairs of a number and returns its texts; None if it has none. Allocates nothing.
     pub fn take_number(&mut self, number: u64) -> Option<TextTable>
-        ensures texts { IfSome result (λ texts. texts ≡ texts_of number self.old) }
-        ensures none { IfNone result (texts_of number self.old ≡ set.empty) }
+        ensures texts { IfSome result (λ texts. texts ≡ texts_at number self.old) }
+        ensures none { IfNone result (texts_at number self.old ≡ set.empty) }
         ensures rest { self.new ≡ without_number number self.old }
     {
         match self.by_number.take(number) {
@@ -244,5 +244,17 @@ impl Pairs {
                 Some(texts)
             }
         }
+    }
+}
+
+impl Clone for Pairs {
+    ghost is_clone = { λ x y. y ≡ x };
+
+    fn clone(&self) -> Result<Pairs, AllocError> {
+        Ok(Pairs {
+            by_text: self.by_text.clone()?,
+            by_number: self.by_number.clone()?,
+            count: self.count,
+        })
     }
 }

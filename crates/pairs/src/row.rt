@@ -151,3 +151,19 @@ impl Row {
         }
     }
 }
+
+impl Clone for Row {
+    ghost is_clone = { λ x y. y ≡ x };
+
+    fn clone(&self) -> Result<Row, AllocError> {
+        match &self.form {
+            RowForm::Empty => Ok(Row {
+                form: RowForm::Empty,
+            }),
+            RowForm::One(only) => Ok(Row::of(*only)),
+            RowForm::Many(numbers) => Ok(Row {
+                form: RowForm::Many(numbers.clone()?),
+            }),
+        }
+    }
+}

@@ -1,4 +1,4 @@
-//! Texts that are found by their hash.
+//! TextKeys that are found by their hash.
 
 ghost use Rattle.std.specs.Prelude.{◌≡◌, IfOk};
 ghost use Rattle.std.proofs.Common.{ap};

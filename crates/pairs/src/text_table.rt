@@ -22,11 +22,11 @@ pub struct TextTable {
 }
 
 impl Model for TextTable {
-    ghost use Rattle.pairs.specs.Pairs.{Texts};
+    ghost use Rattle.pairs.specs.Pairs.{TextKeys};
     ghost use Rattle.std.specs.FinSet as set;
     ghost use Rattle.std.specs.Coded.{coded_ℕ, coded_list};
 
-    ghost Value = { Texts };
+    ghost Value = { TextKeys };
 
     ghost coded = { set.code (coded_list coded_ℕ) };
 

@@ -7,7 +7,7 @@ ghost use Rattle.watch_manager.specs.Watching.{without_lasting_of};
 use crate::mode::WatchMode;
 use crate::recursive::RecursiveTable;
 use crate::table::WatchTable;
-use pairs::NumberSet;
+use pairs::{HashKey, NumberSet};
 use std::alloc::Global;
 use std::marker::Model;
 use values::NoMemory;
@@ -30,13 +30,13 @@ impl Model for LastingTable {
 }
 
 impl LastingTable {
-    /// No watch. Allocates nothing.
-    pub fn new(alloc: Global) -> LastingTable
+    /// No watch, and this key of the hash. Allocates nothing.
+    pub fn keyed(alloc: Global, key: HashKey) -> LastingTable
         ensures { result ≡ no_lasting_watch }
     {
         LastingTable {
-            persistent: WatchTable::new(alloc),
-            recursive: RecursiveTable::new(alloc),
+            persistent: WatchTable::keyed(alloc, key),
+            recursive: RecursiveTable::keyed(alloc, key),
         }
     }
 

@@ -7,7 +7,7 @@ ghost use Rattle.watch_manager.specs.Lasting.{watchers_above};
 ghost use Rattle.watch_manager.specs.Inner.Lasting.{with_watchers_on, named_fronts};
 
 use crate::table::WatchTable;
-use pairs::NumberSet;
+use pairs::{HashKey, NumberSet};
 use std::alloc::Global;
 use std::collections::BTreeSet;
 use std::marker::Model;
@@ -38,12 +38,12 @@ impl Model for RecursiveTable {
 }
 
 impl RecursiveTable {
-    /// No watch. Allocates nothing.
-    pub fn new(alloc: Global) -> RecursiveTable
+    /// No watch, and this key of the hash. Allocates nothing.
+    pub fn keyed(alloc: Global, key: HashKey) -> RecursiveTable
         ensures { result ≡ set.empty }
     {
         RecursiveTable {
-            table: WatchTable::new(alloc),
+            table: WatchTable::keyed(alloc, key),
             lengths: BTreeSet::new(alloc),
         }
     }

@@ -8,7 +8,7 @@ ghost use Rattle.pairs.specs.Pairs.{listed_pairs};
 ghost use Rattle.watch_manager.specs.Pairs.{watchers_of, without_watches_on, pairs_of_connection, without_connection};
 ghost use Rattle.watch_manager.specs.Inner.Grouped.{keys_in, keys_beyond, connections_in, connections_beyond};
 
-use pairs::{NumberSet, Pairs, TextTable};
+use pairs::{HashKey, NumberSet, Pairs, TextTable};
 use std::alloc::Global;
 use std::collections::btree_map::Iter;
 use std::marker::Model;
@@ -34,12 +34,12 @@ impl Model for WatchTable {
 }
 
 impl WatchTable {
-    /// No watch. Allocates nothing.
-    pub fn new(alloc: Global) -> WatchTable
+    /// No watch, and this key of the hash. Allocates nothing.
+    pub fn keyed(alloc: Global, key: HashKey) -> WatchTable
         ensures { result ≡ set.empty }
     {
         WatchTable {
-            pairs: Pairs::new(alloc),
+            pairs: Pairs::keyed(alloc, key),
         }
     }
 

@@ -4,7 +4,7 @@ use Rattle.std.specs.declared.cmp.Ordering.{Ordering}
 use Rattle.std.specs.Ordering.{nat_cmp}
 use Rattle.std.specs.FinMap as finmap
 use Rattle.std.specs.FinSet as set
-use Rattle.pairs.specs.Pairs.{Bytes, Texts, Numbers, TextPairs, pair_cmp, text_cmp, keys_in, same_text, same_number}
+use Rattle.pairs.specs.Pairs.{Bytes, TextKeys, Numbers, TextPairs, pair_cmp, text_cmp, keys_in, same_text, same_number}
 
 abbrev pub all_pairs : {K V : Type 0} {S : V → V → Ordering} → List (K × set.FinSet S) → List (K × V)
 all_pairs [] = []
@@ -21,7 +21,7 @@ NumberPairs = set.FinSet (pair_cmp nat_cmp text_cmp)
 abbrev pub text_pairs_in : List (Bytes × Numbers) → TextPairs
 text_pairs_in es = pairs_of (finmap.from_entries {R = text_cmp} es)
 
-abbrev pub number_pairs_in : List (ℕ × Texts) → NumberPairs
+abbrev pub number_pairs_in : List (ℕ × TextKeys) → NumberPairs
 number_pairs_in es = pairs_of (finmap.from_entries {R = nat_cmp} es)
 
 -- The keys that one of three has.
@@ -40,7 +40,7 @@ AgreeOn by_text by_number =
     (text : Bytes) (number : ℕ) → set.contains by_text (text, number) ≡ set.contains by_number (number, text)
 
 -- The number was removed from these texts.
-abbrev pub HasLostTexts : ℕ → Texts → TextPairs → TextPairs → Type 0
+abbrev pub HasLostTexts : ℕ → TextKeys → TextPairs → TextPairs → Type 0
 HasLostTexts number texts old new =
     (t : Bytes) (n : ℕ) → set.contains new (t, n)
     ≡ (set.contains old (t, n) && not (same_number n number && set.contains texts t))

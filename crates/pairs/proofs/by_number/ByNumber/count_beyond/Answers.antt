@@ -4,7 +4,7 @@ use Rattle.std.specs.Cmp.{nat_cmp_total}
 use Rattle.std.specs.Ordering.{nat_cmp}
 use Rattle.std.proofs.lemmas.Map.Lookups.{exact_unsigned, exact_bytes}
 use Rattle.std.specs.FinSet as set
-use Rattle.pairs.specs.Pairs.{Texts, keys_beyond}
+use Rattle.pairs.specs.Pairs.{TextKeys, keys_beyond}
 use Rattle.pairs.specs.Inner.Stored.{keys_in_one}
 use Rattle.pairs.proofs.Totals.{text_total}
 use Rattle.pairs.proofs.Keys.{len-beyond, left_count, left-first, left-known, left-new, left-none}
@@ -57,7 +57,7 @@ returns c =
     c.loop-number.invariant.2
     ∙ ap (left_count known c.into_iter-number-iterator.result) c.in-None.ensures.steps.0
     ∙ left-none known c.into_iter-number-iterator.result
-    ∙ ap (λ es. length (filter (λ k. not (set.contains known k)) (map (λ (e : ℕ × Texts). e.0) es)))
+    ∙ ap (λ es. length (filter (λ k. not (set.contains known k)) (map (λ (e : ℕ × TextKeys). e.0) es)))
     (c.into_iter-number-iterator.ensures.into_iter_gives ∙ c.iter-number-items.ensures.rest)
     ∙ sym (len-beyond nat_cmp_total text_total exact_unsigned exact_bytes c.self.inside.map.entries c.self.invariant
     c.args.first.now c.args.second.now c.args.third.now (IsDistinct-from_sorted nat_cmp _ c.iter-number-items.ensures.ordered))

@@ -3,7 +3,7 @@ use Rattle.std.specs.Cmp.{nat_cmp_total}
 use Rattle.std.specs.Ordering.{nat_cmp}
 use Rattle.std.proofs.lemmas.Map.Lookups.{exact_unsigned, exact_bytes}
 use Rattle.std.specs.FinSet as set
-use Rattle.pairs.specs.Pairs.{Texts}
+use Rattle.pairs.specs.Pairs.{TextKeys}
 use Rattle.pairs.specs.Inner.Stored.{number_pairs_in, HaveValues}
 use Rattle.pairs.proofs.Totals.{text_total}
 use Rattle.pairs.proofs.Grouped.{insert_through, insert_first}
@@ -17,7 +17,7 @@ use Rattle.values.proofs.Keyed.{map_of, get-map_of, map_of-insert}
 use Rattle.pairs.proofs.by_number.ByNumber.insert.Goals as goal
 
 -- The set of a connection, written back unchanged.
-unchanged : (m n : BTreeMap ℕ Texts) (k : ℕ) (old new : Texts) → n.entries ≡ set_value (is_at (nat_cmp k)) m.entries new
+unchanged : (m n : BTreeMap ℕ TextKeys) (k : ℕ) (old new : TextKeys) → n.entries ≡ set_value (is_at (nat_cmp k)) m.entries new
     → Some old ≡ tree.get nat_cmp m k → new ≡ old → n.entries ≡ m.entries
 unchanged m n k old new written found is =
     written ∙ set_value_same _ m.entries new (sym found ∙ (λ i. Some (sym is i)))

@@ -1,6 +1,6 @@
 use Rattle.std.proofs.Common.{sym, ap, ◌∙◌}
 use Rattle.std.specs.FinSet as set
-use Rattle.pairs.specs.Pairs.{texts_of, without_number}
+use Rattle.pairs.specs.Pairs.{texts_at, without_number}
 use Rattle.pairs.proofs.Tables.{agree-without_number, numberless, are_dropped, turned_texts, no_turned_text}
 use Rattle.pairs.proofs.TableCounts.{texts-within, texts-less}
 use Rattle.pairs.proofs.pairs_table.Pairs.take_number.Goals as goal
@@ -23,7 +23,7 @@ returns-in-None-clause-rest c =
 
 pub returns-in-None-clause-none : goal.returns-in-None-clause-none
 returns-in-None-clause-none c =
-    ap (λ s. texts_of c.args.number s) (sym c.self.view_is)
+    ap (λ s. texts_at c.args.number s) (sym c.self.view_is)
     ∙ no_turned_text c.self.inside.by_text c.self.inside.by_number c.args.number c.self.invariant.0 c.in-None.ensures.none
 
 pub overflow_sub-self : goal.overflow_sub-self
@@ -48,7 +48,7 @@ pub returns-clause-texts : goal.returns-clause-texts
 returns-clause-texts c =
     turned_texts c.self.inside.by_text c.self.inside.by_number c.args.number c.in-Some.texts c.self.invariant.0
     c.in-Some.ensures.texts
-    ∙ ap (λ s. texts_of c.args.number s) c.self.view_is
+    ∙ ap (λ s. texts_at c.args.number s) c.self.view_is
 
 pub returns-clause-rest : goal.returns-clause-rest
 returns-clause-rest c =
