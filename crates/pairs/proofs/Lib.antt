@@ -24,3 +24,5 @@ pub mod Ascending
 mod Errors
 -- What is found in the maps by text and by number.
 mod Found
+-- Sets of no text and of one.
+mod OneText

@@ -125,12 +125,11 @@ impl ByNumber {
         let text = TextKey::new(alloc, text)?;
         match self.map.get_mut(&number) {
             Some(texts) => {
-                texts.insert(text)?;
+                texts.insert(alloc, key, text)?;
                 Ok(())
             }
             None => {
-                let mut texts = TextTable::keyed(alloc, key);
-                texts.insert(text)?;
+                let texts = TextTable::of(text);
                 self.map.insert(number, texts)?;
                 Ok(())
             }

@@ -141,7 +141,8 @@ impl ByText {
     pub fn remove_all(&mut self, texts: &TextTable, number: u64)
         ensures { HasLostTexts number texts.now self.old self.new }
     {
-        for text in texts.iter() {
+        let all = texts.as_slice();
+        for text in all {
             self.remove(text.as_str(), number);
         }
     }

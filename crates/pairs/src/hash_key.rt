@@ -2,7 +2,7 @@
 
 use std::hash::{BuildHasher, DefaultHasher, Hasher};
 
-/// The key of the hash by which nodes are found. Clients choose paths: where they know the key, they can choose such as
+/// The key of the hash by which paths are found. Clients choose paths: where they know the key, they can choose such as
 /// collide, which makes each look-up slow. So a server draws it at random. It shows in no answer, so no contract speaks
 /// of it. The default is known to everybody.
 #[derive(Clone, Copy, Drop)]

@@ -1,24 +1,30 @@
-//! Sets of texts that are found by their hash.
+//! The texts of one number.
 
-ghost use Rattle.std.specs.Prelude.{◌≡◌, ◌↔◌, ℕ, List, OnOk, OnErr, IfOk, IsTrue, not};
+ghost use Rattle.std.specs.Prelude.{◌≡◌, ◌↔◌, OnOk, OnErr, IfOk, IsTrue, not};
 ghost use Rattle.std.specs.List.{IsDistinct};
-ghost use Rattle.std.specs.Map.Iter.{ShowsInOrder, deref};
 ghost use Rattle.std.specs.Str.{bytes_eq};
 ghost use Rattle.std.specs.FinSet as set;
-ghost use Rattle.pairs.specs.Pairs.{Bytes};
 
 use crate::hash_key::HashKey;
-use crate::text_key::{KeyQuery, TextKey};
-use indexmap::IndexSet;
-use indexmap::set::Iter;
+use crate::hashed_texts::HashedTexts;
+use crate::text_key::TextKey;
 use std::alloc::{AllocError, Global};
+use std::boxed::Box;
 use std::marker::Model;
+use std::slice;
 use values::NoMemory;
 
-/// A set of texts.
+// Many numbers have one text, which lies in the table itself.
 #[derive(Drop)]
+pub(crate) enum TableForm {
+    Empty,
+    One(TextKey),
+    Many(Box<HashedTexts>),
+}
+
+/// A set of texts.
 pub struct TextTable {
-    texts: IndexSet<TextKey, HashKey>,
+    form: TableForm,
 }
 
 impl Model for TextTable {
@@ -30,64 +36,128 @@ impl Model for TextTable {
 
     ghost coded = { set.code (coded_list coded_ℕ) };
 
-    ghost view = { λ s. set.from_list s.texts.keys };
+    ghost use Rattle.pairs.specs.Inner.TableView.{table_texts};
+
+    ghost view = { λ t. table_texts t.form };
+}
+
+// By hand, so that what drops a table calls this, and doesn't branch on its form.
+impl Drop for TextTable {
+    fn drop(self) {
+        let TextTable { form } = self;
+        drop(form);
+    }
 }
 
 impl TextTable {
-    /// No text, and this key of the hash. Allocates nothing.
-    pub fn keyed(alloc: Global, key: HashKey) -> TextTable
-        ensures { result ≡ set.empty }
+    /// One text. Allocates nothing.
+    pub fn of(text: TextKey) -> TextTable
+        ensures { result ≡ set.insert set.empty text }
     {
         TextTable {
-            texts: IndexSet::with_hasher(alloc, key),
+            form: TableForm::One(text),
         }
+    }
+
+    // Two texts, of which the table of hashes has copies.
+    fn with(
+        alloc: Global,
+        key: HashKey,
+        first: &TextKey,
+        second: TextKey,
+    ) -> Result<TextTable, NoMemory>
+        ensures { IfOk result (λ table. table ≡ set.insert (set.insert set.empty first.now) second) }
+    {
+        let mut texts = HashedTexts::keyed(alloc, key);
+        texts.insert(first.clone()?)?;
+        texts.insert(second)?;
+        Ok(TextTable {
+            form: TableForm::Many(Box::new(alloc, texts)?),
+        })
     }
 
     /// The number of texts.
     pub fn len(&self) -> usize
         ensures { result ≡ set.len self.now }
     {
-        self.texts.len()
+        match &self.form {
+            TableForm::Empty => 0,
+            TableForm::One(_) => 1,
+            TableForm::Many(texts) => texts.len(),
+        }
     }
 
     /// Whether there is no text.
     pub fn is_empty(&self) -> bool
         ensures { IsTrue result ↔ (self.now ≡ set.empty) }
     {
-        self.texts.is_empty()
+        match &self.form {
+            TableForm::Empty => true,
+            TableForm::One(_) => false,
+            TableForm::Many(texts) => texts.is_empty(),
+        }
     }
 
     /// Whether the text is in the set.
     pub fn contains(&self, text: &str) -> bool
         ensures { result ≡ set.contains self.now text.now }
     {
-        self.texts.contains(KeyQuery(text))
+        match &self.form {
+            TableForm::Empty => false,
+            TableForm::One(only) => only.as_str() == text,
+            TableForm::Many(texts) => texts.contains(text),
+        }
     }
 
     /// Adds a text and returns whether it is new. A refused allocation changes nothing.
-    pub fn insert(&mut self, text: TextKey) -> Result<bool, NoMemory>
+    pub fn insert(&mut self, alloc: Global, key: HashKey, text: TextKey) -> Result<bool, NoMemory>
         ensures ok { OnOk result (self.new ≡ set.insert self.old text) }
         ensures added { IfOk result (λ added. added ≡ not (set.contains self.old text)) }
         ensures err { OnErr result (self.new ≡ self.old) }
     {
-        Ok(self.texts.insert(text)?)
+        match &mut self.form {
+            TableForm::Empty => *self = TextTable::of(text),
+            TableForm::One(only) => {
+                if only.as_str() == text.as_str() {
+                    return Ok(false);
+                }
+                let table = TextTable::with(alloc, key, only, text)?;
+                *self = table;
+            }
+            TableForm::Many(texts) => return texts.insert(text),
+        }
+        Ok(true)
     }
 
-    /// Removes a text and returns whether it was there.
-    pub fn remove(&mut self, text: &str) -> bool
-        ensures removed { self.new ≡ set.remove self.old text.now }
-        ensures was { result ≡ set.contains self.old text.now }
+    /// Removes a text.
+    pub fn remove(&mut self, text: &str)
+        ensures { self.new ≡ set.remove self.old text.now }
     {
-        self.texts.swap_remove(KeyQuery(text))
+        match &mut self.form {
+            TableForm::Empty => return,
+            TableForm::One(only) => {
+                if only.as_str() == text {
+                    *self = TextTable {
+                        form: TableForm::Empty,
+                    };
+                }
+            }
+            TableForm::Many(texts) => {
+                texts.remove(text);
+            }
+        }
     }
 
     /// The texts, each once, in no order that a caller may rely on.
-    pub fn iter(&self) -> Iter<'_, TextKey>
-        ensures texts { set.from_list result ≡ self.now }
-        ensures once { IsDistinct bytes_eq result }
-        ensures runs { ShowsInOrder (deref {X = Bytes}) }
+    pub fn as_slice(&self) -> &[TextKey]
+        ensures texts { set.from_list result.now ≡ self.now }
+        ensures once { IsDistinct bytes_eq result.now }
     {
-        self.texts.iter()
+        match &self.form {
+            TableForm::Empty => &[],
+            TableForm::One(only) => slice::from_ref(only),
+            TableForm::Many(texts) => texts.as_slice(),
+        }
     }
 }
 
@@ -95,8 +165,14 @@ impl Clone for TextTable {
     ghost is_clone = { λ x y. y ≡ x };
 
     fn clone(&self) -> Result<TextTable, AllocError> {
-        Ok(TextTable {
-            texts: self.texts.clone()?,
-        })
+        match &self.form {
+            TableForm::Empty => Ok(TextTable {
+                form: TableForm::Empty,
+            }),
+            TableForm::One(only) => Ok(TextTable::of(only.clone()?)),
+            TableForm::Many(texts) => Ok(TextTable {
+                form: TableForm::Many(texts.clone()?),
+            }),
+        }
     }
 }

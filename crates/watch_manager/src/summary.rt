@@ -22,7 +22,8 @@ fn add_paths<'a>(
     ensures { OnOk result
         (AddsInOrder rows.old.keys (connection_rows table connection (set.items paths.now)) rows.new.keys) }
 {
-    for path in paths.iter() {
+    let all = paths.as_slice();
+    for path in all {
         let path = Str::new(path.as_str());
         rows.insert(Watched {
             path,

@@ -44,14 +44,14 @@ invariant_of-self-in-Some c =
 pub invariant_of-self-in-None : goal.invariant_of-self-in-None
 invariant_of-self-in-None c =
     let m = c.get_mut.follows.lender-at-none in
-    let is = c.in_ok-insert-in-None.ensures.ok ∙ ap (λ p. set.insert c.keyed-texts.result p) c.in_ok-text.ensures in
+    let new = c.of-texts.result in
+    let is = c.of-texts.ensures ∙ ap (λ t. set.insert set.empty t) c.in_ok-text.ensures in
     subst (λ m. HaveValues m)
-    (sym (map_of-insert nat_cmp_total exact_unsigned c.args.number m c.insert-in-None-2.new.self c.insert-in-None.new.self
-    c.in_ok-insert-in-None-2.ensures.updates))
-    (have-insert nat_cmp_total text_total exact_unsigned exact_bytes (map_of nat_cmp m.entries) c.args.number
-    c.insert-in-None.new.self
+    (sym (map_of-insert nat_cmp_total exact_unsigned c.args.number m c.insert-in-None.new.self new
+    c.in_ok-insert-in-None.ensures.updates))
+    (have-insert nat_cmp_total text_total exact_unsigned exact_bytes (map_of nat_cmp m.entries) c.args.number new
     (subst (λ x. HaveValues (map_of nat_cmp x.entries)) (sym c.get_mut.follows.holds-at-none) c.self.invariant)
-    (λ e. with-value text_total c.keyed-texts.result c.args.text.now (sym is ∙ e)))
+    (λ e. with-value text_total set.empty c.args.text.now (sym is ∙ e)))
 
 pub returns-in_err-insert-in-Some-clause-err : goal.returns-in_err-insert-in-Some-clause-err
 returns-in_err-insert-in-Some-clause-err c =
@@ -73,16 +73,18 @@ returns-in_ok-insert-in-Some-clause-ok c =
     (c.in_ok-insert-in-Some.ensures.ok ∙ ap (λ p. set.insert c.in-Some.texts.now p) c.in_ok-text.ensures)
     ∙ ap (λ s. set.insert s (c.args.number, c.args.text.now)) c.self.view_is
 
-pub returns-in_ok-insert-in-None-2-clause-ok : goal.returns-in_ok-insert-in-None-2-clause-ok
-returns-in_ok-insert-in-None-2-clause-ok c =
+pub returns-in_ok-insert-in-None-clause-ok : goal.returns-in_ok-insert-in-None-clause-ok
+returns-in_ok-insert-in-None-clause-ok c =
     let m = c.get_mut.follows.lender-at-none in
-    let n = c.insert-in-None-2.new.self in
+    let n = c.insert-in-None.new.self in
+    let new = c.of-texts.result in
     insert_first nat_cmp_total text_total exact_unsigned exact_bytes (map_of nat_cmp m.entries) (map_of nat_cmp n.entries) c.args.number
-    c.args.text.now c.keyed-texts.result c.insert-in-None.new.self
-    (map_of-insert nat_cmp_total exact_unsigned c.args.number m n c.insert-in-None.new.self c.in_ok-insert-in-None-2.ensures.updates)
+    c.args.text.now set.empty new
+    (map_of-insert nat_cmp_total exact_unsigned c.args.number m c.insert-in-None.new.self new
+    c.in_ok-insert-in-None.ensures.updates)
     (get-map_of nat_cmp_total exact_unsigned m c.args.number ∙ ap (λ x. tree.get nat_cmp x c.args.number) c.get_mut.follows.holds-at-none
     ∙ sym c.in-None.ensures.value)
-    c.keyed-texts.ensures
-    (c.in_ok-insert-in-None.ensures.ok ∙ ap (λ p. set.insert c.keyed-texts.result p) c.in_ok-text.ensures)
+    refl
+    (c.of-texts.ensures ∙ ap (λ t. set.insert set.empty t) c.in_ok-text.ensures)
     ∙ ap (λ x. set.insert (number_pairs_in x.entries) (c.args.number, c.args.text.now)) c.get_mut.follows.holds-at-none
     ∙ ap (λ s. set.insert s (c.args.number, c.args.text.now)) c.self.view_is

@@ -37,7 +37,7 @@ returns-then-not-is_empty c =
     (map_of-insert nat_cmp_total exact_unsigned c.args.number c.self.inside.map n c.remove.new.self
     ((c.get_mut.follows.holds c.remove.new.self).3 (subst IsSome c.in-Some.ensures.value refl)))
     (get-map_of nat_cmp_total exact_unsigned c.self.inside.map c.args.number ∙ sym c.in-Some.ensures.value)
-    c.remove.ensures.removed
+    c.remove.ensures
     ∙ ap (λ s. set.remove s (c.args.number, c.args.text.now)) c.self.view_is
 
 pub invariant_of-self-2 : goal.invariant_of-self-2
@@ -58,7 +58,7 @@ returns c =
     (map_of-insert nat_cmp_total exact_unsigned c.args.number c.self.inside.map n c.remove.new.self
     ((c.get_mut.follows.holds c.remove.new.self).3 (subst IsSome c.in-Some.ensures.value refl)))
     (get-map_of nat_cmp_total exact_unsigned c.self.inside.map c.args.number ∙ sym c.in-Some.ensures.value)
-    c.remove.ensures.removed
+    c.remove.ensures
     (c.is_empty.ensures.0 c.if-not-is_empty.false)
     (map_of-remove nat_cmp_total exact_unsigned c.args.number n c.remove-2.new.self c.remove-2.ensures.updates)
     ∙ ap (λ s. set.remove s (c.args.number, c.args.text.now)) c.self.view_is

@@ -1,4 +1,5 @@
-use Rattle.std.proofs.Common.{sym, ap, ◌∙◌}
+use Rattle.std.proofs.Common.{ap, sym, ◌∙◌}
+use Rattle.std.proofs.lemmas.List.{drop_all}
 use Rattle.std.specs.FinSet as set
 use Rattle.pairs.specs.Pairs.{text_cmp}
 use Rattle.pairs.proofs.Totals.{text_total}
@@ -7,9 +8,10 @@ use Rattle.pairs.proofs.by_text.ByText.remove_all.Goals as goal
 
 pub returns : goal.returns
 returns c =
-    lost-texts c.args.number c.into_iter-text-iterator.result c.args.texts.now c.args.self.now c.loop-text.self
-    (ap (λ ts. without_texts c.args.number ts c.loop-text.self) (sym c.in-None.ensures.steps.0)
-    ∙ c.loop-text.invariant.2)
-    (λ q. sym (set.contains-from_list text_total c.into_iter-text-iterator.result q)
-    ∙ ap (λ ts. set.contains (set.from_list {R = text_cmp} ts) q) c.into_iter-text-iterator.ensures.into_iter_gives
-    ∙ ap (λ s. set.contains s q) c.iter-text-items.ensures.texts)
+    let all = c.as_slice-all.result.now in
+    lost-texts c.args.number all c.args.texts.now c.args.self.now c.loop-text.self
+    (ap (λ ts. without_texts c.args.number ts c.loop-text.self)
+    (sym (drop_all c.loop-text.text-index all c.loop-text-test.false))
+    ∙ c.loop-text.invariant)
+    (λ q. sym (set.contains-from_list text_total all q)
+    ∙ ap (λ s. set.contains s q) c.as_slice-all.ensures.texts)

@@ -1,10 +1,20 @@
-use Rattle.std.proofs.Common.{sym, ap, ◌∙◌}
+use Rattle.std.proofs.Common.{◌≡◌, [], ◌∷◌, true, false, not, sym, ap, subst, ◌∙◌}
+use mathlib.Core.Bool.{true≢false}
+use Rattle.std.specs.List.{IsDistinct}
+use Rattle.std.specs.Str.{bytes_eq}
 use Rattle.std.specs.FinSet as set
-use Rattle.pairs.proofs.Hashed.{contains-hashed}
+use Rattle.pairs.specs.Pairs.{Bytes, TextKeys, text_cmp}
+use Rattle.pairs.specs.Inner.TableView.{table_texts}
+use Rattle.pairs.proofs.OneText.{only_text, text-member, text-len, text-full, remove-only_text, remove-other_text, remove-no_text, insert-only_text, distinct-none, distinct-one}
 use Rattle.pairs.proofs.text_table.TextTable.contains.Goals as goal
 
-pub returns : goal.returns
-returns c =
-    c.contains.ensures
-    ∙ sym (contains-hashed c.self.inside.texts.keys c.args.text.now)
-    ∙ ap (λ s. set.contains s c.args.text.now) c.self.view_is
+pub returns-in-Empty : goal.returns-in-Empty
+returns-in-Empty c =
+    sym (ap (λ s. set.contains s c.args.text.now) (sym c.self.view_is ∙ ap table_texts c.in-Empty.is) ∙ set.contains-empty text_cmp c.args.text.now)
+
+pub returns-in-One : goal.returns-in-One
+returns-in-One c =
+    c.eq.ensures
+    ∙ ap (λ t. bytes_eq t c.args.text.now) c.as_str.ensures
+    ∙ text-member c.in-One.only c.args.text.now
+    ∙ sym (ap (λ s. set.contains s c.args.text.now) (sym c.self.view_is ∙ ap table_texts c.in-One.is))

@@ -1,15 +1,31 @@
-use Rattle.std.proofs.Common.{not, sym, ap, ◌∙◌}
+use Rattle.std.proofs.Common.{◌≡◌, [], ◌∷◌, true, false, not, sym, ap, subst, ◌∙◌}
+use mathlib.Core.Bool.{true≢false}
+use Rattle.std.specs.List.{IsDistinct}
+use Rattle.std.specs.Str.{bytes_eq}
 use Rattle.std.specs.FinSet as set
-use Rattle.pairs.proofs.Hashed.{contains-hashed, set_of-insert}
+use Rattle.pairs.specs.Pairs.{Bytes, TextKeys, text_cmp}
+use Rattle.pairs.specs.Inner.TableView.{table_texts}
+use Rattle.pairs.proofs.OneText.{only_text, text-member, text-len, text-full, remove-only_text, remove-other_text, remove-no_text, insert-only_text, distinct-none, distinct-one}
 use Rattle.pairs.proofs.text_table.TextTable.insert.Goals as goal
 
-pub returns-clause-ok : goal.returns-clause-ok
-returns-clause-ok c =
-    set_of-insert c.args.text c.self.inside.texts c.insert.new.self c.in_ok-insert.ensures.updates
-    ∙ ap (λ s. set.insert s c.args.text) c.self.view_is
+pub returns-then-eq-clause-ok : goal.returns-then-eq-clause-ok
+returns-then-eq-clause-ok c =
+    insert-only_text c.in-One.only c.args.text (sym (c.eq.ensures ∙ (λ i. bytes_eq (c.as_str.ensures i) (c.as_str-in-One.ensures i))) ∙ c.if-eq.true)
+    ∙ ap (λ s. set.insert s c.args.text) (sym (sym c.self.view_is ∙ ap table_texts c.in-One.is))
 
-pub returns-clause-added : goal.returns-clause-added
-returns-clause-added c =
-    c.in_ok-insert.ensures.added
-    ∙ ap not (sym (contains-hashed c.self.inside.texts.keys c.args.text)
-    ∙ ap (λ s. set.contains s c.args.text) c.self.view_is)
+pub returns-then-eq-clause-added : goal.returns-then-eq-clause-added
+returns-then-eq-clause-added c =
+    sym (ap (λ s. not (set.contains s c.args.text)) (sym c.self.view_is ∙ ap table_texts c.in-One.is)
+    ∙ ap not (sym (text-member c.in-One.only c.args.text)
+    ∙ (sym (c.eq.ensures ∙ (λ i. bytes_eq (c.as_str.ensures i) (c.as_str-in-One.ensures i))) ∙ c.if-eq.true)))
+
+pub returns-in-Empty-clause-added : goal.returns-in-Empty-clause-added
+returns-in-Empty-clause-added c =
+    sym (ap (λ s. not (set.contains s c.args.text)) (sym c.self.view_is ∙ ap table_texts c.in-Empty.is)
+    ∙ ap not (set.contains-empty text_cmp c.args.text))
+
+pub returns-in_ok-table-in-One-clause-added : goal.returns-in_ok-table-in-One-clause-added
+returns-in_ok-table-in-One-clause-added c =
+    sym (ap (λ s. not (set.contains s c.args.text)) (sym c.self.view_is ∙ ap table_texts c.in-One.is)
+    ∙ ap not (sym (text-member c.in-One.only c.args.text)
+    ∙ (sym (c.eq.ensures ∙ (λ i. bytes_eq (c.as_str.ensures i) (c.as_str-in-One.ensures i))) ∙ c.if-eq.false)))

@@ -1,11 +1,15 @@
-use Rattle.std.proofs.Common.{sym, ◌∙◌}
-use Rattle.std.proofs.lemmas.Map.Lookups.{exact_bytes}
-use Rattle.pairs.proofs.Totals.{text_total}
-use Rattle.values.proofs.Keyed.{set_of-empty}
+use Rattle.std.proofs.Common.{◌≡◌, [], ◌∷◌, true, false, not, sym, ap, subst, ◌∙◌}
+use mathlib.Core.Bool.{true≢false}
+use Rattle.std.specs.List.{IsDistinct}
+use Rattle.std.specs.Str.{bytes_eq}
+use Rattle.std.specs.FinSet as set
+use Rattle.pairs.specs.Pairs.{Bytes, TextKeys, text_cmp}
+use Rattle.pairs.specs.Inner.TableView.{table_texts}
+use Rattle.pairs.proofs.OneText.{only_text, text-member, text-len, text-full, remove-only_text, remove-other_text, remove-no_text, insert-only_text, distinct-none, distinct-one}
 use Rattle.pairs.proofs.text_table.TextTable.is_empty.Goals as goal
 
-pub returns : goal.returns
-returns c = (
-  λ h. sym c.self.view_is ∙ (set_of-empty text_total exact_bytes c.self.inside.texts.keys).0 (c.is_empty.ensures.0 h),
-  λ e. c.is_empty.ensures.1 ((set_of-empty text_total exact_bytes c.self.inside.texts.keys).1 (c.self.view_is ∙ e)),
+pub returns-in-One : goal.returns-in-One
+returns-in-One c = (
+  λ h. absurd (true≢false (sym h)),
+  λ e. absurd (text-full c.in-One.field-0 (sym (sym c.self.view_is ∙ ap table_texts c.in-One.is) ∙ e)),
 )

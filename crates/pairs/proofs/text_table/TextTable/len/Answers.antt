@@ -1,10 +1,15 @@
-use Rattle.std.proofs.Common.{sym, ap, ◌∙◌}
+use Rattle.std.proofs.Common.{◌≡◌, [], ◌∷◌, true, false, not, sym, ap, subst, ◌∙◌}
+use mathlib.Core.Bool.{true≢false}
+use Rattle.std.specs.List.{IsDistinct}
+use Rattle.std.specs.Str.{bytes_eq}
 use Rattle.std.specs.FinSet as set
-use Rattle.pairs.proofs.Hashed.{len-hashed}
+use Rattle.pairs.specs.Pairs.{Bytes, TextKeys, text_cmp}
+use Rattle.pairs.specs.Inner.TableView.{table_texts}
+use Rattle.pairs.proofs.OneText.{only_text, text-member, text-len, text-full, remove-only_text, remove-other_text, remove-no_text, insert-only_text, distinct-none, distinct-one}
 use Rattle.pairs.proofs.text_table.TextTable.len.Goals as goal
 
-pub returns : goal.returns
-returns c =
-    c.len.ensures.len
-    ∙ sym (len-hashed c.self.inside.texts.keys c.len.ensures.unique)
-    ∙ ap set.len c.self.view_is
+pub returns-in-Empty : goal.returns-in-Empty
+returns-in-Empty c = sym (ap set.len (sym c.self.view_is ∙ ap table_texts c.in-Empty.is) ∙ set.len-empty text_cmp)
+
+pub returns-in-One : goal.returns-in-One
+returns-in-One c = text-len c.in-One.field-0 ∙ sym (ap set.len (sym c.self.view_is ∙ ap table_texts c.in-One.is))

@@ -1,15 +1,23 @@
-use Rattle.std.proofs.Common.{sym, ap, ◌∙◌}
+use Rattle.std.proofs.Common.{◌≡◌, [], ◌∷◌, true, false, not, sym, ap, subst, ◌∙◌}
+use mathlib.Core.Bool.{true≢false}
+use Rattle.std.specs.List.{IsDistinct}
+use Rattle.std.specs.Str.{bytes_eq}
 use Rattle.std.specs.FinSet as set
-use Rattle.pairs.proofs.Hashed.{contains-hashed, set_of-remove}
+use Rattle.pairs.specs.Pairs.{Bytes, TextKeys, text_cmp}
+use Rattle.pairs.specs.Inner.TableView.{table_texts}
+use Rattle.pairs.proofs.OneText.{only_text, text-member, text-len, text-full, remove-only_text, remove-other_text, remove-no_text, insert-only_text, distinct-none, distinct-one}
 use Rattle.pairs.proofs.text_table.TextTable.remove.Goals as goal
 
-pub returns-clause-removed : goal.returns-clause-removed
-returns-clause-removed c =
-    set_of-remove c.args.text.now c.self.inside.texts c.swap_remove.new.self c.swap_remove.ensures.updates
-    ∙ ap (λ s. set.remove s c.args.text.now) c.self.view_is
+pub returns-in-Empty : goal.returns-in-Empty
+returns-in-Empty c =
+    ap table_texts c.in-Empty.is ∙ remove-no_text c.args.text.now ∙ ap (λ s. set.remove s c.args.text.now) (sym (sym c.self.view_is ∙ ap table_texts c.in-Empty.is))
 
-pub returns-clause-was : goal.returns-clause-was
-returns-clause-was c =
-    c.swap_remove.ensures.found
-    ∙ sym (contains-hashed c.self.inside.texts.keys c.args.text.now)
-    ∙ ap (λ s. set.contains s c.args.text.now) c.self.view_is
+pub returns-then-eq : goal.returns-then-eq
+returns-then-eq c =
+    remove-only_text c.in-One.only c.args.text.now (sym (c.eq.ensures ∙ ap (λ t. bytes_eq t c.args.text.now) c.as_str.ensures) ∙ c.if-eq.true)
+    ∙ ap (λ s. set.remove s c.args.text.now) (sym (sym c.self.view_is ∙ ap table_texts c.in-One.is))
+
+pub returns-else-eq : goal.returns-else-eq
+returns-else-eq c =
+    remove-other_text c.in-One.only c.args.text.now (sym (c.eq.ensures ∙ ap (λ t. bytes_eq t c.args.text.now) c.as_str.ensures) ∙ c.if-eq.false)
+    ∙ ap (λ s. set.remove s c.args.text.now) (sym (sym c.self.view_is ∙ ap table_texts c.in-One.is))
