@@ -1,7 +1,6 @@
 use Rattle.std.proofs.Common.{ap, sym, ◌∙◌}
 use Rattle.std.proofs.lemmas.List.{drop_all}
 use Rattle.std.specs.FinSet as set
-use Rattle.pairs.specs.Pairs.{text_cmp}
 use Rattle.pairs.proofs.Totals.{text_total}
 use Rattle.pairs.proofs.Tables.{without_texts, lost-texts}
 use Rattle.pairs.proofs.by_text.ByText.remove_all.Goals as goal

@@ -1,11 +1,9 @@
-use Rattle.std.proofs.Common.{◌≡◌, [], ◌∷◌, true, false, not, sym, ap, subst, ◌∙◌}
-use mathlib.Core.Bool.{true≢false}
-use Rattle.std.specs.List.{IsDistinct}
+use Rattle.std.proofs.Common.{not, sym, ap, ◌∙◌}
 use Rattle.std.specs.Str.{bytes_eq}
 use Rattle.std.specs.FinSet as set
-use Rattle.pairs.specs.Pairs.{Bytes, TextKeys, text_cmp}
+use Rattle.pairs.specs.Pairs.{text_cmp}
 use Rattle.pairs.specs.Inner.TableView.{table_texts}
-use Rattle.pairs.proofs.OneText.{only_text, text-member, text-len, text-full, remove-only_text, remove-other_text, remove-no_text, insert-only_text, distinct-none, distinct-one}
+use Rattle.pairs.proofs.OneText.{text-member, insert-only_text}
 use Rattle.pairs.proofs.text_table.TextTable.insert.Goals as goal
 
 pub returns-then-eq-clause-ok : goal.returns-then-eq-clause-ok

@@ -1,11 +1,8 @@
-use Rattle.std.proofs.Common.{◌≡◌, [], ◌∷◌, true, false, not, sym, ap, subst, ◌∙◌}
-use mathlib.Core.Bool.{true≢false}
-use Rattle.std.specs.List.{IsDistinct}
+use Rattle.std.proofs.Common.{sym, ap, ◌∙◌}
 use Rattle.std.specs.Str.{bytes_eq}
 use Rattle.std.specs.FinSet as set
-use Rattle.pairs.specs.Pairs.{Bytes, TextKeys, text_cmp}
 use Rattle.pairs.specs.Inner.TableView.{table_texts}
-use Rattle.pairs.proofs.OneText.{only_text, text-member, text-len, text-full, remove-only_text, remove-other_text, remove-no_text, insert-only_text, distinct-none, distinct-one}
+use Rattle.pairs.proofs.OneText.{remove-only_text, remove-other_text, remove-no_text}
 use Rattle.pairs.proofs.text_table.TextTable.remove.Goals as goal
 
 pub returns-in-Empty : goal.returns-in-Empty
