@@ -46,8 +46,9 @@ HERE = pathlib.Path(__file__).resolve().parent
 PARENTS, CHILDREN, SETS, CONTENT, LONG_CONTENT = 100, 1000, 1_000_000, 16, 100
 CLIENTS, DEPTH = 8, 100
 WATCHES, ASKED, GET_DATA = 10_000, 100, 4
-# What is asked changes from window to window. A window has so many seconds; how many fours of them make a round.
-WINDOW, FOURS = 0.25, 20
+# What is asked changes from window to window. A window has so many seconds; how many fours of them make a round, which
+# has to end before the server gives up the leader, who says nothing meanwhile.
+WINDOW, FOURS = 0.25, 15
 # A reply's header, a length, the data and a Stat.
 ANSWER = 16 + 4 + LONG_CONTENT + 68
 # About as many bytes as mntr is answered with.
@@ -370,37 +371,43 @@ class Asking:
             due += self.pause
 
 
-def words(server, tools, options, figures):
-    """Reads with many watches set, while mntr is asked and while the echo is asked as often, so that what asking takes
-    of the same processors is in both. The clients go on all the time; what is asked changes four times a second, and
-    each four of these windows gives a ratio, of which the middle one is judged. Besides, the processor's time that the
-    server takes for an mntr while nothing else is asked, the kernel's for it included, against that for getDatas."""
-    fours = options.rounds * FOURS
-    with Watcher(server.port, WATCHES), Kept(tools.echo, WORDS_ANSWER) as echo:
-        before = server.processor()
-        for _ in range(ALONE):
-            ask_mntr(server.port)
-        one = (server.processor() - before) / ALONE
-        asked = {"the echo": (ask_echo, int(echo.said[1])), "mntr": (ask_mntr, server.port)}
-        numbers = (server.port, CLIENTS, DEPTH, WINDOW, 4 * fours, PARENTS, options.children)
-        with Kept(tools.load, "windows", *numbers) as load:
-            before = server.processor()
-            with Asking(asked, float(load.said[0].partition("=")[2]), ASKED) as asking:
-                counts = [int(line) for line in load.ran.stdout]
-            used = server.processor() - before - asking.count["mntr"] * one
-    seconds = 4 * fours * WINDOW
-    figures.add(f"of what getDatas take of the processor, {ASKED} mntr a second take", ASKED * one / (used / seconds))
-    figures.add("microseconds of the processor for an mntr", 1e6 * one)
-    for first in range(0, 4 * fours, 4):
+def compare_windows(figures, asked, counts):
+    """Adds the rates of each four windows, and their ratio."""
+    for first in range(0, len(counts), 4):
         came = dict.fromkeys(asked, 0)
         for window in range(first, first + 4):
             came[asked_in(window)] += counts[window]
         for name in asked:
             figures.add(f"getDatas a second, beside {name}", came[name] / (2 * WINDOW))
         figures.add("getDatas beside mntr against beside the echo", came["mntr"] / came["the echo"])
+
+
+def words(server, tools, options, figures):
+    """Reads with many watches set, while mntr is asked and while the echo is asked as often, so that what asking takes
+    of the same processors is in both. The clients go on all through a round; what is asked changes four times a second,
+    and each four of these windows gives a ratio, of which the middle one is judged. Besides, the processor's time that the
+    server takes for an mntr while nothing else is asked, the kernel's for it included, against that for getDatas."""
+    seconds = 4 * FOURS * WINDOW
+    with Watcher(server.port, WATCHES), Kept(tools.echo, WORDS_ANSWER) as echo:
+        before = server.processor()
+        for _ in range(ALONE):
+            ask_mntr(server.port)
+        one = (server.processor() - before) / ALONE
+        figures.add("microseconds of the processor for an mntr", 1e6 * one)
+        asked = {"the echo": (ask_echo, int(echo.said[1])), "mntr": (ask_mntr, server.port)}
+        numbers = (server.port, CLIENTS, DEPTH, WINDOW, 4 * FOURS, PARENTS, options.children)
+        for _ in range(options.rounds):
+            with Kept(tools.load, "windows", *numbers) as load:
+                before = server.processor()
+                with Asking(asked, float(load.said[0].partition("=")[2]), ASKED) as asking:
+                    counts = [int(line) for line in load.ran.stdout]
+                used = (server.processor() - before - asking.count["mntr"] * one) / seconds
+            figures.add(f"of what getDatas take of the processor, {ASKED} mntr a second take", ASKED * one / used)
+            for name in asked:
+                figures.add(f"{name} a second", asking.count[name] / (seconds / 2))
+            compare_windows(figures, asked, counts)
     print(f"{CLIENTS} clients with {DEPTH} getDatas under way each, {WATCHES:,} watches, {ASKED} questions a second")
     for name in asked:
-        figures.add(f"{name} a second", asking.count[name] / (seconds / 2))
         figures.tell(f"{name} a second", "{:,.0f}")
         figures.tell(f"getDatas a second, beside {name}", "{:,.0f}")
     figures.judge_middle("getDatas beside mntr against beside the echo", least=0.98)
