@@ -18,12 +18,11 @@
 #![tactic(auto)]
 
 mod added_child;
-mod hash_key;
 mod moving;
 mod node;
 mod node_map;
 
 pub use added_child::AddedChild;
-pub use hash_key::HashKey;
 pub use node::Node;
 pub use node_map::NodeMap;
+pub use pairs::HashKey;

@@ -17,12 +17,12 @@ ghost use Rattle.node_map.specs.Children.{with_added_child, added_child, without
 ghost use Rattle.node_map.specs.Agreement.{has_node, has_parent, AreLinked, AreNamed, AreChildNames, AreOwned, is_child_name, is_listed_at};
 
 use crate::added_child::AddedChild;
-use crate::hash_key::HashKey;
 use crate::node::{Node, stat_after_delete};
 use ephemerals::{Ephemerals, TextSet};
 use indexmap::IndexMap;
 use indexmap::map::Iter;
 use jute::StatPersisted;
+use pairs::HashKey;
 use paths_and_acls::{AclList, child_of, is_path, name_of, parent_of};
 use std::alloc::{AllocError, Global};
 use std::marker::Model;

@@ -116,7 +116,7 @@ impl Engine {
     {
         let settings = &config.settings;
         let replica = Replica::new(alloc, config.hash_key, settings.dialect, settings.epochs)?;
-        let clients = Clients::new(alloc, settings)?;
+        let clients = Clients::new(alloc, config.hash_key, settings)?;
         Ok(Engine::started(alloc, config, replica, None, clients))
     }
 
@@ -128,7 +128,7 @@ impl Engine {
         ensures { IfOk result (λ e. e ≡ Some (primed_machine config.settings)) }
     {
         let settings = &config.settings;
-        let mut clients = Clients::new(alloc, settings)?;
+        let mut clients = Clients::new(alloc, config.hash_key, settings)?;
         let session = open_first(alloc, settings, &mut clients)?;
         let time_out = settings.timeouts.greatest();
         let replica = Replica::primed(alloc, config.hash_key, settings.dialect, session, time_out)?;

@@ -10,7 +10,9 @@ use Rattle.ephemerals.proofs.Totals.{path_total}
 use Rattle.watch_manager.specs.Pairs.{WatchPairs, watchers_of, without_watches_on, same_path}
 use Rattle.watch_manager.specs.Inner.Telling.{watches_elsewhere}
 use Rattle.watch_manager.proofs.Totals.{watch_total, watch_exact}
-use Rattle.watch_manager.proofs.Watchers.{contains-watchers, contains-without_path}
+use Rattle.watch_manager.specs.Inner.Grouped.{keys_in}
+use Rattle.pairs.proofs.NumbersOf.{unlisted}
+use Rattle.watch_manager.proofs.Watchers.{contains-watchers, contains-without_path, unwatched}
 
 contains-but_on : (used : Names) (pairs : WatchPairs) (q : Bytes × ℕ)
     → set.contains (watches_elsewhere used pairs) q ≡ (set.contains pairs q && not (set.contains used q.0))
@@ -64,3 +66,13 @@ but_on-insert used pairs path = set.same_set watch_total watch_exact _ _ (λ q.
     by true false true = refl
     by true false false = refl
     by false b c = refl
+
+-- A path that nobody watched has no watch to use up.
+pub unwatched_left : (used : Names) (pairs : WatchPairs) (path : Bytes)
+    → set.contains (keys_in path_cmp pairs) path ≡ false
+    → watches_elsewhere used pairs ≡ without_watches_on path (watches_elsewhere used pairs)
+unwatched_left used pairs path none = unwatched path (watches_elsewhere used pairs) (set.same_set nat_cmp_total exact_unsigned _ _ (λ c.
+    contains-watchers_left used pairs path c
+    ∙ ap (λ s. set.contains s c && not (set.contains used path)) (unlisted path pairs none)
+    ∙ ap (λ b. b && not (set.contains used path)) (set.contains-empty nat_cmp c)
+    ∙ sym (set.contains-empty nat_cmp c)))

@@ -1,17 +1,9 @@
 -- The order of watches is total, and ties only equal watches. Public.
 pub mod Totals
--- The number of elements of a set.
+-- The number of elements of a union.
 mod SetCounts
--- The keys of pairs that are stored as a set for each key.
-mod Keys
 -- The watchers of a path, and a table without a path or a connection. Public.
 pub mod Watchers
--- The watchers of a path, found in the map by path.
-mod Found
--- A table by path and by connection.
-mod Tables
--- The counts of a table.
-mod TableCounts
 -- The counts of all tables.
 mod AllCounts
 -- A table without the watches on some paths.

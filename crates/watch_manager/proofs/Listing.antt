@@ -1,24 +1,22 @@
 -- The watches of a table, listed.
-use Rattle.std.proofs.Common.{◌≡◌, ℕ, List, [], ◌∷◌, ◌++◌, Bool, true, false, cond, T, ◌||◌, ◌&&◌, map, refl, sym, ap, subst, ◌∙◌}
+use Rattle.std.proofs.Common.{◌≡◌, ℕ, List, [], ◌∷◌, ◌++◌, Bool, true, false, cond, T, ◌||◌, ◌&&◌, map, refl, sym, ap, subst, ◌∙◌, append-nil, append_assoc}
 use Rattle.std.specs.Prelude.{◌==◌}
 use Rattle.std.specs.declared.cmp.Ordering.{Ordering}
 use Rattle.std.specs.declared.cmp.Ordering.TheVariants.{Less, Equal, Greater}
-use Rattle.std.specs.BTreeSet.{insert_key}
 use Rattle.std.specs.FinSet as set
 use Rattle.std.specs.List.{list_any}
 use Rattle.std.specs.Ordering.{eq_by_cmp, is_eq, nat_cmp, ordering_then}
-use Rattle.std.specs.Cmp.{nat_cmp_total}
 use Rattle.std.proofs.lemmas.List.Folds.{list_any-append}
 use Rattle.std.proofs.lemmas.Map.Lookups.{CmpEqualImpliesEq, exact_unsigned}
-use Rattle.ephemerals.specs.Orders.{Bytes, path_cmp}
-use Rattle.ephemerals.specs.Grouped.{all_pairs}
-use Rattle.ephemerals.proofs.Ascending.{any-ascending}
-use Rattle.ephemerals.proofs.Ties.{tied_then}
-use Rattle.watch_manager.specs.Pairs.{ConnectionSet, WatchPairs, watch_cmp, sorted_connections}
+use Rattle.ephemerals.specs.Orders.{Bytes, Names, path_cmp}
+use Rattle.ephemerals.proofs.Totals.{path_total}
+use Rattle.pairs.specs.Pairs.{listed_pairs}
+use Rattle.pairs.proofs.Ties.{tied_then}
+use Rattle.watch_manager.specs.Pairs.{WatchPairs, watch_cmp}
 use Rattle.watch_manager.specs.Summary.{table_rank, watched_cmp, watched_in}
-use Rattle.watch_manager.specs.Ascending.{with_inserted_keys}
+use Rattle.watch_manager.specs.Ascending.{sorted_distinct, with_inserted_keys}
 use Rattle.watch_manager.specs.Totals.{watched_total}
-use Rattle.watch_manager.specs.Inner.Listing.{path_rows, rows_of, AddsInOrder}
+use Rattle.watch_manager.specs.Inner.Listing.{connection_rows, AddsInOrder}
 use Rattle.watch_manager.specs.declared.watched.Table.{Table}
 use Rattle.watch_manager.specs.declared.watched.Table.TheVariants.{Own, Child, Lasting}
 use Rattle.watch_manager.specs.declared.watched.Watched.{Watched}
@@ -90,110 +88,108 @@ any-watched_in table (p ∷ ps) q =
     ∙ and_or (eq_by_cmp watch_cmp (q.path, q.connection) p) (list_any (eq_by_cmp watch_cmp (q.path, q.connection)) ps)
     (same_table q table)
 
-at_path : (path : Bytes) (conns : List ℕ) (q : Bytes × ℕ)
-    → list_any (eq_by_cmp watch_cmp q) (map (λ (c : ℕ). (path, c)) conns)
-    ≡ (list_any (eq_by_cmp nat_cmp q.1) conns && eq_by_cmp path_cmp q.0 path)
-at_path path [] q = refl
-at_path path (c ∷ cs) q =
-    (λ i. (tied_then (path_cmp q.0 path) (nat_cmp q.1 c)
-    ∙ and_comm (eq_by_cmp path_cmp q.0 path) (eq_by_cmp nat_cmp q.1 c)) i
-    || at_path path cs q i)
-    ∙ and_or (eq_by_cmp nat_cmp q.1 c) (list_any (eq_by_cmp nat_cmp q.1) cs) (eq_by_cmp path_cmp q.0 path)
-  where
-    and_comm : (a b : Bool) → (a && b) ≡ (b && a)
-    and_comm true true = refl
-    and_comm true false = refl
-    and_comm false true = refl
-    and_comm false false = refl
+-- The paths of a connection, as they are listed.
+of_connection : (connection : ℕ) (paths : List Bytes) (q : Bytes × ℕ)
+    → list_any (eq_by_cmp watch_cmp q) (map (λ (path : Bytes). (path, connection)) paths)
+    ≡ (list_any (eq_by_cmp path_cmp q.0) paths && eq_by_cmp nat_cmp q.1 connection)
+of_connection connection [] q = refl
+of_connection connection (p ∷ ps) q =
+    (λ i. tied_then (path_cmp q.0 p) (nat_cmp q.1 connection) i || of_connection connection ps q i)
+    ∙ and_or (eq_by_cmp path_cmp q.0 p) (list_any (eq_by_cmp path_cmp q.0) ps) (eq_by_cmp nat_cmp q.1 connection)
 
--- The connections of a set, sorted or not.
-any-in_number : (path : Bytes) (conns : ConnectionSet) (q : Bytes × ℕ)
-    → list_any (eq_by_cmp watch_cmp q) (map (λ (c : ℕ). (path, c)) (sorted_connections conns))
-    ≡ list_any (eq_by_cmp watch_cmp q) (map (λ (c : ℕ). (path, c)) (set.items conns))
-any-in_number path conns q =
-    at_path path (sorted_connections conns) q
-    ∙ ap (λ b. b && eq_by_cmp path_cmp q.0 path) (any-ascending nat_cmp_total (set.items conns) q.1)
-    ∙ sym (at_path path (set.items conns) q)
+any-connection_rows : (table : Table) (connection : ℕ) (paths : List Bytes) (q : Watched)
+    → list_any (eq_by_cmp watched_cmp q) (connection_rows table connection paths)
+    ≡ ((list_any (eq_by_cmp path_cmp q.path) paths && eq_by_cmp nat_cmp q.connection connection) && same_table q table)
+any-connection_rows table connection paths q =
+    any-watched_in table (map (λ (path : Bytes). (path, connection)) paths) q
+    ∙ ap (λ b. b && same_table q table) (of_connection connection paths (q.path, q.connection))
 
-path_rows-pairs : (table : Table) (path : Bytes) (conns : List ℕ)
-    → path_rows table path conns ≡ map (watched_in table) (map (λ (c : ℕ). (path, c)) conns)
-path_rows-pairs table path [] = refl
-path_rows-pairs table path (c ∷ cs) = ap (λ rows. watched_in table (path, c) ∷ rows) (path_rows-pairs table path cs)
+-- ---- the paths of a connection, added one by one
 
-any-path_rows : (table : Table) (path : Bytes) (conns : ConnectionSet) (q : Watched)
-    → list_any (eq_by_cmp watched_cmp q) (path_rows table path (sorted_connections conns))
-    ≡ (list_any (eq_by_cmp watch_cmp (q.path, q.connection)) (map (λ (c : ℕ). (path, c)) (set.items conns))
-    && same_table q table)
-any-path_rows table path conns q =
-    ap (list_any (eq_by_cmp watched_cmp q)) (path_rows-pairs table path (sorted_connections conns))
-    ∙ any-watched_in table (map (λ (c : ℕ). (path, c)) (sorted_connections conns)) q
-    ∙ ap (λ b. b && same_table q table) (any-in_number path conns (q.path, q.connection))
+pub adds_paths : (table : Table) (connection : ℕ) (listed : List Bytes) (paths : Names) (old new : List Watched)
+    → set.from_list listed ≡ paths
+    → new ≡ with_inserted_keys watched_cmp old (connection_rows table connection listed)
+    → AddsInOrder old (connection_rows table connection (set.items paths)) new
+adds_paths table connection listed paths old new are is before sorted =
+    is
+    ∙ ap (λ keys. with_inserted_keys watched_cmp keys (connection_rows table connection listed)) sorted
+    ∙ inserted-ascending watched_total watched_exact before (connection_rows table connection listed)
+    ∙ same_ascending watched_total watched_exact (before ++ connection_rows table connection listed)
+    (before ++ connection_rows table connection (set.items paths)) (λ q.
+    list_any-append (eq_by_cmp watched_cmp q) before (connection_rows table connection listed)
+    ∙ ap (λ b. list_any (eq_by_cmp watched_cmp q) before || b)
+    (any-connection_rows table connection listed q
+    ∙ ap (λ b. (b && eq_by_cmp nat_cmp q.connection connection) && same_table q table)
+    (sym (set.contains-from_list path_total listed q.path) ∙ ap (λ s. set.contains s q.path) are
+    ∙ set.contains-items paths q.path)
+    ∙ sym (any-connection_rows table connection (set.items paths) q))
+    ∙ sym (list_any-append (eq_by_cmp watched_cmp q) before (connection_rows table connection (set.items paths))))
 
-any-rows_of : (table : Table) (es : List (Bytes × ConnectionSet)) (q : Watched)
-    → list_any (eq_by_cmp watched_cmp q) (rows_of table es)
-    ≡ (list_any (eq_by_cmp watch_cmp (q.path, q.connection)) (all_pairs es) && same_table q table)
-any-rows_of table [] q = refl
-any-rows_of table (e ∷ es) q =
-    list_any-append (eq_by_cmp watched_cmp q) (path_rows table e.0 (sorted_connections e.1)) (rows_of table es)
-    ∙ (λ i. any-path_rows table e.0 e.1 q i || any-rows_of table es q i)
-    ∙ and_or (list_any (eq_by_cmp watch_cmp (q.path, q.connection)) (map (λ (c : ℕ). (e.0, c)) (set.items e.1)))
-    (list_any (eq_by_cmp watch_cmp (q.path, q.connection)) (all_pairs es)) (same_table q table)
-    ∙ ap (λ b. b && same_table q table)
-    (sym (list_any-append (eq_by_cmp watch_cmp (q.path, q.connection)) (map (λ (c : ℕ). (e.0, c)) (set.items e.1))
-    (all_pairs es)))
+-- ---- a table, added connection by connection
+
+abbrev rows_of : Table → List (ℕ × Names) → List Watched
+rows_of table entries = map (watched_in table) (listed_pairs entries)
+
+-- Some of the watches were added, and the others are left.
+pub record Adding (table : Table) (watches : WatchPairs) (old now : List Watched) (rest : List (ℕ × Names)) : Type 0 where
+  pub all : List (ℕ × Names)
+  pub are : set.from_list (listed_pairs all) ≡ watches
+  pub done : List Watched
+  pub split : rows_of table all ≡ done ++ rows_of table rest
+  pub so_far : AddsInOrder old done now
+
+pub begins : (table : Table) (watches : WatchPairs) (old : List Watched) (all : List (ℕ × Names))
+    → set.from_list (listed_pairs all) ≡ watches → Adding table watches old old all
+begins table watches old all are = record {
+  all = all;
+  are = are;
+  done = [];
+  split = refl;
+  so_far = λ before is. is ∙ ap (sorted_distinct watched_cmp) (sym (append-nil before));
+}
+
+rows-append : (table : Table) (xs ys : List (Bytes × ℕ))
+    → map (watched_in table) (xs ++ ys) ≡ map (watched_in table) xs ++ map (watched_in table) ys
+rows-append table [] ys = refl
+rows-append table (x ∷ xs) ys = ap (λ rows. watched_in table x ∷ rows) (rows-append table xs ys)
+
+pub adds : (table : Table) (watches : WatchPairs) (old now new : List Watched) (connection : ℕ) (paths : Names)
+    (rest : List (ℕ × Names)) → Adding table watches old now ((connection, paths) ∷ rest)
+    → AddsInOrder now (connection_rows table connection (set.items paths)) new
+    → Adding table watches old new rest
+adds table watches old now new connection paths rest h more =
+    let rows = connection_rows table connection (set.items paths) in record {
+      all = h.all;
+      are = h.are;
+      done = h.done ++ rows;
+      split =
+          h.split
+          ∙ ap (λ others. h.done ++ others)
+          (rows-append table (map (λ (path : Bytes). (path, connection)) (set.items paths)) (listed_pairs rest))
+          ∙ sym (append_assoc h.done rows (rows_of table rest));
+      so_far =
+          λ before is. more (before ++ h.done) (h.so_far before is)
+          ∙ ap (sorted_distinct watched_cmp) (append_assoc before h.done rows);
+    }
 
 -- The rows of a table are its watches.
-any-table : (table : Table) (es : List (Bytes × ConnectionSet)) (watches : WatchPairs)
-    → set.from_list (all_pairs es) ≡ watches
+any-table : (table : Table) (es : List (ℕ × Names)) (watches : WatchPairs)
+    → set.from_list (listed_pairs es) ≡ watches
     → (q : Watched) → list_any (eq_by_cmp watched_cmp q) (rows_of table es)
     ≡ list_any (eq_by_cmp watched_cmp q) (map (watched_in table) (set.items watches))
 any-table table es watches are q =
-    any-rows_of table es q
+    any-watched_in table (listed_pairs es) q
     ∙ ap (λ b. b && same_table q table)
-    (sym (set.contains-from_list watch_total (all_pairs es) (q.path, q.connection))
+    (sym (set.contains-from_list watch_total (listed_pairs es) (q.path, q.connection))
     ∙ ap (λ s. set.contains s (q.path, q.connection)) are
     ∙ set.contains-items watches (q.path, q.connection))
     ∙ sym (any-watched_in table (set.items watches) q)
 
--- ---- a table, added path by path
-
--- Adding the rest gives the list of all the watches.
-pub record Adding (table : Table) (watches : WatchPairs) (old now : List Watched) (rest : List (Bytes × ConnectionSet))
-    : Type 0 where
-  pub all : List (Bytes × ConnectionSet)
-  pub are : set.from_list (all_pairs all) ≡ watches
-  pub leads : with_inserted_keys watched_cmp now (rows_of table rest)
-      ≡ with_inserted_keys watched_cmp old (rows_of table all)
-
-inserted-append : (keys xs ys : List Watched)
-    → with_inserted_keys watched_cmp keys (xs ++ ys)
-    ≡ with_inserted_keys watched_cmp (with_inserted_keys watched_cmp keys xs) ys
-inserted-append keys [] ys = refl
-inserted-append keys (x ∷ xs) ys = inserted-append (insert_key watched_cmp keys x) xs ys
-
-pub begins : (table : Table) (watches : WatchPairs) (old : List Watched) (all : List (Bytes × ConnectionSet))
-    → set.from_list (all_pairs all) ≡ watches → Adding table watches old old all
-begins table watches old all are = record { all = all; are = are; leads = refl }
-
-pub adds : (table : Table) (watches : WatchPairs) (old now new : List Watched) (path : Bytes) (conns : ConnectionSet)
-    (rest : List (Bytes × ConnectionSet)) → Adding table watches old now ((path, conns) ∷ rest)
-    → new ≡ with_inserted_keys watched_cmp now (path_rows table path (sorted_connections conns))
-    → Adding table watches old new rest
-adds table watches old now new path conns rest h is = record {
-  all = h.all;
-  are = h.are;
-  leads =
-      ap (λ keys. with_inserted_keys watched_cmp keys (rows_of table rest)) is
-      ∙ sym (inserted-append now (path_rows table path (sorted_connections conns)) (rows_of table rest))
-      ∙ h.leads;
-}
-
 pub ends : (table : Table) (watches : WatchPairs) (old now : List Watched) → Adding table watches old now []
     → AddsInOrder old (map (watched_in table) (set.items watches)) now
 ends table watches old now h before is =
-    h.leads
-    ∙ ap (λ keys. with_inserted_keys watched_cmp keys (rows_of table h.all)) is
-    ∙ inserted-ascending watched_total watched_exact before (rows_of table h.all)
+    h.so_far before is
+    ∙ ap (λ rows. sorted_distinct watched_cmp (before ++ rows)) (sym (h.split ∙ append-nil h.done))
     ∙ same_ascending watched_total watched_exact (before ++ rows_of table h.all)
     (before ++ map (watched_in table) (set.items watches)) (λ q.
     list_any-append (eq_by_cmp watched_cmp q) before (rows_of table h.all)

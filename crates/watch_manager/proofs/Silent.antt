@@ -15,7 +15,7 @@ use Rattle.watch_manager.specs.Watching.{WatchTables}
 use Rattle.watch_manager.specs.Watches.{events_for, connections_not_told, node_watchers, events_of_trigger, watches_after, fire}
 use Rattle.watch_manager.specs.declared.event.EventKind.{EventKind}
 use Rattle.ephemerals.proofs.Ascending.{any-ascending}
-use Rattle.watch_manager.proofs.Tables.{unwatched}
+use Rattle.watch_manager.proofs.Watchers.{unwatched}
 
 pub front_empty : {A : Type 0} (xs ys : List A) → xs ++ ys ≡ [] → xs ≡ []
 front_empty [] ys e = refl

@@ -4,10 +4,10 @@ ghost use Rattle.std.specs.Prelude.{◌≡◌, OnOk, OnErr, IfOk};
 ghost use Rattle.watch_manager.specs.Lasting.{no_lasting_watch, with_watch_in, without_watch_in, persistent_watchers, lasting_watchers};
 ghost use Rattle.watch_manager.specs.Watching.{without_lasting_of};
 
-use crate::conn_set::ConnSet;
 use crate::mode::WatchMode;
 use crate::recursive::RecursiveTable;
 use crate::table::WatchTable;
+use pairs::{HashKey, NumberSet};
 use std::alloc::Global;
 use std::marker::Model;
 use values::NoMemory;
@@ -30,13 +30,13 @@ impl Model for LastingTable {
 }
 
 impl LastingTable {
-    /// No watch. Allocates nothing.
-    pub fn new(alloc: Global) -> LastingTable
+    /// No watch, and this key of the hash. Allocates nothing.
+    pub fn keyed(alloc: Global, key: HashKey) -> LastingTable
         ensures { result ≡ no_lasting_watch }
     {
         LastingTable {
-            persistent: WatchTable::new(alloc),
-            recursive: RecursiveTable::new(alloc),
+            persistent: WatchTable::keyed(alloc, key),
+            recursive: RecursiveTable::keyed(alloc, key),
         }
     }
 
@@ -55,16 +55,20 @@ impl LastingTable {
     }
 
     /// The connections with a persistent watch on the path.
-    pub(crate) fn persistent_watchers(&self, alloc: Global, path: &str) -> Result<ConnSet, NoMemory>
+    pub(crate) fn persistent_watchers(
+        &self,
+        alloc: Global,
+        path: &str,
+    ) -> Result<NumberSet, NoMemory>
         ensures { IfOk result (λ conns. conns ≡ persistent_watchers path.now self.now) }
     {
-        let mut conns = ConnSet::new(alloc);
+        let mut conns = NumberSet::new(alloc);
         self.persistent.add_watchers(&mut conns, path)?;
         Ok(conns)
     }
 
     /// The connections with a watch on the path, or with a recursive watch above it.
-    pub fn watchers(&self, alloc: Global, path: &str) -> Result<ConnSet, NoMemory>
+    pub fn watchers(&self, alloc: Global, path: &str) -> Result<NumberSet, NoMemory>
         ensures { IfOk result (λ conns. conns ≡ lasting_watchers path.now self.now) }
     {
         let mut conns = self.persistent_watchers(alloc, path)?;

@@ -1,12 +1,11 @@
 //! The unused watches of a table while triggers fire.
 
-ghost use Rattle.std.specs.Prelude.{◌≡◌, OnOk};
-ghost use Rattle.std.specs.FinSet as set;
+ghost use Rattle.std.specs.Prelude.{◌≡◌, OnOk, IfOk};
 ghost use Rattle.watch_manager.specs.Pairs.{watchers_of, without_watches_on};
 
-use crate::conn_set::ConnSet;
 use crate::table::WatchTable;
 use ephemerals::TextSet;
+use pairs::NumberSet;
 use std::alloc::Global;
 use std::marker::Model;
 use values::NoMemory;
@@ -18,11 +17,9 @@ pub struct UnusedWatches<'a> {
     table: &'a WatchTable,
     // The paths whose watches are used up.
     used: TextSet,
-    nobody: ConnSet,
 }
 
 impl<'a> Model for UnusedWatches<'a> {
-    ghost use Rattle.std.specs.Prelude.{◌≡◌};
     ghost use Rattle.watch_manager.specs.Pairs.{WatchPairs};
     ghost use Rattle.watch_manager.specs.Inner.Telling.{watches_elsewhere};
     ghost use Rattle.std.specs.FinSet as set;
@@ -33,8 +30,6 @@ impl<'a> Model for UnusedWatches<'a> {
     ghost coded = { set.code (coded× (coded_list coded_ℕ) coded_ℕ) };
 
     ghost view = { λ l. watches_elsewhere l.used l.table.now };
-
-    ghost invariant = { λ l. l.nobody ≡ set.empty };
 }
 
 impl<'a> UnusedWatches<'a> {
@@ -45,28 +40,24 @@ impl<'a> UnusedWatches<'a> {
         UnusedWatches {
             table,
             used: TextSet::new(alloc),
-            nobody: ConnSet::new(alloc),
         }
     }
 
     /// The connections that still watch the path.
-    pub fn watchers(&self, path: &str) -> &ConnSet
-        ensures { result.now ≡ watchers_of path.now self.now }
+    pub fn watchers(&self, alloc: Global, path: &str) -> Result<NumberSet, NoMemory>
+        ensures { IfOk result (λ conns. conns ≡ watchers_of path.now self.now) }
     {
         if self.used.contains(path) {
-            return &self.nobody;
+            return Ok(NumberSet::new(alloc));
         }
-        match self.table.watchers(path) {
-            None => return &self.nobody,
-            Some(conns) => conns,
-        }
+        self.table.watchers(alloc, path)
     }
 
     /// Uses up the watches on a path.
     pub fn use_up(&mut self, alloc: Global, path: &str) -> Result<(), NoMemory>
         ensures { OnOk result (self.new ≡ without_watches_on path.now self.old) }
     {
-        if self.watchers(path).is_empty() {
+        if !self.table.is_watched(path) {
             return Ok(());
         }
         self.used.insert(String::from_str(alloc, path)?)?;

@@ -13,9 +13,6 @@
 //! ```
 #![tactic(auto)]
 
-mod by_conn;
-mod by_path;
-mod conn_set;
 mod counts;
 mod event;
 mod kind;

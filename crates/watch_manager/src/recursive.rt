@@ -6,8 +6,8 @@ ghost use Rattle.watch_manager.specs.Pairs.{watchers_of, without_connection};
 ghost use Rattle.watch_manager.specs.Lasting.{watchers_above};
 ghost use Rattle.watch_manager.specs.Inner.Lasting.{with_watchers_on, named_fronts};
 
-use crate::conn_set::ConnSet;
 use crate::table::WatchTable;
+use pairs::{HashKey, NumberSet};
 use std::alloc::Global;
 use std::collections::BTreeSet;
 use std::marker::Model;
@@ -38,12 +38,12 @@ impl Model for RecursiveTable {
 }
 
 impl RecursiveTable {
-    /// No watch. Allocates nothing.
-    pub fn new(alloc: Global) -> RecursiveTable
+    /// No watch, and this key of the hash. Allocates nothing.
+    pub fn keyed(alloc: Global, key: HashKey) -> RecursiveTable
         ensures { result ≡ set.empty }
     {
         RecursiveTable {
-            table: WatchTable::new(alloc),
+            table: WatchTable::keyed(alloc, key),
             lengths: BTreeSet::new(alloc),
         }
     }
@@ -56,7 +56,7 @@ impl RecursiveTable {
     }
 
     // Adds the connections that watch the path.
-    fn add_watchers(&self, conns: &mut ConnSet, path: &str) -> Result<(), NoMemory>
+    fn add_watchers(&self, conns: &mut NumberSet, path: &str) -> Result<(), NoMemory>
         ensures { OnOk result (conns.new ≡ set.union conns.old (watchers_of path.now self.now)) }
     {
         if !self.lengths.contains(&path.len()) {
@@ -66,7 +66,7 @@ impl RecursiveTable {
     }
 
     // Adds the connections that watch a path above this one, except "/".
-    fn add_watchers_between(&self, conns: &mut ConnSet, path: &str) -> Result<(), NoMemory>
+    fn add_watchers_between(&self, conns: &mut NumberSet, path: &str) -> Result<(), NoMemory>
         ensures { OnOk result
             (conns.new ≡ with_watchers_on (named_fronts path.now) self.now conns.old) }
     {
@@ -83,7 +83,11 @@ impl RecursiveTable {
     }
 
     /// Adds the connections that watch the path or one above it.
-    pub(crate) fn add_watchers_above(&self, conns: &mut ConnSet, path: &str) -> Result<(), NoMemory>
+    pub(crate) fn add_watchers_above(
+        &self,
+        conns: &mut NumberSet,
+        path: &str,
+    ) -> Result<(), NoMemory>
         ensures { OnOk result (conns.new ≡ set.union conns.old (watchers_above path.now self.now)) }
     {
         if self.lengths.is_empty() {

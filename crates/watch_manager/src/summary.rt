@@ -2,31 +2,29 @@
 
 ghost use Rattle.std.specs.Prelude.{◌≡◌, IfOk, OnOk, map};
 ghost use Rattle.std.specs.FinSet as set;
-ghost use Rattle.watch_manager.specs.Pairs.{sorted_connections};
-ghost use Rattle.watch_manager.specs.Summary.{watched_cmp, watched_in};
-ghost use Rattle.watch_manager.specs.Inner.Listing.{path_rows, AddsInOrder};
-ghost use Rattle.watch_manager.specs.Ascending.{with_inserted_keys};
+ghost use Rattle.watch_manager.specs.Summary.{watched_in};
+ghost use Rattle.watch_manager.specs.Inner.Listing.{connection_rows, AddsInOrder};
 
-use crate::conn_set::ConnSet;
 use crate::table::WatchTable;
 use crate::watched::{Table, Watched};
+use pairs::TextTable;
 use std::alloc::Global;
 use std::collections::BTreeSet;
 use values::{NoMemory, Str};
 
-// Adds the watches of these connections on a path.
-fn add_conns<'a>(
+// Adds the watches of a connection on these paths.
+fn add_paths<'a>(
     rows: &mut BTreeSet<Watched<'a>>,
-    path: &'a str,
-    conns: &ConnSet,
+    connection: u64,
+    paths: &'a TextTable,
     table: Table,
 ) -> Result<(), NoMemory>
-    ensures { OnOk result (rows.new.keys ≡
-        with_inserted_keys watched_cmp rows.old.keys (path_rows table path.now (sorted_connections conns.now))) }
+    ensures { OnOk result
+        (AddsInOrder rows.old.keys (connection_rows table connection (set.items paths.now)) rows.new.keys) }
 {
-    for connection in conns.iter() {
-        let path = Str::new(path);
-        let connection = *connection;
+    let all = paths.as_slice();
+    for path in all {
+        let path = Str::new(path.as_str());
         rows.insert(Watched {
             path,
             connection,
@@ -45,8 +43,8 @@ pub(crate) fn add_table<'a>(
     ensures { OnOk result
         (AddsInOrder rows.old.keys (map (watched_in table) (set.items watches.now)) rows.new.keys) }
 {
-    for (path, conns) in watches.iter() {
-        add_conns(rows, path.as_str(), conns, table)?;
+    for (connection, paths) in watches.iter() {
+        add_paths(rows, *connection, paths, table)?;
     }
     Ok(())
 }

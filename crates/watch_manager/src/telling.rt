@@ -8,11 +8,11 @@ ghost use Rattle.watch_manager.specs.Lasting.{persistent_watchers, lasting_watch
 ghost use Rattle.watch_manager.specs.Inner.Telling.{watch_tables, deleted_events};
 ghost use Rattle.watch_manager.specs.declared.event.EventKind.TheVariants.{NodeChildrenChanged};
 
-use crate::conn_set::ConnSet;
 use crate::event::{Event, EventKind};
 use crate::lasting::LastingTable;
 use crate::left::UnusedWatches;
 use data_tree::Trigger;
+use pairs::NumberSet;
 use std::alloc::Global;
 use values::{NoMemory, Text};
 
@@ -22,7 +22,7 @@ fn tell_each(
     alloc: Global,
     kind: EventKind,
     path: &str,
-    conns: &ConnSet,
+    conns: &NumberSet,
 ) -> Result<(), NoMemory>
     ensures { OnOk result
         (events.new.items ≡ events.old.items ++ events_for kind path.now (sorted_connections conns.now)) }
@@ -35,7 +35,7 @@ fn tell_each(
 }
 
 // Whether the connection is in either set.
-fn is_told(watchers: &ConnSet, lasting: &ConnSet, connection: u64) -> bool
+fn is_told(watchers: &NumberSet, lasting: &NumberSet, connection: u64) -> bool
     ensures { result ≡ set.contains (set.union watchers.now lasting.now) connection }
 {
     watchers.contains(connection) || lasting.contains(connection)
@@ -48,9 +48,9 @@ fn tell_others(
     alloc: Global,
     kind: EventKind,
     path: &str,
-    watchers: &ConnSet,
-    lasting: &ConnSet,
-    conns: &ConnSet,
+    watchers: &NumberSet,
+    lasting: &NumberSet,
+    conns: &NumberSet,
 ) -> Result<(), NoMemory>
     ensures { OnOk result (events.new.items ≡ events.old.items
         ++ events_for kind path.now (connections_not_told (set.union watchers.now lasting.now) conns.now)) }
@@ -70,8 +70,8 @@ fn tell_part(
     alloc: Global,
     kind: EventKind,
     path: &str,
-    watchers: &ConnSet,
-    lasting: &ConnSet,
+    watchers: &NumberSet,
+    lasting: &NumberSet,
 ) -> Result<(), NoMemory>
     ensures { OnOk result (events.new.items ≡
         events.old.items ++ events_for kind path.now (sorted_connections (set.union watchers.now lasting.now))) }
@@ -79,7 +79,7 @@ fn tell_part(
     if lasting.is_empty() {
         return tell_each(events, alloc, kind, path, watchers);
     }
-    let mut all = ConnSet::new(alloc);
+    let mut all = NumberSet::new(alloc);
     all.add_all(watchers)?;
     all.add_all(lasting)?;
     tell_each(events, alloc, kind, path, &all)
@@ -100,14 +100,8 @@ fn tell_node(
     ensures left { OnOk result (data_watches.new ≡ without_watches_on path.now data_watches.old) }
 {
     let lasting = lasting.watchers(alloc, path)?;
-    tell_part(
-        events,
-        alloc,
-        kind,
-        path,
-        data_watches.watchers(path),
-        &lasting,
-    )?;
+    let watchers = data_watches.watchers(alloc, path)?;
+    tell_part(events, alloc, kind, path, &watchers, &lasting)?;
     data_watches.use_up(alloc, path)
 }
 
@@ -125,7 +119,8 @@ fn tell_children(
 {
     let kind = EventKind::NodeChildrenChanged;
     let lasting = lasting.persistent_watchers(alloc, path)?;
-    tell_part(events, alloc, kind, path, child.watchers(path), &lasting)?;
+    let watchers = child.watchers(alloc, path)?;
+    tell_part(events, alloc, kind, path, &watchers, &lasting)?;
     child.use_up(alloc, path)
 }
 
@@ -145,17 +140,10 @@ fn tell_deleted(
 {
     let kind = EventKind::NodeDeleted;
     let lasting = lasting.watchers(alloc, path)?;
-    let watchers = data_watches.watchers(path);
-    tell_part(events, alloc, kind, path, watchers, &lasting)?;
-    tell_others(
-        events,
-        alloc,
-        kind,
-        path,
-        watchers,
-        &lasting,
-        child.watchers(path),
-    )?;
+    let watchers = data_watches.watchers(alloc, path)?;
+    let others = child.watchers(alloc, path)?;
+    tell_part(events, alloc, kind, path, &watchers, &lasting)?;
+    tell_others(events, alloc, kind, path, &watchers, &lasting, &others)?;
     data_watches.use_up(alloc, path)?;
     child.use_up(alloc, path)
 }

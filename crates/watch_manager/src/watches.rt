@@ -19,6 +19,7 @@ use crate::table::WatchTable;
 use crate::telling::tell;
 use crate::watched::{Table, Watched};
 use data_tree::Trigger;
+use pairs::HashKey;
 use std::alloc::Global;
 use std::collections::BTreeSet;
 use std::marker::Model;
@@ -57,14 +58,21 @@ impl Drop for Watches {
 }
 
 impl Watches {
-    /// No watch. Allocates nothing.
+    /// No watch, and the default key of the hash. Allocates nothing.
     pub fn new(alloc: Global) -> Watches
         ensures { result ≡ no_watch }
     {
+        Watches::keyed(alloc, HashKey::default())
+    }
+
+    /// No watch, and this key of the hash by which paths are found. Allocates nothing.
+    pub fn keyed(alloc: Global, key: HashKey) -> Watches
+        ensures { result ≡ no_watch }
+    {
         Watches {
-            data_watches: WatchTable::new(alloc),
-            child: WatchTable::new(alloc),
-            lasting: LastingTable::new(alloc),
+            data_watches: WatchTable::keyed(alloc, key),
+            child: WatchTable::keyed(alloc, key),
+            lasting: LastingTable::keyed(alloc, key),
         }
     }
 

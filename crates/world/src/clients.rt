@@ -6,6 +6,7 @@ ghost use Rattle.world.specs.Clients.{idle_connection, is_open, is_heard, with_c
 
 use crate::connections::Connections;
 use crate::world::Settings;
+use data_tree::HashKey;
 use forwarding::Pending;
 use sessions::{Passwords, Sessions};
 use std::alloc::Global;
@@ -63,8 +64,8 @@ fn passwords_of(settings: &Settings) -> Result<Passwords, NoMemory>
 }
 
 impl Clients {
-    /// No connection, and no session yet.
-    pub fn new(alloc: Global, settings: &Settings) -> Result<Clients, NoMemory>
+    /// No connection, and no session yet. Watched paths are found by a hash with this key.
+    pub fn new(alloc: Global, key: HashKey, settings: &Settings) -> Result<Clients, NoMemory>
         ensures { IfOk result (λ clients. clients ≡ no_clients settings.now) }
     {
         let sessions = Sessions::new(
@@ -78,7 +79,7 @@ impl Clients {
         Ok(Clients {
             connections: Connections::new(alloc),
             sessions,
-            watches: Watches::new(alloc),
+            watches: Watches::keyed(alloc, key),
             pending: Pending::new(alloc),
         })
     }

@@ -10,7 +10,7 @@
 //! prefix of its step's outputs. specs/Sending has the steps that send and close.
 //!
 //! ```text
-//! let clients = Clients::new(alloc, &settings)?;                       // no connection, and no session yet
+//! let clients = Clients::new(alloc, key, &settings)?;                  // no connection, and no session yet
 //! let mut stage = Stage::new(alloc, World { settings, replica, clients });
 //! stage.world.clients.open(alloc, 7, None)?;                           // connection 7 is open
 //! stage.close_client(7)?;                                              // appends Output::CloseClient(7)

@@ -1,6 +1,6 @@
 //! What is known of sessions: their passwords and their timeouts.
 
-use data_tree::Tree;
+use data_tree::{HashKey, Tree};
 use forwarding::SessionTimeouts;
 use sessions::{Passwords, SessionRequest, Sessions};
 use settings::{Dialect, Epochs, FirstCounter, Secret, ServerId, TimeoutBounds};
@@ -20,7 +20,7 @@ fn takes_java_password(alloc: Global, dialect: Dialect, secret: &[u8]) -> Result
         first_counter: FirstCounter::default(),
         dialect,
     };
-    let clients = Clients::new(alloc, &settings)?;
+    let clients = Clients::new(alloc, HashKey::default(), &settings)?;
     let password = Bytes::new(b"\x33\x93\x34\xdf\x44\xb0\x3b\xff\xc9\xf0\x77\x6b\x2d\x64\x54\x61");
     let request = SessionRequest {
         time_out: 20_000,

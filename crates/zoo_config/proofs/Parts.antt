@@ -5,7 +5,7 @@ use Rattle.std.specs.List.{position_or_len, before_first, after_first}
 use Rattle.std.specs.Option.{option_map, MatchOption}
 use Rattle.std.specs.Borrow.{Bor}
 use Rattle.std.proofs.lemmas.Bool.{eqb-true}
-use Rattle.zoo_config.specs.Addresses.{halves_at, behind_mark}
+use Rattle.zoo_config.specs.Addresses.{halves_at, after_mark}
 
 abbrev Halves : Type 0
 Halves = Option (Bor (List ℕ) × Bor (List ℕ))
@@ -42,18 +42,18 @@ of_letter : (mark letter : ℕ) (text : List ℕ) (is_it : Bool) → nat_eq lett
 of_letter mark letter text true e none = absurd (none text (ap (λ l. l ∷ text) (eqb-true letter mark e)))
 of_letter mark letter text false e none = refl
 
-of_none : (mark : ℕ) (text : List ℕ) → ((rest : List ℕ) → text ≢ mark ∷ rest) → behind_mark mark text ≡ None
+of_none : (mark : ℕ) (text : List ℕ) → ((rest : List ℕ) → text ≢ mark ∷ rest) → after_mark mark text ≡ None
 of_none mark [] none = refl
 of_none mark (letter ∷ text) none = of_letter mark letter text (nat_eq letter mark) refl none
 
 eq_self : (n : ℕ) → nat_eq n n ≡ true
 eq_self n = search (arith)
 
-of_mark : (mark : ℕ) (rest : List ℕ) → behind_mark mark (mark ∷ rest) ≡ Some rest
+of_mark : (mark : ℕ) (rest : List ℕ) → after_mark mark (mark ∷ rest) ≡ Some rest
 of_mark mark rest = ap (λ (is_it : Bool). if is_it then Some rest else None) (eq_self mark)
 
-pub behind_is : (mark : ℕ) (text : List ℕ) (found : Option (Bor (List ℕ)))
+pub after_is : (mark : ℕ) (text : List ℕ) (found : Option (Bor (List ℕ)))
     → MatchOption found ((rest : List ℕ) → text ≢ mark ∷ rest) (λ rest. text ≡ mark ∷ rest.now)
-    → option_map (λ rest. rest.now) found ≡ behind_mark mark text
-behind_is mark text None none = sym (of_none mark text none)
-behind_is mark text (Some rest) e = sym (ap (behind_mark mark) e ∙ of_mark mark rest.now)
+    → option_map (λ rest. rest.now) found ≡ after_mark mark text
+after_is mark text None none = sym (of_none mark text none)
+after_is mark text (Some rest) e = sym (ap (after_mark mark) e ∙ of_mark mark rest.now)

@@ -11,16 +11,16 @@ use Rattle.zoo_config.specs.declared.address.ServerAddress.{ServerAddress}
 
 -- ---- parts of a text
 
--- What stands before the first of a mark and behind it, if a text has the mark.
+-- What stands before the first of a mark and after it, if a text has the mark.
 abbrev pub halves_at : ℕ → List ℕ → Option (List ℕ × List ℕ)
 halves_at mark text =
     if nat_lt (position_or_len (λ letter. letter == mark) text) (length text)
     then Some (before_first (λ letter. letter == mark) text, after_first (λ letter. letter == mark) text) else None
 
--- What stands behind a mark, if a text begins with it.
-abbrev pub behind_mark : ℕ → List ℕ → Option (List ℕ)
-behind_mark mark [] = None
-behind_mark mark (letter ∷ text) = if letter == mark then Some text else None
+-- What stands after a mark, if a text begins with it.
+abbrev pub after_mark : ℕ → List ℕ → Option (List ℕ)
+after_mark mark [] = None
+after_mark mark (letter ∷ text) = if letter == mark then Some text else None
 
 abbrev pub or_whole : List ℕ → Option (List ℕ) → List ℕ
 or_whole text None = text
@@ -28,7 +28,7 @@ or_whole text (Some part) = part
 
 -- A number may have a plus in front.
 abbrev pub without_plus : List ℕ → List ℕ
-without_plus text = or_whole text (behind_mark 43 text)
+without_plus text = or_whole text (after_mark 43 text)
 
 abbrev pub negative_by : ℕ → List ℕ → Option (List ℕ) → Bool
 negative_by most text None = is_some (number_up_to 0 text)
@@ -36,7 +36,7 @@ negative_by most text (Some digits) = is_some (number_up_to most digits)
 
 -- Zero, or a number of so much or less below it.
 abbrev pub is_negative_up_to : ℕ → List ℕ → Bool
-is_negative_up_to most text = negative_by most text (behind_mark 45 text)
+is_negative_up_to most text = negative_by most text (after_mark 45 text)
 
 abbrev pub bare_with : List ℕ → Option (List ℕ × List ℕ) → List ℕ
 bare_with host None = host
@@ -48,24 +48,24 @@ bare_by host (Some inner) = bare_with host (halves_at 93 inner)
 
 -- A host without the brackets that may be around it.
 abbrev pub bare_host : List ℕ → List ℕ
-bare_host host = bare_by host (behind_mark 91 host)
+bare_host host = bare_by host (after_mark 91 host)
 
 -- A port without a plus, if the text is a port.
 abbrev pub port_in : List ℕ → Option (List ℕ)
 port_in text = if is_some (number_up_to 65535 (without_plus text)) then Some (without_plus text) else None
 
--- ---- a host, and what stands behind the colon after it
+-- ---- a host, and what follows the colon after it
 
-abbrev pub behind_bracket : Option (List ℕ × List ℕ) → Option (List ℕ × List ℕ)
-behind_bracket None = None
-behind_bracket (Some halves) = option_map (λ rest. (halves.0, rest)) (behind_mark 58 halves.1)
+abbrev pub after_bracket : Option (List ℕ × List ℕ) → Option (List ℕ × List ℕ)
+after_bracket None = None
+after_bracket (Some halves) = option_map (λ rest. (halves.0, rest)) (after_mark 58 halves.1)
 
 abbrev pub host_by : List ℕ → Option (List ℕ) → Option (List ℕ × List ℕ)
 host_by text None = halves_at 58 text
-host_by text (Some inner) = behind_bracket (halves_at 93 inner)
+host_by text (Some inner) = after_bracket (halves_at 93 inner)
 
 abbrev pub host_in : List ℕ → Option (List ℕ × List ℕ)
-host_in text = host_by text (behind_mark 91 text)
+host_in text = host_by text (after_mark 91 text)
 
 -- ---- an address of a server
 

@@ -62,10 +62,10 @@ abbrev pub part_of : Option NumberedLine → ℕ → List ℕ → Part
 part_of None number text = if is_remark text then Remark else part_with None number text (line_front text)
 part_of (Some before) number text = part_with (Some before) number text (line_front text)
 
-abbrev pub line_behind : Part → Option NumberedLine
-line_behind Remark = None
-line_behind (GoesOn line) = Some line
-line_behind (Ends line) = None
+abbrev pub line_after : Part → Option NumberedLine
+line_after Remark = None
+line_after (GoesOn line) = Some line
+line_after (Ends line) = None
 
 abbrev pub ended_entries : Part → List Entry
 ended_entries Remark = []
@@ -81,7 +81,7 @@ abbrev pub entries_after : ℕ → Option NumberedLine → List (List ℕ) → L
 entries_after count before [] = last_entry before
 entries_after count before (line ∷ lines) =
     let part = part_of before (count + 1) (trim_start line) in
-    ended_entries part ++ entries_after (count + 1) (line_behind part) lines
+    ended_entries part ++ entries_after (count + 1) (line_after part) lines
 
 -- ---- lines: each ends with LF, CR, or both
 

@@ -142,13 +142,13 @@ first_refused (entry ∷ entries) =
     or_later (bad_line entry (reason_of entry.key entry.value)) (first_refused entries)
 
 -- The value of a key among entries after which others follow: a later line wins.
-abbrev pub value_behind : List ℕ → Option (List ℕ) → List Entry → Option (List ℕ)
-value_behind key found [] = found
-value_behind key found (entry ∷ entries) =
-    value_behind key (if bytes_eq entry.key key then Some entry.value else found) entries
+abbrev pub value_after : List ℕ → Option (List ℕ) → List Entry → Option (List ℕ)
+value_after key found [] = found
+value_after key found (entry ∷ entries) =
+    value_after key (if bytes_eq entry.key key then Some entry.value else found) entries
 
 abbrev pub value_in : List ℕ → List Entry → Option (List ℕ)
-value_in key entries = value_behind key None entries
+value_in key entries = value_after key None entries
 
 -- What ZooKeeper takes for a key that no line has.
 abbrev pub key_default : List ℕ → Option (List ℕ)

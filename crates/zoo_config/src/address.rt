@@ -2,7 +2,7 @@
 
 ghost use Rattle.std.specs.Prelude.{◌≡◌, ◌<◌, ◌==◌, IfOk, map, option_map};
 ghost use Rattle.std.specs.List.{slice_split};
-ghost use Rattle.zoo_config.specs.Addresses.{halves_at, behind_mark, without_plus, is_negative_up_to, bare_host, port_in, host_in, says_word, role_in, parts_or_whole, meeting_place, address_spelling, meeting_places, one_is_wrong, one_is, is_observer, is_participant, are_wrong};
+ghost use Rattle.zoo_config.specs.Addresses.{halves_at, after_mark, without_plus, is_negative_up_to, bare_host, port_in, host_in, says_word, role_in, parts_or_whole, meeting_place, address_spelling, meeting_places, one_is_wrong, one_is, is_observer, is_participant, are_wrong};
 
 use std::alloc::{AllocError, Global};
 use texts::number_up_to;
@@ -28,7 +28,7 @@ pub struct ServerAddress<'a> {
 
 const MOST_PORT: u64 = 65_535;
 
-// The parts before the first of a mark and behind it, if the text has it.
+// The parts before the first of a mark and after it, if the text has it.
 pub(crate) fn halves_at(mark: char, text: &str) -> Option<(&str, &str)>
     requires { mark < 128 }
     ensures { option_map (λ halves. (halves.0.now, halves.1.now)) result ≡ halves_at mark text.now }
@@ -36,10 +36,10 @@ pub(crate) fn halves_at(mark: char, text: &str) -> Option<(&str, &str)>
     text.split_once(mark)
 }
 
-// What stands behind a mark, if the text begins with it.
-fn behind_mark(mark: char, text: &str) -> Option<&str>
+// What stands after a mark, if the text begins with it.
+fn after_mark(mark: char, text: &str) -> Option<&str>
     requires { mark < 128 }
-    ensures { option_map (λ rest. rest.now) result ≡ behind_mark mark text.now }
+    ensures { option_map (λ rest. rest.now) result ≡ after_mark mark text.now }
 {
     text.strip_prefix(mark)
 }
@@ -48,7 +48,7 @@ fn behind_mark(mark: char, text: &str) -> Option<&str>
 pub fn without_plus(text: &str) -> &str
     ensures { result.now ≡ without_plus text.now }
 {
-    match behind_mark('+', text) {
+    match after_mark('+', text) {
         Some(digits) => digits,
         None => text,
     }
@@ -58,7 +58,7 @@ pub fn without_plus(text: &str) -> &str
 pub fn is_negative_up_to(most: u64, text: &str) -> bool
     ensures { result ≡ is_negative_up_to most text.now }
 {
-    match behind_mark('-', text) {
+    match after_mark('-', text) {
         Some(digits) => number_up_to(most, digits.as_bytes()).is_some(),
         None => number_up_to(0, text.as_bytes()).is_some(),
     }
@@ -68,7 +68,7 @@ pub fn is_negative_up_to(most: u64, text: &str) -> bool
 pub fn bare_host(host: &str) -> &str
     ensures { result.now ≡ bare_host host.now }
 {
-    let Some(inner) = behind_mark('[', host) else {
+    let Some(inner) = after_mark('[', host) else {
         return host;
     };
     match halves_at(']', inner) {
@@ -88,15 +88,15 @@ pub(crate) fn port_in(text: &str) -> Option<&str>
     }
 }
 
-// The host and what stands behind the colon after it, if the text has these. A host that has colons is in brackets.
+// The host and what follows the colon after it, if the text has these. A host that has colons is in brackets.
 pub(crate) fn host_in(text: &str) -> Option<(&str, &str)>
     ensures { option_map (λ halves. (halves.0.now, halves.1.now)) result ≡ host_in text.now }
 {
-    let Some(inner) = behind_mark('[', text) else {
+    let Some(inner) = after_mark('[', text) else {
         return halves_at(':', text);
     };
-    let (host, behind) = halves_at(']', inner)?;
-    let rest = behind_mark(':', behind)?;
+    let (host, after) = halves_at(']', inner)?;
+    let rest = after_mark(':', after)?;
     Some((host, rest))
 }
 
@@ -122,7 +122,7 @@ fn role_in(text: &str) -> Option<ServerRole>
     None
 }
 
-// The part before the first of a mark, and the one behind it.
+// The part before the first of a mark, and the one after it.
 pub(crate) fn parts_or_whole(mark: char, text: &str) -> (&str, &str)
     requires { mark < 128 }
     ensures { (result.0.now, result.1.now) ≡ parts_or_whole text.now (halves_at mark text.now) }

@@ -5,7 +5,7 @@ ghost use Rattle.std.specs.List.{position_or_len, flat_map};
 ghost use Rattle.std.specs.Str.{IsUtf8};
 ghost use Rattle.std.specs.Str.{trim_start};
 ghost use Rattle.std.specs.Str.Lines.{lines};
-ghost use Rattle.zoo_config.specs.Form.{ends_key, begins_with_sign, without_sign, entry_value, is_remark, line_front, joined_line, part_of, entry_of, line_behind, ended_entries, entries_after, entries_of, short_lines, all_lines, latin_text};
+ghost use Rattle.zoo_config.specs.Form.{ends_key, begins_with_sign, without_sign, entry_value, is_remark, line_front, joined_line, part_of, entry_of, line_after, ended_entries, entries_after, entries_of, short_lines, all_lines, latin_text};
 
 use crate::joined::Joined;
 use std::alloc::{AllocError, Global};
@@ -173,7 +173,7 @@ fn take_line(
     number: u64,
     line: &str,
 ) -> Result<Option<Joined>, NoMemory>
-    ensures after { IfOk result (λ after. after ≡ line_behind (part_of before number (trim_start line.now))) }
+    ensures after { IfOk result (λ after. after ≡ line_after (part_of before number (trim_start line.now))) }
     ensures entries { OnOk result (
         entries.new.items ≡ entries.old.items ++ ended_entries (part_of before number (trim_start line.now))) }
 {

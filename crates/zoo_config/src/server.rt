@@ -85,14 +85,14 @@ fn server_of<'a>(
     let Some(id) = server_id_in(digits) else {
         return Ok(None);
     };
-    let (front, behind) = parts_or_whole(';', entry.value.as_str());
+    let (front, after) = parts_or_whole(';', entry.value.as_str());
     let addresses = addresses_in(alloc, front)?;
     if are_wrong(addresses.as_slice()) {
         return Ok(None);
     }
     let is_observer = one_is_observer(addresses.as_slice());
-    let client = client_place_in(behind);
-    if client.is_none() && !behind.is_empty() {
+    let client = client_place_in(after);
+    if client.is_none() && !after.is_empty() {
         return Ok(None);
     }
     Ok(Some(Server {

@@ -1,9 +1,8 @@
-use Rattle.ephemerals.specs.Grouped.{by_bytes}
 use Rattle.watch_manager.proofs.Listing.{Adding}
 use Rattle.watch_manager.proofs.summary.add_table.Given as goal
 
-abbrev pub invariant-loop-path : goal.invariant-loop-path
-invariant-loop-path l =
-    (goal.iterator-loop-path).can_next l.path-iterator
-    × (goal.iterator-loop-path).is_finite l.path-iterator
-    × Adding l.table l.watches l.fn.rows.keys l.rows.keys (by_bytes l.path-iterator)
+abbrev pub invariant-loop-connection : goal.invariant-loop-connection
+invariant-loop-connection l =
+    (goal.iterator-loop-connection).can_next l.connection-iterator
+    × (goal.iterator-loop-connection).is_finite l.connection-iterator
+    × Adding l.table l.watches l.fn.rows.keys l.rows.keys l.connection-iterator
