@@ -74,6 +74,23 @@ def behind_a_master(bench):
     ensemble.mended()
 
 
+def by_the_file(bench):
+    """By a follower's own file the observer follows that follower, and with --leader-only the leader."""
+    ensemble, observer = bench.ensemble, bench.observer
+    observer.stop()
+    ensemble.mended()
+    follower, name = ensemble.follower(), observer.folder / "masters.cfg"
+    text, link = (follower.folder / "zoo.cfg").read_text(), bench.proxy(follower.master)
+    name.write_text(text.replace(f"observerMasterPort={follower.master}", f"observerMasterPort={link.port}"))
+    for options, ends in (((), 2), (("--leader-only",), 0)):
+        observer.run("--config", name, "--client", 0, "--id", observer.number, "--words", "isro", *options)
+        observer.waits_until_it_serves()
+        assert len(link.sockets) == ends, (options, link.count, observer.process.tail())
+        observer.stop()
+        link.cut()
+        link.mend()
+
+
 class Lagging:
     """The observer behind a follower that has all, with another one to go to, which its leader's bytes reach through a
     proxy."""
@@ -154,4 +171,4 @@ def master_lags_below_a_checkpoint(bench):
     lagging.end()
 
 
-CHECKS = [behind_a_master, master_lags, master_lags_below_a_checkpoint]
+CHECKS = [behind_a_master, by_the_file, master_lags, master_lags_below_a_checkpoint]

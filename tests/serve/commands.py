@@ -34,6 +34,8 @@ BAD = [
     (["--leader", "1", "--client"], "--client has no value"),
     (GOOD + ["--leader", "1"], "--leader is given twice"),
     (GOOD + ["--log", "--log"], "--log is given twice"),
+    (GOOD + ["--leader-only", "--leader-only"], "--leader-only is given twice"),
+    (GOOD + ["--leader-only", "yes"], "yes: no such option"),
     (GOOD + ["--workers"], "--workers has no value"),
     (GOOD + ["--workers", "0"], "--workers 0: 1 to 64"),
     (GOOD + ["--workers", "65"], "--workers 65: 1 to 64"),

@@ -55,15 +55,56 @@ class ByFile(Following):
 def test_a_file_starts_it():
     seats = [Seat(is_open=False), Seat()]
     others = [f"server.{at + 7}=127.0.0.1:{it.port}:1:participant" for at, it in enumerate(seats)]
-    with file_of(text_of(*others, "observerMasterPort=2191", "noSuchKey=1")) as name:
+    with file_of(text_of(*others, "skipACL=yes", "noSuchKey=1")) as name:
         with ByFile(name, seats) as server:
             seats[1].accept().leads(1)
             assert server.word(b"isro") == b"rw"
             assert server.word(b"wchs") == b"wchs is not executed because it is not in the whitelist.\n"
             server.client().close()
             told = server.said()
-    for part in ("zoo.cfg:13: observerMasterPort isn't heeded", "zoo.cfg:14: noSuchKey is unknown"):
+    for part in ("zoo.cfg:13: skipACL isn't heeded", "zoo.cfg:14: noSuchKey is unknown"):
         assert part in told, (part, told)
+
+
+def test_a_follower_is_tried_before_the_leader():
+    for words, place in (([], 0), (["--leader-only"], 1)):
+        follower, leader = seats = [Seat(), Seat()]
+        lines = (f"server.7=127.0.0.1:{leader.port}:1", f"observerMasterPort={follower.port}")
+        with file_of(text_of(*lines)) as name, ByFile(name, seats, *words) as server:
+            seats[place].accept().leads(1)
+            assert server.word(b"isro") == b"rw"
+
+
+def test_where_followers_serve_observers():
+    """Their port goes before each quorum port, unless it isn't above 0, or an option names the servers."""
+    servers = ("server.7=zk1:2888:3888", "server.8=[::1]:2889:3889|zk3:2890:3890", "server.9=zk4:2888:3888:observer")
+    quorum = "zk1:2888,[::1]:2889,zk3:2890"
+    masters = "zk1:2191,[::1]:2191,zk3:2191"
+    for line, words, wanted in (
+        ("observerMasterPort=2191", [], f"--servers {masters},{quorum}"),
+        ("observerMasterPort=+2191", [], f"--servers {masters},{quorum}"),
+        ("observerMasterPort=2191", ["--leader-only"], f"--servers {quorum}"),
+        ("observerMasterPort=2191", ["--servers", "zk5:1"], "--servers zk5:1"),
+        ("observerMasterPort=2191", ["--leader", "zk5:1"], "--leader zk5:1"),
+        ("observerMasterPort=0", [], f"--servers {quorum}"),
+        ("observerMasterPort=-2147483648", [], f"--servers {quorum}"),
+        ("", ["--leader-only"], f"--servers {quorum}"),
+    ):
+        with file_of(text_of(*servers, line)) as name:
+            status, out, told = commands.run("--check-config", name, *words)
+        assert (status, told) == (0, ""), (line, words, status, told)
+        assert out.startswith(f"observer serve {wanted} --client "), (line, words, out)
+
+
+def test_more_places_than_are_tried():
+    """With the port of followers there are twice as many."""
+    servers = [f"server.{it}=zk{it}:2888:3888" for it in range(2, 35)]
+    key = "observerMasterPort=2191"
+    for line, words, wanted in (("", [], 0), (key, [], 2), (key, ["--leader-only"], 0)):
+        with file_of(text_of(*servers, line)) as name:
+            status, _, told = commands.run("--check-config", name, *words)
+        assert status == wanted, (line, words, status, told)
+        assert not wanted or ": 1 to 64 of HOST:PORT" in told, told
 
 
 def test_an_option_wins():
@@ -144,6 +185,10 @@ BAD = [
     ("server.9=zk1", "11: server.N="),
     ("server.9=::1:2888:3888", "11: server.N="),
     ("server.9=zk1:2888:3888:Observer|zk2:2888:3888:participant", "11: server.N="),
+    ("observerMasterPort=65536", "11: observerMasterPort=PORT, from 1 to 65535"),
+    ("observerMasterPort=", "11: observerMasterPort=PORT, from 1 to 65535"),
+    ("observerMasterPort=-2147483649", "11: observerMasterPort=PORT, from 1 to 65535"),
+    ("observerMasterPort=2191,zk1:2191", "11: observerMasterPort=PORT, from 1 to 65535"),
     ("tickTime=0", " --tick 0: 1 to 3600000"),
     ("minSessionTimeout=0", " --min-session-timeout 0: 1 to 2147483647"),
     ("minSessionTimeout=40001", " --min-session-timeout 40001 is above --max-session-timeout 40000"),

@@ -27,7 +27,7 @@ from typing import Dict, List, NamedTuple, Optional, Tuple
 
 sys.dont_write_bytecode = True
 from server import Program  # noqa: E402
-from zoo_cfg import PROMETHEUS, SILENT_PROVIDERS, WORDS, checked, untold  # noqa: E402
+from zoo_cfg import LEADER_ONLY, PROMETHEUS, SILENT_PROVIDERS, WORDS, checked, untold  # noqa: E402
 
 COUNT, SECONDS = 300, 20
 FILE, DYNAMIC, MYID = "zoo.cfg", "zoo.cfg.dynamic", "data/myid"
@@ -52,6 +52,10 @@ NUMBERS = {
     "maxClientCnxns": (("0", "1", "60", "100000", "00", "-0", "-5", "+060"), ("", "many", "++1")),
     "maxCnxns": (("0", "1", "60", "100000", "000", "-1", "+7"), ("", "0x10", "-")),
     "clientPort": (("2181", "65535", "02181", "+2181"), ("65536", "", "-1", "client", "+")),
+    "observerMasterPort": (
+        ("1", "2191", "65535", "+2191", "02191", "0", "+0", "-0", "-1", "-2147483648"),
+        ("65536", "", "-2147483649", "++2191", "+-1", "x", "2191,zk1:2191"),
+    ),
 }
 IDLE = {
     "peerType": ("observer", "participant"), "standaloneEnabled": ("false", "true"), "electionAlg": ("3",),
@@ -67,7 +71,7 @@ IDLE = {
     "quorum.auth.enableSasl": ("false",), "quorum.auth.learnerRequireSasl": ("false",),
 }
 NOT_HEEDED = {
-    "observerMasterPort": ("2191",), "skipACL": ("yes", "no"), "globalOutstandingLimit": ("1000",),
+    "skipACL": ("yes", "no"), "globalOutstandingLimit": ("1000",),
     "reconfigEnabled": ("true", "", "FALSE"), "metricsProvider.exportJvmInfo": ("true",),
     "metricsProvider.httpsPort": ("7001",), "metricsProvider.className": ("org.example.Provider", ""),
 }
@@ -114,14 +118,18 @@ class Made(NamedTuple):
 
 
 class Drawn(NamedTuple):
-    """The files of a seed by their names, each as its lines, options with their values, and the files' encoding."""
+    """The files of a seed by their names, each as its lines, options with their values, of which one has none, and the
+    files' encoding."""
 
     files: Dict[str, List[str]]
-    options: Dict[str, str]
+    options: Dict[str, Optional[str]]
     encoding: str
 
     def text(self, name):
         return "".join(self.files[name]) if name in self.files else None
+
+    def words(self):
+        return [word for option in self.options.items() for word in option if word is not None]
 
 
 def server_value(chance, roles=None, clients=("", "", *CLIENTS)):
@@ -207,6 +215,8 @@ def drawn_entries(chance, has_port):
     if chance.randrange(3) == 0:
         found.append(("clientPortAddress", chance.choice(ADDRESSES)))
     if chance.randrange(2):
+        found.append(("observerMasterPort", chance.choice(NUMBERS["observerMasterPort"][0])))
+    if chance.randrange(2):
         found.append(("4lw.commands.whitelist", drawn_whitelist(chance)))
     if chance.randrange(3) == 0:
         found.append(("DigestAuthenticationProvider.superDigest", SUPER))
@@ -244,7 +254,7 @@ def drawn_options(chance):
         "--tick": "500", "--init-limit": "0", "--sync-limit": "7", "--max-per-address": "9", "--max-clients": "99",
         "--id": chance.choice((str(OWN), "9", "250")), "--client": chance.choice(("0", "[::1]:2181")),
         "--words": chance.choice(("all", "none", "ruok,mntr")), "--metrics": "127.0.0.1:0",
-        "--super-digest": "x" + SUPER[5:],
+        "--super-digest": "x" + SUPER[5:], LEADER_ONLY: None,
     }
     found.update([chance.choice((("--leader", "zk9:2888"), ("--servers", "zk9:2888,[::9]:2889")))])
     return {it: found[it] for it in chance.sample(sorted(found), chance.choice((1, 1, 2, 3)))}
@@ -344,9 +354,8 @@ def told(program, room, one):
                 it.write(one.text(name))
         elif os.path.exists(path):
             os.remove(path)
-    words = [word for option in one.options.items() for word in option]
     ran = subprocess.run(
-        [program, "serve", *words, "--check-config", FILE], cwd=room, stdin=subprocess.DEVNULL, capture_output=True,
+        [program, "serve", *one.words(), "--check-config", FILE], cwd=room, stdin=subprocess.DEVNULL, capture_output=True,
         timeout=SECONDS, encoding="utf-8",
     )
     return ran.returncode, ran.stdout, ran.stderr
@@ -379,7 +388,7 @@ def show(one):
         print(f"  {name}:")
         for line in lines:
             print(f"    {line!r}")
-    print(f"  {' '.join(word for option in one.options.items() for word in option)}", flush=True)
+    print(f"  {' '.join(one.words())}", flush=True)
 
 
 def compare(program, seeds):

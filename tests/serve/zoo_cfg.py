@@ -101,9 +101,9 @@ def address(text):
 
 
 def places(text):
-    """Returns the places between commas in one order, or None if one of these is none, or there are too many."""
+    """Returns the places between commas, or None if one of these is none, or there are too many."""
     found = [place(it) for it in text.split(",")]
-    return None if None in found or len(found) > 64 else sorted(found)
+    return None if None in found or len(found) > 64 else found
 
 
 def words(text):
@@ -145,6 +145,7 @@ def at(host, port):
 TLS, SASL = "there is no TLS here", "there are no SASL"
 ESCAPE, SESSIONS = "escapes aren't read", "there are no local sessions"
 SERVER, VOTES = "server.N=", "this server votes"
+PORT = "observerMasterPort=PORT"
 # Keys, and how keys begin, that are refused whatever their value is; and those that are unless it is `false`.
 REFUSED = {
     TLS: (("secureClientPort", "secureClientPortAddress"), ("ssl.",)),
@@ -172,15 +173,15 @@ BY_KEY = {
 # Of these, a number that isn't above 0 is any number, for which there is no option; of those, -1 is as without the key.
 UNBOUNDED = ("maxClientCnxns", "maxCnxns")
 BY_TICKS = {"--min-session-timeout": 2, "--max-session-timeout": 20}
-SUPER = "DigestAuthenticationProvider.superDigest"
+SUPER, MASTER = "DigestAuthenticationProvider.superDigest", "observerMasterPort"
 HEEDED = (
-    *BY_KEY, SUPER, "dynamicConfigFile", "dataDir", "clientPort", "clientPortAddress", "4lw.commands.whitelist",
+    *BY_KEY, SUPER, MASTER, "dynamicConfigFile", "dataDir", "clientPort", "clientPortAddress", "4lw.commands.whitelist",
     "metricsProvider.httpHost", "metricsProvider.httpPort",
 )
 PROMETHEUS = "org.apache.zookeeper.metrics.prometheus.PrometheusMetricsProvider"
 # Providers that serve nothing, here as there.
 SILENT_PROVIDERS = tuple(f"org.apache.zookeeper.metrics.impl.{it}MetricsProvider" for it in ("Default", "Null"))
-NOT_HEEDED = (("observerMasterPort", "skipACL", "globalOutstandingLimit"), ("metricsProvider.",))
+NOT_HEEDED = (("skipACL", "globalOutstandingLimit"), ("metricsProvider.",))
 # Those of voters, elections and files; and what is off.
 IDLE = (
     (
@@ -195,6 +196,8 @@ UNSET = (
     "--dialect", "--workers", "--batch", "--checkpoint", "--max-under-way", "--max-watches", "--unconnected",
 )
 SET = ("--servers", "--client", "--id", "--words", "--metrics", "--super-digest", *(option for option, _ in BY_KEY.values()))
+# What stands on a command line alone, and is told by what it does.
+LEADER_ONLY = "--leader-only"
 # The last line of standard error, by the status.
 LAST_WORDS = {2: "usage", 3: "cannot open"}
 
@@ -212,6 +215,15 @@ def reasons(entry):
     yield from (reason for reason, keys in REFUSED.items() if is_among(key, keys))
     if key in REFUSED_UNLESS_FALSE and value != "false":
         yield REFUSED_UNLESS_FALSE[key]
+    if key == MASTER and master_port(value) is None:
+        yield PORT
+
+
+def master_port(text):
+    """Returns the port at which followers serve observers, or 0 if the text says that they don't; None if it's wrong."""
+    if re.fullmatch("-[0-9]+", text):
+        return 0 if int(text) >= -(2**31) else None
+    return number(plain(text), 0, 65535)
 
 
 def meaning(entry):
@@ -247,7 +259,7 @@ class Server(NamedTuple):
     is_right: bool
     id: int
     is_observer: bool
-    quorum: List[str]
+    quorum: List[Tuple[str, str]]
     client: str
 
 
@@ -255,12 +267,12 @@ HOST = r"(\[[^\]]+\]|[^:\[][^:]*)"
 
 
 def address_of(text):
-    """Returns the quorum place and the role of HOST:PORT:PORT[:ROLE], or None if the text is none."""
+    """Returns the host, the quorum port and the role of HOST:PORT:PORT[:ROLE], or None if the text is none."""
     found = re.fullmatch(HOST + r":(\+?[0-9]+):(\+?[0-9]+)(?::(.*))?", text, re.S)
     if not found or None in [number(plain(it), 0, 65535) for it in (found[2], found[3])]:
         return None
     role = found[4] and found[4].strip().lower()
-    return (at(found[1], found[2]), role) if role in (None, "", "observer", "participant") else None
+    return (found[1], found[2], role) if role in (None, "", "observer", "participant") else None
 
 
 def client_of(text):
@@ -275,9 +287,9 @@ def server_of(entry):
     front, _, client = entry.value.partition(";")
     own = number(plain(entry.key[len("server.") :]), 1, 255)
     addresses = [address_of(it) for it in front.split("|")]
-    roles = {it[1] for it in addresses if it} - {None, ""}
+    roles = {it[2] for it in addresses if it} - {None, ""}
     is_right = own is not None and None not in addresses and len(roles) < 2 and (not client or client_of(client))
-    quorum = [it[0] for it in addresses if it]
+    quorum = [it[:2] for it in addresses if it]
     return Server(bool(is_right), own, "observer" in roles, quorum, client_of(client) or "")
 
 
@@ -298,7 +310,9 @@ class Reading:
     """A file while it is read, with `options` over it. `read` returns the text of a file, or None if there is none."""
 
     def __init__(self, name, options, read):
-        self.name, self.options, self.read = name, options, read
+        self.name, self.read = name, read
+        self.is_leader_only = LEADER_ONLY in options
+        self.options = {option: text for option, text in options.items() if option != LEADER_ONLY}
         self.faults, self.filed = set(), {}
         self.entries = self.entries_in(name)
         self.values = {it.key: it.value for it in self.entries}
@@ -339,8 +353,11 @@ class Reading:
                 client = found.client
             elif not found.is_observer:
                 quorum += found.quorum
+        # A follower's port goes before all quorum ports.
+        master = None if self.is_leader_only else self.values.get(MASTER)
+        masters = [at(host, master) for host, _ in quorum] if master and master_port(master) else []
         if quorum:
-            self.filed["--servers"] = ",".join(quorum)
+            self.filed["--servers"] = ",".join([*masters, *(at(*it) for it in quorum)])
         return client
 
     def read_values(self, client):
@@ -368,9 +385,7 @@ class Reading:
             self.filed.pop("--servers", None)
         for option, text in self.filed.items():
             if option not in self.options and value_of(option, text) is None:
-                # The servers may be told in any order.
-                spelled = "" if option == "--servers" else f"{text}: "
-                self.faults.add((2, f"observer: {self.name}: {option} {spelled}"))
+                self.faults.add((2, f"observer: {self.name}: {option} {text}: "))
         found = {**self.filed, **self.options}
         for option, told in (("--id", "--id N"), ("--client", "--client [ADDRESS:]PORT")):
             if option not in found:

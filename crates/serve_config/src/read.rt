@@ -2,7 +2,8 @@
 
 use serve_failures::{Failure, Step};
 use serve_options::{
-    Filed, Given, Name, OptionError, Options, filed_by, given_by, options_over, value_given,
+    Filed, Given, Name, OptionError, Options, filed_by, given_by, has_option, options_over,
+    value_given,
 };
 use std::alloc::Global;
 use std::io::Read;
@@ -109,11 +110,15 @@ fn filed_in<R: Files>(
         Some(id) => Some(id.as_str()),
         None => None,
     };
+    let is_leader_only = has_option(words, "--leader-only");
     let (filed, name) = match value_in(entries, "dynamicConfigFile") {
-        None => (filed_by(alloc, entries, entries, id), name),
+        None => (filed_by(alloc, entries, entries, id, is_leader_only), name),
         Some(other) => {
             let listed = entries_in(rt, alloc, other)?;
-            (filed_by(alloc, entries, listed.as_slice(), id), other)
+            (
+                filed_by(alloc, entries, listed.as_slice(), id, is_leader_only),
+                other,
+            )
         }
     };
     match filed {

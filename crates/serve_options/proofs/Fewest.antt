@@ -36,11 +36,11 @@ one_more word i fewest before here k name below = by (eq-or-lt_of_le (omega arit
     by (inr less) = before k name less
 
 -- The edits to the name at a place, however its default is named.
-edits_at : (word : List ℕ) (i edits : ℕ) (d name : Name) → i < 31 → edits ≡ edits_to word (slice_index_or NAMES i d)
+edits_at : (word : List ℕ) (i edits : ℕ) (d name : Name) → i < 32 → edits ≡ edits_to word (slice_index_or NAMES i d)
     → edits ≡ edits_to word (slice_index_or NAMES i name)
 edits_at word i edits d name below is = is ∙ ap (edits_to word) (get_or_default NAMES i d name below)
 
-pub least_then : (word : List ℕ) (i fewest edits new : ℕ) (d : Name) → i < 31
+pub least_then : (word : List ℕ) (i fewest edits new : ℕ) (d : Name) → i < 32
     → edits ≡ edits_to word (slice_index_or NAMES i d) → new ≡ edits → edits < fewest → IsLeast word i fewest
     → IsLeast word (i + 1) new
 least_then word i fewest edits new d below is same less before =
@@ -49,7 +49,7 @@ least_then word i fewest edits new d below is same less before =
     (λ name.
     let h : edits ≡ edits_to word (slice_index_or NAMES i name) = edits_at word i edits d name below is in omega arith)
 
-pub least_else : (word : List ℕ) (i fewest edits new : ℕ) (d : Name) → i < 31
+pub least_else : (word : List ℕ) (i fewest edits new : ℕ) (d : Name) → i < 32
     → edits ≡ edits_to word (slice_index_or NAMES i d) → new ≡ fewest → fewest ≤ edits → IsLeast word i fewest
     → IsLeast word (i + 1) new
 least_else word i fewest edits new d below is same less before =
@@ -59,13 +59,13 @@ least_else word i fewest edits new d below is same less before =
     let h : edits ≡ edits_to word (slice_index_or NAMES i name) = edits_at word i edits d name below is in omega arith)
 
 -- Before the place of the name that is nearer than all so far no name is as near.
-less_before : (word : List ℕ) (i fewest edits new : ℕ) (d : Name) → i < 31 → new ≡ edits → edits < fewest
+less_before : (word : List ℕ) (i fewest edits new : ℕ) (d : Name) → i < 32 → new ≡ edits → edits < fewest
     → IsLeast word i fewest → IsLess word (name_place (slice_index_or NAMES i d)) new
 less_before word i fewest edits new d below same less before k name b =
     let at : name_place (slice_index_or NAMES i d) ≡ i = place_at i d below in
     let h : fewest ≤ edits_to word (slice_index_or NAMES k name) = before k name (omega arith) in omega arith
 
-pub fewest_then : (word : List ℕ) (old found : Option Name) (i fewest edits new : ℕ) (d : Name) → i < 31
+pub fewest_then : (word : List ℕ) (old found : Option Name) (i fewest edits new : ℕ) (d : Name) → i < 32
     → edits ≡ edits_to word (slice_index_or NAMES i d) → found ≡ Some (slice_index_or NAMES i d) → new ≡ edits
     → edits < fewest → IsLeast word i fewest → IsFewest word old fewest → IsFewest word found new
 fewest_then word old found i fewest edits new d below is near_is same less least before =
@@ -79,10 +79,10 @@ fewest_else word old found fewest new found_is same before =
     subst (λ (f : Option Name). IsFewest word f new) (sym found_is)
     (subst (λ (n : ℕ). IsFewest word old n) (sym same) before)
 
-pub all_names : (word : List ℕ) (i fewest : ℕ) → 31 ≤ i
+pub all_names : (word : List ℕ) (i fewest : ℕ) → 32 ≤ i
     → IsLeast word i fewest → (name : Name) → fewest ≤ edits_to word name
 all_names word i fewest all before name =
-    let below : name_place name < 31 = place_below name in
+    let below : name_place name < 32 = place_below name in
     subst (λ (n : Name). fewest ≤ edits_to word n) (name_at name) (before (name_place name) name (omega arith))
 
 pub nearest_is : (word : List ℕ) (found : Option Name) (fewest : ℕ) → IsFewest word found fewest

@@ -3,7 +3,7 @@ use Rattle.std.proofs.Common.{◌≡◌, ◌≢◌, ◌<◌, ◌+◌, ℕ, zero,
 use Rattle.std.specs.Prelude.{slice_index_or}
 use Rattle.std.proofs.Math.Nat.{eq-or-lt_of_le}
 use Rattle.serve_options.specs.declared.row.Name.{Name}
-use Rattle.serve_options.specs.declared.row.Name.TheVariants.{Config, CheckConfig, Leader, Servers, Client, Id, Dialect, Counter, SecretFile, SuperDigest, Workers, Batch, MaxClients, MaxPerAddress, MaxUnderWay, MaxWatches, Unconnected, Words, Tick, InitLimit, SyncLimit, MinSessionTimeout, MaxSessionTimeout, Checkpoint, GiveUp, Metrics, Record, Log, LogFormat, Help, Version}
+use Rattle.serve_options.specs.declared.row.Name.TheVariants.{Config, CheckConfig, Leader, Servers, LeaderOnly, Client, Id, Dialect, Counter, SecretFile, SuperDigest, Workers, Batch, MaxClients, MaxPerAddress, MaxUnderWay, MaxWatches, Unconnected, Words, Tick, InitLimit, SyncLimit, MinSessionTimeout, MaxSessionTimeout, Checkpoint, GiveUp, Metrics, Record, Log, LogFormat, Help, Version}
 use Rattle.serve_options.specs.declared.row.TheConstants.{NAMES}
 use Rattle.serve_options.specs.Places.{name_place}
 use Rattle.serve_options.specs.Rows.{option_word}
@@ -13,6 +13,7 @@ name_at Config = refl
 name_at CheckConfig = refl
 name_at Leader = refl
 name_at Servers = refl
+name_at LeaderOnly = refl
 name_at Client = refl
 name_at Id = refl
 name_at Dialect = refl
@@ -41,11 +42,12 @@ name_at LogFormat = refl
 name_at Help = refl
 name_at Version = refl
 
-pub place_below : (name : Name) → name_place name < 31
+pub place_below : (name : Name) → name_place name < 32
 place_below Config = lit< tt
 place_below CheckConfig = lit< tt
 place_below Leader = lit< tt
 place_below Servers = lit< tt
+place_below LeaderOnly = lit< tt
 place_below Client = lit< tt
 place_below Id = lit< tt
 place_below Dialect = lit< tt
@@ -86,7 +88,7 @@ placed_at (name ∷ names) first zero d are below = are.0 ∙ omega arith
 placed_at (name ∷ names) first (suc i) d are below =
     placed_at names (suc first) i d are.1 (omega arith) ∙ omega arith
 
-pub place_at : (i : ℕ) (d : Name) → i < 31 → name_place (slice_index_or NAMES i d) ≡ i
+pub place_at : (i : ℕ) (d : Name) → i < 32 → name_place (slice_index_or NAMES i d) ≡ i
 place_at i d below = placed_at NAMES 0 i d all below ∙ omega arith
   where
     all : ArePlaced 0 NAMES
@@ -146,7 +148,7 @@ place_at i d below = placed_at NAMES 0 i d all below ∙ omega arith
                                                           refl,
                                                           (
                                                             refl,
-                                                            (refl, (refl, (refl, tt))),
+                                                            (refl, (refl, (refl, (refl, tt)))),
                                                           ),
                                                         ),
                                                       ),

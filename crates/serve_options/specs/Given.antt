@@ -21,13 +21,13 @@ is_named name option = nat_eq (name_place option.name) (name_place name)
 abbrev pub given_of : Name → List Given → Option Given
 given_of name given = find (is_named name) given
 
-abbrev pub value_after : Name → Option Given → Option (List ℕ)
-value_after name None = option_default name
-value_after name (Some option) = option_map (λ text. text.now) option.value
+abbrev pub value_or_default : Name → Option Given → Option (List ℕ)
+value_or_default name None = option_default name
+value_or_default name (Some option) = option_map (λ text. text.now) option.value
 
 -- The value of an option as it is spelled: as it is given, or its default.
 abbrev pub value_of : Name → List Given → Option (List ℕ)
-value_of name given = value_after name (given_of name given)
+value_of name given = value_or_default name (given_of name given)
 
 -- Its number, if it is within the bounds of the option.
 abbrev pub number_given : Name → List Given → Option ℕ

@@ -1,5 +1,6 @@
 pub mod Commands
 pub mod Defaults
+pub mod Ensemble
 pub mod Filed
 pub mod Given
 pub mod Near

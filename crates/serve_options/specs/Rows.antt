@@ -1,7 +1,7 @@
 -- The options: the word of each, and what its value may be.
 use Rattle.std.specs.Prelude.{ℕ, ◌-◌, ◌^◌, ◌≤◌, List, codes}
 use Rattle.serve_options.specs.declared.row.Name.{Name}
-use Rattle.serve_options.specs.declared.row.Name.TheVariants.{Config, CheckConfig, Leader, Servers, Client, Id, Dialect, Counter, SecretFile, SuperDigest, Workers, Batch, MaxClients, MaxPerAddress, MaxUnderWay, MaxWatches, Unconnected, Words, Tick, InitLimit, SyncLimit, MinSessionTimeout, MaxSessionTimeout, Checkpoint, GiveUp, Metrics, Record, Log, LogFormat, Help, Version}
+use Rattle.serve_options.specs.declared.row.Name.TheVariants.{Config, CheckConfig, Leader, Servers, LeaderOnly, Client, Id, Dialect, Counter, SecretFile, SuperDigest, Workers, Batch, MaxClients, MaxPerAddress, MaxUnderWay, MaxWatches, Unconnected, Words, Tick, InitLimit, SyncLimit, MinSessionTimeout, MaxSessionTimeout, Checkpoint, GiveUp, Metrics, Record, Log, LogFormat, Help, Version}
 use Rattle.serve_options.specs.declared.row.Bounds.{Bounds}
 use Rattle.serve_options.specs.declared.row.Kind.{Kind}
 use Rattle.serve_options.specs.declared.row.Kind.TheVariants as kinds
@@ -11,6 +11,7 @@ option_word Config = codes "--config"
 option_word CheckConfig = codes "--check-config"
 option_word Leader = codes "--leader"
 option_word Servers = codes "--servers"
+option_word LeaderOnly = codes "--leader-only"
 option_word Client = codes "--client"
 option_word Id = codes "--id"
 option_word Dialect = codes "--dialect"
@@ -48,6 +49,7 @@ option_kind Config = kinds.File
 option_kind CheckConfig = kinds.File
 option_kind Leader = kinds.Address
 option_kind Servers = kinds.Addresses
+option_kind LeaderOnly = kinds.Nothing
 option_kind Client = kinds.Address
 option_kind Id = from_to 1 255
 option_kind Dialect = kinds.Release

@@ -450,7 +450,8 @@ fn file_in<'a>(given: &[Given<'a>]) -> Result<Option<ConfigFile<'a>>, OptionErro
     }
 }
 
-fn has(words: &[String], option: &str) -> bool
+/// Whether an option is among the words.
+pub fn has_option(words: &[String], option: &str) -> bool
     ensures { result ≡ is_among option.now (map string_bytes words.now) }
 {
     words.iter().any(|word| word.as_str() == option)
@@ -462,10 +463,10 @@ pub fn command_of<'a>(alloc: Global, words: &'a [String]) -> Result<Command<'a>,
     ensures asked { IfSome (command_asked (map string_bytes words.now)) (λ command. result ≡ Ok command) }
     ensures words { IfOk result (λ command. AreWordsOf command (map string_bytes words.now)) }
 {
-    if has(words, "--help") {
+    if has_option(words, "--help") {
         return Ok(Command::Help);
     }
-    if has(words, "--version") {
+    if has_option(words, "--version") {
         return Ok(Command::Version);
     }
     let given = given_in(alloc, words)?;

@@ -2,20 +2,19 @@
 
 ghost use Rattle.std.specs.Prelude.{◌≡◌, IfOk, map, filter, string_bytes, option_map};
 ghost use Rattle.serve_options.specs.Rows.{option_word};
-ghost use Rattle.serve_options.specs.Texts.{place_text};
 ghost use Rattle.serve_options.specs.Filed.{word_after, given_spelling, filed_spelling, counts_beside, filed_address, client_port, client_place, own_client, metrics_place};
 
+use crate::ensemble::{
+    own_server, place_text, servers_of, servers_text, tried_master, voter_addresses,
+};
 use crate::given::Given;
 use crate::row::Name;
-use crate::value::has_colon;
 use crate::words::is_word;
 use std::alloc::{AllocError, Global};
-use std::fmt;
 use texts::number_up_to;
 use zoo_config::{
-    BadLine, ClientPlace, ConfigError, Entry, Reason, Server, addresses_in, bare_host,
-    is_negative_up_to, server_in, serves_metrics, setting_in, value_in, voters_beside,
-    without_plus,
+    ClientPlace, ConfigError, Entry, Server, bare_host, is_negative_up_to, serves_metrics,
+    setting_in, value_in, without_plus,
 };
 
 /// An option that a file sets, and its value as it would be spelled.
@@ -94,97 +93,6 @@ fn whitelisted(alloc: Global, list: &str) -> Result<String, AllocError> {
     Ok(words)
 }
 
-// The servers of a file, each by the last line that has its key.
-fn servers_of<'a>(alloc: Global, entries: &'a [Entry]) -> Result<Vec<Server<'a>>, ConfigError> {
-    let mut servers = Vec::new(alloc);
-    let mut rest = entries;
-    while let Some((entry, others)) = rest.split_first() {
-        rest = others;
-        if value_in(rest, entry.key.as_str()).is_none() {
-            if let Some(server) = server_in(alloc, entry)? {
-                servers.push(server)?;
-            }
-        }
-    }
-    Ok(servers)
-}
-
-fn wrong(server: &Server<'_>, reason: Reason) -> ConfigError {
-    ConfigError::Bad(BadLine {
-        line: server.line,
-        reason,
-    })
-}
-
-// Appends the quorum ports of a server.
-fn put_quorum(alloc: Global, out: &mut String, server: &Server<'_>) -> Result<(), ConfigError> {
-    let addresses = addresses_in(alloc, server.addresses)?;
-    for address in addresses.as_slice() {
-        let Some(address) = address else {
-            return Err(wrong(server, Reason::Server));
-        };
-        if !out.as_str().is_empty() {
-            out.push_str(",")?;
-        }
-        let place = place_text(alloc, address.host, address.port)?;
-        out.push_str(place.as_str())?;
-    }
-    Ok(())
-}
-
-// The list of the servers that may lead.
-fn voters_text(alloc: Global, servers: &[Server<'_>], id: u64) -> Result<String, ConfigError> {
-    let mut out = String::new(alloc);
-    let voters = voters_beside(alloc, servers, id)?;
-    for server in voters.as_slice() {
-        put_quorum(alloc, &mut out, server)?;
-    }
-    Ok(out)
-}
-
-// This server among those of the file, where it has a line. It has to be an observer.
-fn own_server<'a>(servers: &[Server<'a>], id: u64) -> Result<Option<Server<'a>>, ConfigError> {
-    for server in servers {
-        if server.id == id {
-            if !server.is_observer {
-                return Err(wrong(server, Reason::Votes));
-            }
-            return Ok(Some(*server));
-        }
-    }
-    Ok(None)
-}
-
-// A host and a port. A host that has colons, as those of IPv6 have, is in brackets.
-#[derive(Clone, Copy)]
-struct Place<'a> {
-    host: &'a str,
-    port: &'a str,
-}
-
-impl<'a> fmt::Display for Place<'a> {
-    ghost use Rattle.std.specs.Prelude.{Some};
-    ghost use Rattle.serve_options.specs.Texts.{place_text};
-
-    ghost output = { λ place. Some (place_text place.host.now place.port.now) };
-
-    fn fmt<W: fmt::Write>(&self, f: &mut fmt::Formatter<W>) -> fmt::Result {
-        let Place { host, port } = self;
-        if has_colon(host) {
-            write!(f, "[{host}]:{port}")
-        } else {
-            write!(f, "{host}:{port}")
-        }
-    }
-}
-
-fn place_text(alloc: Global, host: &str, port: &str) -> Result<String, AllocError>
-    ensures { IfOk result (λ text. string_bytes text ≡ place_text host.now port.now) }
-{
-    let place = Place { host, port };
-    format!(in alloc; "{place}")
-}
-
 // An address and a port; all addresses where none is named, as ZooKeeper does.
 fn address_text(alloc: Global, address: Option<&str>, port: &str) -> Result<String, AllocError>
     ensures { IfOk result (λ text.
@@ -244,13 +152,14 @@ fn metrics_of(alloc: Global, entries: &[Entry]) -> Result<Option<String>, AllocE
 }
 
 /// The options that a file sets: its entries, and beside them those of its `dynamicConfigFile`. The id is the one that
-/// is given, or that `myid` has. Fails if the line of a server is wrong, or says that this server votes, or if an
-/// allocation is refused.
+/// is given, or that `myid` has. Beside `--leader-only` no port of followers is tried. Fails if the line of a server is
+/// wrong, or says that this server votes, or if an allocation is refused.
 pub fn filed_by(
     alloc: Global,
     entries: &[Entry],
     listed: &[Entry],
     id: Option<&str>,
+    is_leader_only: bool,
 ) -> Result<Vec<Filed>, ConfigError> {
     let mut filed = Vec::new(alloc);
     let number = match id {
@@ -259,9 +168,11 @@ pub fn filed_by(
     };
     let servers = servers_of(alloc, listed)?;
     let own = own_server(servers.as_slice(), number)?;
-    let voters = voters_text(alloc, servers.as_slice(), number)?;
-    if !voters.as_str().is_empty() {
-        put(&mut filed, Name::Servers, voters)?;
+    let voters = voter_addresses(alloc, servers.as_slice(), number)?;
+    if !voters.is_empty() {
+        let master = tried_master(entries, is_leader_only);
+        let tried = servers_text(alloc, voters.as_slice(), master)?;
+        put(&mut filed, Name::Servers, tried)?;
     }
     if let Some(client) = client_of(alloc, entries, own)? {
         put(&mut filed, Name::Client, client)?;

@@ -16,6 +16,7 @@
 #![tactic(auto)]
 
 mod command;
+mod ensemble;
 mod error;
 mod filed;
 mod given;
@@ -25,7 +26,7 @@ mod row;
 mod value;
 mod words;
 
-pub use command::{Command, ConfigFile, Options, Servers, command_of, options_over};
+pub use command::{Command, ConfigFile, Options, Servers, command_of, has_option, options_over};
 pub use error::OptionError;
 pub use filed::{Filed, filed_by, given_by, value_given};
 pub use given::Given;

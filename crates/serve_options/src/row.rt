@@ -15,6 +15,7 @@ pub enum Name {
     CheckConfig,
     Leader,
     Servers,
+    LeaderOnly,
     Client,
     Id,
     Dialect,
@@ -45,11 +46,12 @@ pub enum Name {
 }
 
 /// The options, in the order in which help lists them.
-pub const NAMES: [Name; 31] = [
+pub const NAMES: [Name; 32] = [
     Name::Config,
     Name::CheckConfig,
     Name::Leader,
     Name::Servers,
+    Name::LeaderOnly,
     Name::Client,
     Name::Id,
     Name::Dialect,
@@ -204,6 +206,14 @@ const SERVERS: Row = Row {
     kind: Kind::Addresses,
     without: Without::Meaning("a leader is given in place of it"),
     help: "where each server that may lead listens for its learners; the leader is looked for among them, again and again",
+};
+
+const LEADER_ONLY: Row = Row {
+    word: "--leader-only",
+    value: "",
+    kind: Kind::Nothing,
+    without: Without::Nothing,
+    help: "passes over `observerMasterPort`, so that no follower is tried; means nothing unless the file of `--config` has that key",
 };
 
 const CLIENT: Row = Row {
@@ -425,11 +435,12 @@ const VERSION: Row = Row {
 };
 
 /// The rows of all options, in the order of [`NAMES`].
-pub(crate) static ROWS: [Row; 31] = [
+pub(crate) static ROWS: [Row; 32] = [
     CONFIG,
     CHECK_CONFIG,
     LEADER,
     SERVERS,
+    LEADER_ONLY,
     CLIENT,
     ID,
     DIALECT,
@@ -460,7 +471,7 @@ pub(crate) static ROWS: [Row; 31] = [
 ];
 
 // The row of an option in a table.
-fn row_in(rows: &[Row; 31], name: Name) -> Row
+fn row_in(rows: &[Row; 32], name: Name) -> Row
     ensures { IsOptionTable rows.now → row_said result ≡ option_said name }
 {
     rows[name.place()]
@@ -470,7 +481,7 @@ impl Name {
     // The place of the option among all.
     fn place(self) -> usize
         ensures place { result ≡ name_place self }
-        ensures bound { result < 31 }
+        ensures bound { result < 32 }
     {
         self as usize
     }

@@ -3,10 +3,13 @@ use Rattle.std.specs.Prelude.{ℕ, ◌==◌, ◌||◌, ◌&&◌, not, List, [], 
 use Rattle.std.specs.List.{list_any, starts_with}
 use Rattle.std.specs.Option.{option_map, unwrap_or}
 use Rattle.std.specs.Str.{bytes_eq}
+use Rattle.values.specs.Maybe.{◌>>=◌}
+use Rattle.texts.specs.Number.{number_up_to}
+use Rattle.zoo_config.specs.Addresses.{is_negative_up_to, port_in}
 use Rattle.zoo_config.specs.declared.form.Entry.{Entry}
 use Rattle.zoo_config.specs.declared.error.BadLine.{BadLine}
 use Rattle.zoo_config.specs.declared.error.Reason.{Reason}
-use Rattle.zoo_config.specs.declared.error.Reason.TheVariants.{Escape, Tls, Sasl, LocalSessions}
+use Rattle.zoo_config.specs.declared.error.Reason.TheVariants.{Escape, Tls, Sasl, LocalSessions, MasterPort}
 use Rattle.zoo_config.specs.declared.key.Meaning.{Meaning}
 use Rattle.zoo_config.specs.declared.key.Meaning.TheVariants.{Taken, Idle, Unheeded, Unknown, Refused}
 
@@ -41,13 +44,21 @@ asks_for_sasl key value =
     begins_as_one_of (codes "authProvider" ∷ codes "enforce.auth." ∷ codes "kerberos." ∷ []) key
     || bytes_eq key (codes "requireClientAuthScheme") || (is_sasl_switch key && not (is_off value))
 
+-- Followers serve observers at a port. A number that isn't above zero stands for none.
+abbrev pub is_master_port : List ℕ → Bool
+is_master_port value = is_some (port_in value) || is_negative_up_to 2147483648 value
+
+abbrev pub has_wrong_port : List ℕ → List ℕ → Bool
+has_wrong_port key value = bytes_eq key (codes "observerMasterPort") && not (is_master_port value)
+
 abbrev pub reason_of : List ℕ → List ℕ → Option Reason
 reason_of key value =
     if has_escape key || has_escape value then Some Escape
     else (if asks_for_tls key value then Some Tls
     else (if asks_for_sasl key value then Some Sasl
     else (if bytes_eq key (codes "localSessionsEnabled") && not (is_off value) then Some LocalSessions
-    else None)))
+    else (if has_wrong_port key value then Some MasterPort
+    else None))))
 
 -- ---- what is heeded
 
@@ -55,9 +66,10 @@ abbrev pub is_taken : List ℕ → Bool
 is_taken key =
     starts_with nat_eq key (codes "server.")
     || is_one_of
-    (codes "dynamicConfigFile" ∷ codes "dataDir" ∷ codes "clientPort" ∷ codes "clientPortAddress" ∷ codes "tickTime"
-    ∷ codes "initLimit" ∷ codes "syncLimit" ∷ codes "minSessionTimeout" ∷ codes "maxSessionTimeout"
-    ∷ codes "maxClientCnxns" ∷ codes "maxCnxns" ∷ codes "4lw.commands.whitelist"
+    (codes "dynamicConfigFile" ∷ codes "dataDir" ∷ codes "clientPort" ∷ codes "clientPortAddress"
+    ∷ codes "observerMasterPort" ∷ codes "tickTime" ∷ codes "initLimit" ∷ codes "syncLimit"
+    ∷ codes "minSessionTimeout" ∷ codes "maxSessionTimeout" ∷ codes "maxClientCnxns" ∷ codes "maxCnxns"
+    ∷ codes "4lw.commands.whitelist"
     ∷ codes "DigestAuthenticationProvider.superDigest" ∷ [])
     key
 
@@ -83,9 +95,7 @@ sets_metrics key value =
 abbrev pub is_unheeded : List ℕ → Bool
 is_unheeded key =
     starts_with nat_eq key (codes "metricsProvider.")
-    || is_one_of
-    (codes "observerMasterPort" ∷ codes "skipACL" ∷ codes "globalOutstandingLimit" ∷ [])
-    key
+    || is_one_of (codes "skipACL" ∷ codes "globalOutstandingLimit" ∷ []) key
 
 abbrev pub asks_for_reconfiguration : List ℕ → List ℕ → Bool
 asks_for_reconfiguration key value = bytes_eq key (codes "reconfigEnabled") && not (is_off value)
@@ -172,3 +182,12 @@ serves_metrics entries =
 
 abbrev pub setting_in : List ℕ → List Entry → Option (List ℕ)
 setting_in key entries = or_default key (value_in key entries)
+
+-- ---- where followers serve observers
+
+abbrev pub unless_zero : List ℕ → Option (List ℕ)
+unless_zero port = if is_some (number_up_to 0 port) then None else Some port
+
+-- The port for it, if a file has one: 0 is none, and a number below it is no port.
+abbrev pub master_port : List Entry → Option (List ℕ)
+master_port entries = value_in (codes "observerMasterPort") entries >>= port_in >>= unless_zero

@@ -2,12 +2,14 @@
 
 ghost use Rattle.std.specs.Prelude.{◌≡◌, IfOk, None, Some, Err, option_map};
 ghost use Rattle.zoo_config.specs.Form.{entries_of};
-ghost use Rattle.zoo_config.specs.Keys.{first_refused, value_in, key_default, setting_in, serves_metrics};
+ghost use Rattle.zoo_config.specs.Keys.{first_refused, value_in, key_default, setting_in, serves_metrics, master_port};
 
+use crate::address::port_in;
 use crate::error::{BadLine, ConfigError};
 use crate::form::{Entry, entries_of};
 use crate::key::{is_prometheus, reason_of};
 use std::alloc::Global;
+use texts::number_up_to;
 
 // The first entry that is refused.
 fn first_refused(entries: &[Entry]) -> Option<BadLine>
@@ -94,4 +96,16 @@ pub fn serves_metrics(entries: &[Entry]) -> bool
         Some(class) => is_prometheus(class),
         None => false,
     }
+}
+
+/// The port at which followers serve observers, without a plus, if entries have one. A number that isn't above zero is
+/// as without the key.
+pub fn master_port(entries: &[Entry]) -> Option<&str>
+    ensures { option_map (λ port. port.now) result ≡ master_port entries.now }
+{
+    let port = port_in(value_in(entries, "observerMasterPort")?)?;
+    if number_up_to(0, port.as_bytes()).is_some() {
+        return None;
+    }
+    Some(port)
 }

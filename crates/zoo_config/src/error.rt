@@ -15,6 +15,8 @@ pub enum Reason {
     Tls,
     Sasl,
     LocalSessions,
+    /// The port of followers that serve observers isn't one.
+    MasterPort,
     /// A line of a server isn't what it may be.
     Server,
     /// The line of this server doesn't say that it is an observer.
@@ -28,6 +30,9 @@ impl fmt::Display for Reason {
             Reason::Tls => f.write_str("there is no TLS here"),
             Reason::Sasl => f.write_str("there are no SASL and no such authentication here"),
             Reason::LocalSessions => f.write_str("there are no local sessions here"),
+            Reason::MasterPort => f.write_str(
+                "observerMasterPort=PORT, from 1 to 65535; 0 or less: as without the key",
+            ),
             Reason::Server => f.write_str(
                 "server.N=HOST:PORT:PORT[:observer][;[ADDRESS:]PORT], N from 1 to 255, and IPv6 in brackets",
             ),

@@ -2,8 +2,9 @@
 
 ghost use Rattle.std.specs.Prelude.{◌≡◌, ◌==◌, nat_eq, map, position};
 ghost use Rattle.std.specs.List.{starts_with};
-ghost use Rattle.zoo_config.specs.Keys.{is_one_of, begins_as_one_of, is_off, has_escape, asks_for_tls, is_sasl_switch, asks_for_sasl, reason_of, is_taken, is_prometheus, is_provider, sets_metrics, is_unheeded, asks_for_reconfiguration, is_of_servers, is_of_files, is_switched_off, meaning_of, meaning_with};
+ghost use Rattle.zoo_config.specs.Keys.{is_one_of, begins_as_one_of, is_off, has_escape, asks_for_tls, is_sasl_switch, asks_for_sasl, is_master_port, has_wrong_port, reason_of, is_taken, is_prometheus, is_provider, sets_metrics, is_unheeded, asks_for_reconfiguration, is_of_servers, is_of_files, is_switched_off, meaning_of, meaning_with};
 
+use crate::address::{is_negative_up_to, port_in};
 use crate::error::Reason;
 use std::fmt;
 
@@ -40,11 +41,12 @@ const SASL_SWITCHES: [&str; 4] = [
     "sessionRequireClientSASLAuth",
 ];
 
-const TAKEN: [&str; 13] = [
+const TAKEN: [&str; 14] = [
     "dynamicConfigFile",
     "dataDir",
     "clientPort",
     "clientPortAddress",
+    "observerMasterPort",
     "tickTime",
     "initLimit",
     "syncLimit",
@@ -56,7 +58,7 @@ const TAKEN: [&str; 13] = [
     "DigestAuthenticationProvider.superDigest",
 ];
 
-const UNHEEDED: [&str; 3] = ["observerMasterPort", "skipACL", "globalOutstandingLimit"];
+const UNHEEDED: [&str; 2] = ["skipACL", "globalOutstandingLimit"];
 
 const SERVER_FRONTS: [&str; 4] = ["group.", "weight.", "observer.", "multiAddress."];
 
@@ -91,6 +93,8 @@ const SWITCHES: [&str; 3] = [
     "sessionRequireClientSASLAuth",
     "localSessionsEnabled",
 ];
+
+const MOST_NEGATIVE: u64 = 2_147_483_648;
 
 fn begins(text: &str, front: &str) -> bool
     ensures { result ≡ starts_with nat_eq text.now front.now }
@@ -163,6 +167,19 @@ fn asks_for_sasl(key: &str, value: &str) -> bool
         || (is_sasl_switch(key) && !is_off(value))
 }
 
+// Whether a value is a port, or a number that isn't above zero, which stands for none.
+fn is_master_port(value: &str) -> bool
+    ensures { result ≡ is_master_port value.now }
+{
+    port_in(value).is_some() || is_negative_up_to(MOST_NEGATIVE, value)
+}
+
+fn has_wrong_port(key: &str, value: &str) -> bool
+    ensures { result ≡ has_wrong_port key.now value.now }
+{
+    key == "observerMasterPort" && !is_master_port(value)
+}
+
 /// Why a key with this value is refused: it asks for security or sessions that aren't here, or can't be read. Returns
 /// None if it isn't refused.
 pub(crate) fn reason_of(key: &str, value: &str) -> Option<Reason>
@@ -179,6 +196,9 @@ pub(crate) fn reason_of(key: &str, value: &str) -> Option<Reason>
     }
     if key == "localSessionsEnabled" && !is_off(value) {
         return Some(Reason::LocalSessions);
+    }
+    if has_wrong_port(key, value) {
+        return Some(Reason::MasterPort);
     }
     None
 }

@@ -26,7 +26,7 @@ mod server;
 pub use address::{
     ServerAddress, ServerRole, addresses_in, bare_host, is_negative_up_to, without_plus,
 };
-pub use config::{parse, serves_metrics, setting_in, value_in};
+pub use config::{master_port, parse, serves_metrics, setting_in, value_in};
 pub use error::{BadLine, ConfigError, Reason};
 pub use form::{Entry, entries_of, text_of};
 pub use key::{Meaning, meaning_of};

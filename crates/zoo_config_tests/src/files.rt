@@ -5,10 +5,18 @@ use std::alloc::Global;
 use std::test::Fail;
 use zoo_config::{BadLine, ConfigError, Reason, parse};
 
-// What is wrong with a file for the server of this id, or the options that it sets.
-fn options_of(alloc: Global, text: &str, id: &str) -> Result<Result<String, BadLine>, Fail> {
+// What is wrong with a file for the server of this id, or the options that it sets, beside `--leader-only` or not.
+fn options_beside(
+    alloc: Global,
+    text: &str,
+    id: &str,
+    is_leader_only: bool,
+) -> Result<Result<String, BadLine>, Fail> {
     let filed = match parse(alloc, text) {
-        Ok(entries) => filed_by(alloc, entries.as_slice(), entries.as_slice(), Some(id)),
+        Ok(entries) => {
+            let entries = entries.as_slice();
+            filed_by(alloc, entries, entries, Some(id), is_leader_only)
+        }
         Err(error) => Err(error),
     };
     let filed = match filed {
@@ -23,6 +31,10 @@ fn options_of(alloc: Global, text: &str, id: &str) -> Result<Result<String, BadL
         write!(out, "{name} {value};")?;
     }
     Ok(Ok(out))
+}
+
+fn options_of(alloc: Global, text: &str, id: &str) -> Result<Result<String, BadLine>, Fail> {
+    options_beside(alloc, text, id, false)
 }
 
 // Whether the file sets these options.
@@ -201,6 +213,66 @@ fn servers_are_those_of_zookeeper(rt: HostRuntime) -> Result<(), Fail> {
     Ok(())
 }
 
+// The ensemble of a file, whose lines after these may have the port of followers.
+const ENSEMBLE: &str = "clientPort=1
+server.1=zk1:2888:3888:participant;2181
+server.2=[fe80::2]:2889:3889|zk2:2890:3890
+server.3=zk3:2888:3888:observer
+server.101=here:2888:3888:observer
+";
+
+// The servers that the ensemble's file with this line has tried, beside `--leader-only` or not.
+fn ensemble_tries(
+    alloc: Global,
+    line: &str,
+    is_leader_only: bool,
+    wanted: &str,
+) -> Result<bool, Fail> {
+    let text = format!(in alloc; "{ENSEMBLE}{line}\n")?;
+    let wanted = format!(in alloc;
+        "--servers {wanted};--client 0.0.0.0:1;--id 101;--tick 3000;--max-per-address 60;--words srvr;"
+    )?;
+    match options_beside(alloc, text.as_str(), "101", is_leader_only)? {
+        Ok(found) => Ok(found.as_str() == wanted.as_str()),
+        Err(_) => Ok(false),
+    }
+}
+
+#[test]
+fn followers_are_tried_before_the_leader(rt: HostRuntime) -> Result<(), Fail> {
+    let alloc = rt.alloc();
+    let quorum = "zk1:2888,[fe80::2]:2889,zk2:2890";
+    let masters = "zk1:2191,[fe80::2]:2191,zk2:2191,zk1:2888,[fe80::2]:2889,zk2:2890";
+    let with_zero = "zk1:02191,[fe80::2]:02191,zk2:02191,zk1:2888,[fe80::2]:2889,zk2:2890";
+    for (line, wanted) in [
+        ("", quorum),
+        ("observerMasterPort=2191", masters),
+        ("observerMasterPort = +2191", masters),
+        ("observerMasterPort=+02191", with_zero),
+        ("observerMasterPort=0", quorum),
+        ("observerMasterPort=-1", quorum),
+        ("observerMasterPort=2192\nobserverMasterPort=2191", masters),
+        ("observerMasterPort=2191\nobserverMasterPort=0", quorum),
+    ] {
+        assert!(rt; ensemble_tries(alloc, line, false, wanted)?, "{line}");
+        assert!(rt; ensemble_tries(alloc, line, true, quorum)?, "{line}");
+    }
+    Ok(())
+}
+
+#[test]
+fn followers_are_not_tried_where_no_server_may_lead(rt: HostRuntime) -> Result<(), Fail> {
+    let alloc = rt.alloc();
+    assert!(rt;
+        sets(
+            alloc,
+            "observerMasterPort=2191\nserver.3=zk3:2888:3888:observer\nserver.101=here:2888:3888:observer\n",
+            "--id 101;--tick 3000;--max-per-address 60;--words srvr;",
+        )?
+    );
+    Ok(())
+}
+
 #[test]
 fn numbers_are_read_as_java_reads_them(rt: HostRuntime) -> Result<(), Fail> {
     let alloc = rt.alloc();
@@ -337,7 +409,7 @@ fn servers_are_left_out_beside_a_leader(rt: HostRuntime) -> Result<(), Fail> {
         Err(_) => return Err(Fail::from("refused")),
     };
     let entries = entries.as_slice();
-    let Ok(filed) = filed_by(alloc, entries, entries, Some("101")) else {
+    let Ok(filed) = filed_by(alloc, entries, entries, Some("101"), false) else {
         return Err(Fail::from("refused"));
     };
     let beside = given_by(alloc, filed.as_slice(), true)?;

@@ -3,7 +3,8 @@
 use std::alloc::Global;
 use std::test::Fail;
 use zoo_config::{
-    BadLine, ConfigError, Meaning, Reason, entries_of, meaning_of, parse, text_of, value_in,
+    BadLine, ConfigError, Meaning, Reason, entries_of, master_port, meaning_of, parse, text_of,
+    value_in,
 };
 
 // The entries of a text, each as LINE:KEY=VALUE and a semicolon.
@@ -98,6 +99,64 @@ fn what_would_drop_security_is_refused(rt: HostRuntime) -> Result<(), Fail> {
 }
 
 #[test]
+fn a_port_of_followers_is_one_or_none(rt: HostRuntime) -> Result<(), Fail> {
+    let alloc = rt.alloc();
+    for (value, wanted) in [
+        ("2191", Some("2191")),
+        ("1", Some("1")),
+        ("65535", Some("65535")),
+        ("+02191", Some("02191")),
+        ("0", None),
+        ("00", None),
+        ("+0", None),
+        ("-0", None),
+        ("-1", None),
+        ("-2147483648", None),
+    ] {
+        let text = format!(in alloc; "observerMasterPort={value}")?;
+        let Ok(entries) = parse(alloc, text.as_str()) else {
+            return Err(Fail::from("refused"));
+        };
+        assert!(rt; master_port(entries.as_slice()) == wanted, "{value}");
+    }
+    let entries = entries_of(alloc, "tickTime=2191")?;
+    assert!(rt; master_port(entries.as_slice()).is_none());
+    Ok(())
+}
+
+#[test]
+fn a_wrong_port_of_followers_is_refused(rt: HostRuntime) -> Result<(), Fail> {
+    let alloc = rt.alloc();
+    for value in [
+        "",
+        "x",
+        "65536",
+        "-2147483649",
+        "++1",
+        "+-1",
+        "-+1",
+        "-",
+        "+",
+        "0x1",
+        "2191 2192",
+        "2191,a:1",
+        "zk1:2191",
+    ] {
+        let text = format!(in alloc; "tickTime=2000\nobserverMasterPort={value}\n")?;
+        let bad = BadLine {
+            line: 2,
+            reason: Reason::MasterPort,
+        };
+        let refused = match parse(alloc, text.as_str()) {
+            Err(ConfigError::Bad(found)) => found == bad,
+            Err(ConfigError::NoMemory) | Ok(_) => false,
+        };
+        assert!(rt; refused, "{value}");
+    }
+    Ok(())
+}
+
+#[test]
 fn keys_mean_what_they_mean_to_an_observer(rt: HostRuntime) -> Result<(), Fail> {
     for (key, value, meaning) in [
         ("server.1", "zk1:2888:3888", Meaning::Taken),
@@ -119,7 +178,8 @@ fn keys_mean_what_they_mean_to_an_observer(rt: HostRuntime) -> Result<(), Fail> 
         ("multiAddress.enabled", "true", Meaning::Idle),
         ("reconfigEnabled", "true", Meaning::Unheeded),
         ("autopurge.purgeInterval", "1", Meaning::Idle),
-        ("observerMasterPort", "2191", Meaning::Unheeded),
+        ("observerMasterPort", "2191", Meaning::Taken),
+        ("observerMasterPort", "-1", Meaning::Taken),
         ("metricsProvider.httpPort", "7000", Meaning::Taken),
         ("metricsProvider.httpHost", "::1", Meaning::Taken),
         (

@@ -12,7 +12,7 @@ use Rattle.serve_options.proofs.given.name_of.Goals as goal
 pub returns-clause-unknown : goal.returns-clause-unknown
 returns-clause-unknown c =
     λ name e.
-    let below : name_place name < 31 = place_below name in
+    let below : name_place name < 32 = place_below name in
     c.loop-name.invariant (name_place name) name (omega arith) (ap option_word (name_at name) ∙ e)
 
 -- This name, too, is another one.

@@ -25,5 +25,5 @@ loop-name-preserved c =
 -- All names were compared.
 pub returns : goal.returns
 returns c =
-    let all : 31 ≤ c.loop-name.name-index = omega arith in
+    let all : 32 ≤ c.loop-name.name-index = omega arith in
     nearest_is _ _ _ c.loop-name.invariant.found (all_names _ _ _ all c.loop-name.invariant.least)

@@ -2,7 +2,7 @@ use Rattle.std.proofs.Common.{◌≡◌, ◌<◌, refl, sym, subst}
 use denote.Enum.Declared.{tag_of}
 use Rattle.serve_options.specs.contracts.row.Name.{the_type}
 use Rattle.serve_options.specs.declared.row.Name.{Name}
-use Rattle.serve_options.specs.declared.row.Name.TheVariants.{Config, CheckConfig, Leader, Servers, Client, Id, Dialect, Counter, SecretFile, SuperDigest, Workers, Batch, MaxClients, MaxPerAddress, MaxUnderWay, MaxWatches, Unconnected, Words, Tick, InitLimit, SyncLimit, MinSessionTimeout, MaxSessionTimeout, Checkpoint, GiveUp, Metrics, Record, Log, LogFormat, Help, Version}
+use Rattle.serve_options.specs.declared.row.Name.TheVariants.{Config, CheckConfig, Leader, Servers, LeaderOnly, Client, Id, Dialect, Counter, SecretFile, SuperDigest, Workers, Batch, MaxClients, MaxPerAddress, MaxUnderWay, MaxWatches, Unconnected, Words, Tick, InitLimit, SyncLimit, MinSessionTimeout, MaxSessionTimeout, Checkpoint, GiveUp, Metrics, Record, Log, LogFormat, Help, Version}
 use Rattle.serve_options.specs.Places.{name_place}
 use Rattle.serve_options.proofs.Names.{place_below}
 use Rattle.serve_options.proofs.row.Name.place.Goals as goal
@@ -12,6 +12,7 @@ place_is Config = refl
 place_is CheckConfig = refl
 place_is Leader = refl
 place_is Servers = refl
+place_is LeaderOnly = refl
 place_is Client = refl
 place_is Id = refl
 place_is Dialect = refl
@@ -43,5 +44,5 @@ place_is Version = refl
 pub returns : goal.returns
 returns c = record {
   place = place_is c.args.self;
-  bound = subst (λ n. n < 31) (sym (place_is c.args.self)) (place_below c.args.self);
+  bound = subst (λ n. n < 32) (sym (place_is c.args.self)) (place_below c.args.self);
 }

@@ -4,7 +4,7 @@ use Rattle.std.specs.List.{list_any}
 use Rattle.std.specs.Str.{bytes_eq}
 use Rattle.std.proofs.lemmas.Iterator.{YieldsList-from_slice}
 use Rattle.std.proofs.lemmas.Iterator.Search.{any_from_yields_List}
-use Rattle.serve_options.proofs.command.has.Goals as goal
+use Rattle.serve_options.proofs.command.has_option.Goals as goal
 
 any_map : {X Y : Type 0} (test : X → Bool) (h : Y → X) (ys : List Y)
     → list_any test (map h ys) ≡ list_any (λ y. test (h y)) ys

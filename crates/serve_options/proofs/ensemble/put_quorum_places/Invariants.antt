@@ -1,0 +1,10 @@
+use Rattle.std.proofs.Common.{◌≡◌, ◌++◌, map, drop, string_bytes}
+use Rattle.zoo_config.specs.Addresses.{address_spelling}
+use Rattle.serve_options.specs.Ensemble.{quorum_places}
+use Rattle.serve_options.proofs.ensemble.put_quorum_places.Given as goal
+
+-- The places so far, and those that are left.
+abbrev pub invariant-loop-address : goal.invariant-loop-address
+invariant-loop-address l =
+    map string_bytes l.places.items ++ quorum_places (map address_spelling (drop l.address-index l.addresses))
+    ≡ map string_bytes l.fn.places.items ++ quorum_places (map address_spelling l.addresses)
