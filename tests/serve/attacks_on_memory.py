@@ -159,7 +159,8 @@ def test_connections_that_say_nothing():
     with Attacked("--unconnected", "3") as server:
         with Beside("connections that say nothing", server) as beside:
             silent, trickling = ([beside.connection() for _ in range(100)] for _ in range(2))
-            assert wait_until(lambda: server.threads() > 200, 2), server.threads()
+            assert server.word(b"ruok") == b"imok"
+            assert server.threads() < 10, server.threads()
             for at in range(4):
                 for it in trickling:
                     it.sendall(CONNECT[at : at + 1])

@@ -47,16 +47,26 @@ def has_room_for(server, count):
     resource.prlimit(server.program.pid, resource.RLIMIT_NOFILE, (min(server.descriptors() + count, most), most))
 
 
+def begun(server):
+    """A connection that asks for a session."""
+    connection = server.connection()
+    try:
+        connection.sendall(CONNECT)
+    except ConnectionError:
+        pass
+    return connection
+
+
 def test_places_of_connections_that_cannot_be_served():
     """They are given back, each once: then there are as many connections as there may be, and never one more."""
     for option in ("--max-clients", "--max-per-address"):
         with Server(option, "3") as server:
-            # A connection takes three descriptors: the first two of these are too few for it.
+            # A connection takes one descriptor, and three once it has said something: these are too few for that.
             for room in (1, 2):
                 assert server.is_at_base()
                 has_room_for(server, room)
                 for _ in range(5):
-                    assert is_closed(server.connection()), room
+                    assert is_closed(begun(server)), room
             has_room_for(server, 1000)
             for _ in range(2):
                 clients = [server.client() for _ in range(3)]

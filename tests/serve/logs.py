@@ -4,7 +4,7 @@ import re
 import threading
 import time
 
-from server import Server, hexa, is_closed, wait_until
+from server import CONNECT, Server, hexa, is_closed, wait_until
 
 LINE = re.compile(r"\d{4}-\d\d-\d\dT\d\d:\d\d:\d\d\.\d{3}Z (?:DEBUG|INFO |WARN ) (start|leader|client|hub|log) (.+)\n")
 DROPPED = re.compile(r"(\d+) lines were dropped: standard error wasn't read, or memory was refused")
@@ -26,8 +26,10 @@ class Unread(Server):
             os.close(theirs)
 
     def come_and_go(self, count):
+        """Connections that say enough to be served, and go."""
         for _ in range(count):
-            self.connection().close()
+            with self.connection() as it:
+                it.sendall(CONNECT[:4])
 
     def begin_reading(self):
         """From now on its lines are read, to the end of the process."""

@@ -4,7 +4,7 @@
 It plays a small leader and many clients: some are reset, some are cut in the middle of a frame, some say nothing, some
 don't read, some send what is no frame, some go while their session or a write of theirs waits for the leader, some
 bring their sessions from elsewhere (claims.py), or with passwords of a secret (keyed.py), some ask for the address that
-they come from (addresses.py), some ask words (words.py) or for figures (metrics.py), some wait until it serves
+they come from (addresses.py), some ask words (words.py) or for figures (metrics.py), some say little or nothing (door.py), some wait until it serves
 (waiting.py), and many of these load it together with clients that pipeline; and leaders that fault, or end in the middle
 of an image; and descriptors or the disk of a record run out (failing.py). Files of ensembles are tried, too
 (configured.py, drawn_config.py). Then it attacks the server (attacks.py, attacks_on_memory.py). By --long some of this
@@ -33,6 +33,7 @@ import checkpoints  # noqa: E402
 import claims  # noqa: E402
 import commands  # noqa: E402
 import configured  # noqa: E402
+import door  # noqa: E402
 import drawn_config  # noqa: E402
 import failing  # noqa: E402
 import forwarded  # noqa: E402
@@ -53,7 +54,7 @@ from server import (  # noqa: E402
 
 MODULES = (
     commands, configured, drawn_config, sys.modules[__name__], failing, claims, keyed, addresses, logs, next_leaders,
-    silence, checkpoints, bounds, words, waiting, metrics, attacks, attacks_on_memory,
+    silence, checkpoints, bounds, words, door, waiting, metrics, attacks, attacks_on_memory,
 )
 
 
@@ -111,10 +112,12 @@ def test_resets_and_cuts():
 def test_silent_clients():
     with Server() as server:
         silent = [server.connection() for _ in range(100)]
-        assert wait_until(lambda: server.threads() == 103, 5), server.threads()
         used = server.processor()
         began = time.monotonic()
         assert server.is_serving()
+        # They have no threads.
+        assert wait_until(lambda: server.threads() == 3, 5), server.threads()
+        assert int(words.figures(server)["num_alive_connections"]) == 101
         time.sleep(1)
         assert (server.processor() - used) / (time.monotonic() - began) < 0.2
         for client in silent:
@@ -644,7 +647,8 @@ def test_a_load_of_all_kinds():
         pipelining = [load.Pipelining(server, nodes, seed, *burst) for seed, burst in enumerate(bursts)]
         unknown, silent = [server.connection() for _ in range(10)], [server.client() for _ in range(10)]
         stuck = [server.client() for _ in range(5)]
-        assert wait_until(lambda: server.threads() == 3 + 31, load.SECONDS), server.threads()
+        # Who has said nothing has no thread.
+        assert wait_until(lambda: server.threads() == 3 + 21, load.SECONDS), server.threads()
         stop = threading.Event()
         with ThreadPoolExecutor(2 * len(pipelining) + 1) as pool:
             jobs = [pool.submit(client.read) for client in pipelining]

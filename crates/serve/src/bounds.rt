@@ -5,7 +5,8 @@ use crate::hub::Hub;
 use connection_loop::{AllowedWords, SessionLimits};
 use intake::Limits;
 use log::Log;
-use serve_bounds::{Places, are_too_many};
+use serve_bounds::are_too_many;
+use serve_door::Places;
 use serve_options::{Options, Words};
 use std::io::Write;
 

@@ -4,6 +4,7 @@ use connection_loop::{LeaderGone, ReadsAhead, SessionLimits, leader_loop};
 use intake::{Port, PortEnd};
 use mio::net::TcpStream;
 use serve_clients::client_loop;
+use serve_door::First;
 use server_tally::ClientTally;
 use session_streams::{Bell, Sides, split};
 use std::alloc::Global;
@@ -62,23 +63,40 @@ pub(crate) fn start_leader<R: Threads + Wait + Net + Clock + Copy + Send + 'stat
     Ok(Leader { handle, bell })
 }
 
-/// Starts the thread of a client's connection. `text` is its address as a text.
+/// A client's connection before it has a thread.
+#[derive(Drop)]
+pub struct Newcomer {
+    pub address: IpAddr,
+    /// The text of the address.
+    pub text: Text,
+    pub first: First,
+    /// For how many milliseconds it has been connected.
+    pub waited: u64,
+    pub tally: ClientTally,
+}
+
+/// Starts the thread of a client's connection.
 pub(crate) fn start_client<R: Threads + Wait + Net + Clock + Copy + Send + 'static>(
     rt: &R,
     alloc: Global,
     sides: Sides,
     handed: Handed,
-    address: IpAddr,
-    text: Text,
+    newcomer: Newcomer,
     limits: SessionLimits,
     ahead: Arc<ReadsAhead, Global>,
-    tally: ClientTally,
 ) -> io::Result<Client> {
     let Sides {
         reader,
         writer,
         bell,
     } = sides;
+    let Newcomer {
+        address,
+        text,
+        first,
+        waited,
+        tally,
+    } = newcomer;
     let mine = *rt;
     let handle = Builder::new().stack_size(STACK).spawn(rt, move || {
         let port = handed.lock(&mine).take();
@@ -91,6 +109,8 @@ pub(crate) fn start_client<R: Threads + Wait + Net + Clock + Copy + Send + 'stat
                     writer,
                     port,
                     Some(text),
+                    first,
+                    waited,
                     limits,
                     ahead,
                     tally,

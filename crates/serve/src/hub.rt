@@ -1,28 +1,28 @@
 //! The main thread: it has the desk, and the threads of the connections.
 
 use crate::bounds::Bounds;
-use crate::connections::{Client, Handed, start_client};
+use crate::connections::{Client, Handed, Newcomer, start_client};
 use crate::leading::Leading;
 use crate::log_keeping::LogKeeper;
-use crate::telling::peer_text;
 use apply_workers::OpenGate;
 use connection_loop::ReadsAhead;
 use intake::{Budget, Desk, Port, Unlimited, Waker as HubWaker};
 use log::Log;
 use mio::net::TcpStream;
 use rtrb::Consumer;
-use serve_bounds::{Accepted, Door, Pause, Stopwatch, TurnBudget, address_text};
+use serve_bounds::{Pause, Stopwatch, TurnBudget};
+use serve_door::{Accepted, Door};
 use serve_failures::Failure;
 use serve_journal::Journal;
 use serve_metrics::DescriptorCount;
 use serve_record::Record;
-use server_tally::{ClientTally, Tally, TurnFigures};
+use server_tally::{Tally, TurnFigures};
 use session_streams::{Sides, split};
 use std::alloc::Global;
 use std::collections::BTreeMap;
 use std::collections::btree_map::Entry;
 use std::io::Write;
-use std::net::{Net, SocketAddr};
+use std::net::Net;
 use std::rt::Files;
 use std::sync::{Arc, Mutex, Wait};
 use std::thread::Threads;
@@ -141,7 +141,21 @@ impl<L: Log, W: Write + Drop> Hub<L, W> {
         rt: &R,
         accepted: Accepted,
     ) -> Result<(), Failure> {
-        let Accepted { stream, address } = accepted;
+        let Accepted {
+            stream,
+            peer,
+            address,
+            tally,
+            first,
+            waited,
+        } = accepted;
+        let newcomer = Newcomer {
+            address: peer.ip(),
+            text: address,
+            first,
+            waited,
+            tally,
+        };
         let sides = split(rt, self.alloc, TcpStream::from_std(stream))?;
         let handed = Arc::new(self.alloc, Mutex::new(None))?;
         let theirs = Arc::try_clone(&handed)?;
@@ -151,9 +165,9 @@ impl<L: Log, W: Write + Drop> Hub<L, W> {
         };
         let number = port.number();
         *handed.lock(rt) = Some(port);
-        match self.run_client(rt, number, sides, theirs, address) {
+        match self.run_client(rt, number, sides, theirs, newcomer) {
             Ok(()) => {
-                self.journal.client_came(number, Some(address));
+                self.journal.client_came(number, Some(peer));
                 Ok(())
             }
             Err(error) => {
@@ -173,25 +187,38 @@ impl<L: Log, W: Write + Drop> Hub<L, W> {
         number: usize,
         sides: Sides,
         handed: Handed,
-        peer: SocketAddr,
+        newcomer: Newcomer,
     ) -> Result<(), Failure> {
         let limits = self.bounds.session;
         let ahead = Arc::try_clone(&self.ahead)?;
-        let address = peer.ip();
-        let text = address_text(self.alloc, address)?;
-        let named = peer_text(self.alloc, &text, peer)?;
-        let tally = Arc::try_clone(&self.tally)?;
-        let tally = ClientTally::new(self.alloc, tally, number as u64, named)?;
         match self.clients.entry(number)? {
             Entry::Vacant(entry) => {
-                let client = start_client(
-                    rt, self.alloc, sides, handed, address, text, limits, ahead, tally,
-                )?;
+                let client = start_client(rt, self.alloc, sides, handed, newcomer, limits, ahead)?;
                 entry.insert(client);
                 Ok(())
             }
             Entry::Occupied(_) => Err(Failure::NoThread),
         }
+    }
+
+    // The same. A connection that couldn't be served isn't listed any more.
+    fn admit<R: Threads + Wait + Net + Clock + Copy + Send + 'static>(
+        &mut self,
+        rt: &R,
+        accepted: Accepted,
+    ) -> Result<(), Failure> {
+        let listed = match accepted.tally.share() {
+            Ok(listed) => listed,
+            Err(error) => {
+                accepted.tally.leave(rt);
+                return Err(Failure::from(error));
+            }
+        };
+        let added = self.add_client(rt, accepted);
+        if added.is_err() {
+            listed.leave(rt);
+        }
+        added
     }
 
     // Serves the connections that were accepted since the last call, and returns whether there was one.
@@ -205,8 +232,8 @@ impl<L: Log, W: Write + Drop> Hub<L, W> {
                 break;
             };
             found = true;
-            let address = accepted.address.ip();
-            if let Err(error) = self.add_client(rt, accepted) {
+            let address = accepted.peer.ip();
+            if let Err(error) = self.admit(rt, accepted) {
                 self.door.leave(rt, address);
                 self.journal.client_refused(error);
             }
@@ -340,7 +367,7 @@ impl<L: Log, W: Write + Drop> Hub<L, W> {
     // Tells how many connections were closed for want of room for them, for what they don't read, or for their watches.
     fn tell_closed(&mut self) {
         let now = self.clock.last();
-        self.journal.connections_refused(self.door.refused(), now);
+        self.journal.connections_refused(self.tally.rejected(), now);
         self.journal.slow_closed(self.slow_ended, now);
         self.journal.watching_closed(self.watching_ended, now);
     }

@@ -19,8 +19,9 @@ use log::Log;
 use mio::net::TcpListener;
 use node_map::HashKey;
 use observer_core::{Config, Settings};
-use serve_bounds::{Accepting, Acceptor, Stopwatch, accept_all, open_door};
+use serve_bounds::Stopwatch;
 use serve_config::{FileLines, create_record, first_counter, random_hash_key, read_secret};
+use serve_door::{Accepting, Acceptor, DoorLimits, accept_all, open_door};
 use serve_failures::{Failure, servers_of};
 use serve_journal::Journal;
 use serve_metrics::{DescriptorCount, STATUS, start_scraping};
@@ -227,12 +228,16 @@ fn prepare<R: Net + Clock + Files<File = File>>(
     let bounds = Bounds::new(options);
     let ahead = Arc::new(alloc, ReadsAhead::new(READS_AHEAD))?;
     let tally = tally_of(rt, alloc, options, port)?;
+    let at_door = DoorLimits {
+        places: bounds.places,
+        silent: bounds.session.unconnected,
+    };
     let (source, beginning) = begin_at(alloc, options, origin, clock.now(rt))?;
     let Accepting {
         acceptor,
         from_acceptor,
         door,
-    } = open_door(rt, alloc, listener, bounds.places)?;
+    } = open_door(rt, alloc, listener, at_door, Arc::try_clone(&tally)?)?;
     let limits = SilenceLimits {
         tick: options.tick,
         init_limit: options.init_limit,

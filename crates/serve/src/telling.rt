@@ -9,7 +9,6 @@ use server_words::{AnsweredWords, ServerSettings, ServerWord};
 use settings::Dialect;
 use std::alloc::Global;
 use std::io::Write;
-use std::net::SocketAddr;
 use std::sync::Arc;
 use std::time::Clock;
 use values::{NoMemory, Text};
@@ -66,18 +65,6 @@ pub(crate) fn tally_of<R: Clock>(
     Ok(Arc::new(alloc, Tally::new(rt, alloc, told))?)
 }
 
-/// The address and port of a client, whose address has this text.
-pub(crate) fn peer_text(alloc: Global, address: &Text, peer: SocketAddr) -> Result<Text, NoMemory> {
-    let address = address.as_str();
-    let port = peer.port();
-    let text = if address.contains(':') {
-        format!(in alloc; "[{address}]:{port}")?
-    } else {
-        format!(in alloc; "{address}:{port}")?
-    };
-    Text::new(alloc, text.as_str())
-}
-
 fn number_of(count: usize) -> u64 {
     u64::try_from(count).unwrap_or(u64::MAX)
 }
@@ -109,7 +96,6 @@ impl<L: Log, W: Write + Drop> Hub<L, W> {
             paths: number_of(tree.paths()),
             watches: self.watches,
             pairs: number_of(tree.ephemerals().count()),
-            rejected: self.door.refused(),
             sessions: number_of(tree.sessions().iter().len()),
             log: number_of(learner.since_base().len()),
         });

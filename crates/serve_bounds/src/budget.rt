@@ -3,7 +3,7 @@
 ghost use Rattle.std.specs.Prelude.{◌≡◌, ◌≤◌, ◌<◌, ◌-◌, ◌+◌, true, false};
 
 use crate::stopwatch::Stopwatch;
-use intake::Budget;
+use port_hints::Budget;
 use std::time::Clock;
 
 // After so long, in microseconds, no more messages of clients are taken in a turn. So what the leader sends waits no

@@ -1,35 +1,17 @@
 //! The thread of a client's connection.
 
-use crate::begin::{First, passed, read_first, write_text};
 use crate::counted::{CountedReader, CountedWriter};
+use crate::writing::write_text;
 use connection_loop::{Close, ReadsAhead, Rest, SessionLimits, session_loop};
 use intake::{Port, PortEnd};
+use serve_door::First;
 use server_tally::{ClientTally, PacketCount};
 use server_words::ServerWord;
 use std::alloc::Global;
 use std::io::Write;
 use std::sync::{Arc, Wait};
-use std::time::{Clock, Instant};
-use values::{NoMemory, Text};
-
-// What is said of a word that isn't answered.
-const NOT_ALLOWED: &[u8] = b" is not executed because it is not in the whitelist.\n";
-
-// The text for a word: its answer, or that it isn't answered.
-fn text_for<T: Wait + Clock>(
-    rt: &T,
-    alloc: Global,
-    tally: &ClientTally,
-    word: ServerWord,
-) -> Result<Vec<u8>, NoMemory> {
-    if let Some(text) = tally.answer(rt, alloc, word)? {
-        return Ok(text);
-    }
-    let mut text = Vec::new(alloc);
-    text.extend_from_slice(&word.letters())?;
-    text.extend_from_slice(NOT_ALLOWED)?;
-    Ok(text)
-}
+use std::time::Clock;
+use values::Text;
 
 // Answers a word, as far as the peer reads that in time.
 fn tell<T: Wait + Clock, R: Rest, W: Write>(
@@ -41,7 +23,7 @@ fn tell<T: Wait + Clock, R: Rest, W: Write>(
     word: ServerWord,
     limit: u64,
 ) {
-    let Ok(text) = text_for(rt, alloc, tally, word) else {
+    let Ok(text) = tally.text_for(rt, alloc, word) else {
         return;
     };
     write_text(rt, reader, writer, text.as_slice(), limit);
@@ -61,9 +43,9 @@ fn limits_after(limits: SessionLimits, gone: u64) -> SessionLimits {
     }
 }
 
-/// Serves a client as `session_loop` does, from its connection's first byte to its end, but for the words that the
+/// Serves a client as `session_loop` does, from the first bytes of its connection to its end, but for the words that the
 /// server answers by itself: these are answered here, and the engine learns only that a connection came and went. It
-/// counts the connection and its packets.
+/// counts the packets, and the end of the connection, which has been there for so many milliseconds (`waited`).
 pub fn client_loop<T: Wait + Clock + Copy, R: Rest + Drop, W: Close>(
     rt: &T,
     alloc: Global,
@@ -71,15 +53,15 @@ pub fn client_loop<T: Wait + Clock + Copy, R: Rest + Drop, W: Close>(
     writer: W,
     port: Port,
     address: Option<Text>,
+    first: First,
+    waited: u64,
     limits: SessionLimits,
     ahead: Arc<ReadsAhead, Global>,
     tally: ClientTally,
 ) -> PortEnd {
     let mut reader = reader;
     let mut writer = writer;
-    let since = Instant::now(rt).ok();
-    tally.enter(rt);
-    let mut first = read_first(rt, &mut reader, since, limits.unconnected);
+    let mut first = first;
     if let Some(word) = first.word() {
         tell(
             rt,
@@ -105,7 +87,7 @@ pub fn client_loop<T: Wait + Clock + Copy, R: Rest + Drop, W: Close>(
         tally: tally.share().ok(),
         packets: PacketCount::new(),
     };
-    let limits = limits_after(limits, passed(rt, since));
+    let limits = limits_after(limits, waited);
     let end = session_loop(rt, alloc, counted, counting, port, address, limits, ahead);
     tally.leave(rt);
     end

@@ -1,7 +1,7 @@
 //! A reader and a writer that count packets.
 
-use crate::begin::First;
 use connection_loop::{Close, Rest};
+use serve_door::First;
 use server_tally::{ClientTally, Found, PacketCount};
 use std::io;
 use std::io::{Read, Write};

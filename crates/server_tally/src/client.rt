@@ -10,6 +10,9 @@ use std::sync::{Arc, Wait};
 use std::time::Clock;
 use values::{NoMemory, Str, Text};
 
+// What is said of a word that isn't answered.
+const NOT_ALLOWED: &[u8] = b" is not executed because it is not in the whitelist.\n";
+
 /// What has gone through a connection, for others to read. Its own thread alone counts it.
 #[derive(Drop)]
 pub(crate) struct Passed {
@@ -142,14 +145,20 @@ impl ClientTally {
         }
     }
 
-    /// The answer to a word, or None if the word isn't answered. Does what the word asks for.
-    pub fn answer<T: Wait + Clock>(
+    /// The text for a word: its answer, or that it isn't answered. Does what the word asks for, if it is answered.
+    pub fn text_for<T: Wait + Clock>(
         &self,
         rt: &T,
         alloc: Global,
         word: ServerWord,
-    ) -> Result<Option<Vec<u8>>, NoMemory> {
+    ) -> Result<Vec<u8>, NoMemory> {
         self.passed.counts.note_word();
-        self.tally.answer(rt, alloc, word)
+        if let Some(text) = self.tally.answer(rt, alloc, word)? {
+            return Ok(text);
+        }
+        let mut text = Vec::new(alloc);
+        text.extend_from_slice(&word.letters())?;
+        text.extend_from_slice(NOT_ALLOWED)?;
+        Ok(text)
     }
 }

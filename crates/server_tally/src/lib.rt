@@ -1,8 +1,8 @@
 //! What has gone through a server and its connections, counted by their threads, and the answers to the words that ask
 //! for it.
 //!
-//! All threads share one [`Tally`]. The thread of a connection has a [`ClientTally`], which it tells what has come and
-//! gone, and asks for the answer to a word; the hub stores after each turn what the engine holds
+//! All threads share one [`Tally`]. A connection has a [`ClientTally`], which its thread tells what has come and gone,
+//! and asks for the text for a word; the hub stores after each turn what the engine holds
 //! ([`EngineFigures`]). So an answer takes no message and no turn, and no time for nodes, watches or other clients,
 //! unless it lists these. The counts are read one after the other, so an answer may tell of a packet that came and not
 //! yet of its connection.
@@ -18,7 +18,7 @@
 //! client.enter(rt);
 //! client.receive(rt, 2);                                // two frames came
 //! client.send(rt, 3, 2);                                // three packets went, two of them answers
-//! client.answer(rt, alloc, ServerWord::Srvr)?           // Some(text), or None if the word isn't answered
+//! client.text_for(rt, alloc, ServerWord::Srvr)?         // the answer, or that the word isn't answered
 //! client.leave(rt);
 //! ```
 #![tactic(auto)]

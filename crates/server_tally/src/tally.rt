@@ -26,8 +26,6 @@ pub struct EngineFigures {
     pub watches: u64,
     /// The pairs of a session and an ephemeral node.
     pub pairs: u64,
-    /// The connections that were closed at once, for want of a place.
-    pub rejected: u64,
     /// The sessions of the ensemble.
     pub sessions: u64,
     /// The transactions that are kept since the base.
@@ -199,6 +197,16 @@ impl Tally {
         }
     }
 
+    /// Counts a connection that was closed at once, for want of a place.
+    pub fn reject(&self) {
+        self.rejected.fetch_add(1, Ordering::SeqCst);
+    }
+
+    /// How many connections were closed at once.
+    pub fn rejected(&self) -> u64 {
+        self.rejected.load(Ordering::SeqCst)
+    }
+
     /// Stores what the hub knows.
     pub fn store(&self, figures: EngineFigures) {
         self.count_transactions(figures);
@@ -207,7 +215,6 @@ impl Tally {
         self.paths.store(figures.paths, Ordering::SeqCst);
         self.watches.store(figures.watches, Ordering::SeqCst);
         self.pairs.store(figures.pairs, Ordering::SeqCst);
-        self.rejected.store(figures.rejected, Ordering::SeqCst);
         self.sessions.store(figures.sessions, Ordering::SeqCst);
         self.log.store(figures.log, Ordering::SeqCst);
     }
@@ -231,7 +238,7 @@ impl Tally {
     }
 
     /// The microseconds since the start. While the clock can't be read, none have passed.
-    pub(crate) fn microseconds<T: Clock>(&self, rt: &T) -> u64 {
+    pub fn microseconds<T: Clock>(&self, rt: &T) -> u64 {
         match (self.start, Instant::now(rt)) {
             (Some(start), Ok(now)) => {
                 u64::try_from(now.duration_since(start).as_micros()).unwrap_or(u64::MAX)
@@ -247,7 +254,7 @@ impl Tally {
             received: self.counts.received(),
             sent: self.counts.sent(),
             connections: self.connections.load(Ordering::SeqCst),
-            rejected: self.rejected.load(Ordering::SeqCst),
+            rejected: self.rejected(),
             outstanding: self.counts.owed(),
             zxid: self.zxid.load(Ordering::SeqCst),
             paths: self.paths.load(Ordering::SeqCst),

@@ -2,12 +2,12 @@
 
 ghost use Rattle.std.specs.Prelude.{◌≡◌, ◌↔◌, ◌<◌, ◌≤◌, ◌+◌, ◌-◌, ◌⊎◌, IfSome, IfNone, None, IsTrue, false};
 ghost use Rattle.std.specs.BTreeMap.{get, IsUnchanged};
-ghost use Rattle.serve_bounds.specs.Places.{open_of, OtherAddressesStay};
+ghost use Rattle.serve_door.specs.Places.{open_of, OtherAddressesStay};
 
 use std::collections::BTreeMap;
 
 /// Whether there is a place beside so many that are taken. Without a bound there always is.
-pub fn has_place(taken: u64, most: Option<u64>) -> bool
+pub(crate) fn has_place(taken: u64, most: Option<u64>) -> bool
     ensures bounded { IfSome most (λ most. IsTrue result ↔ (taken < most)) }
     ensures unbounded { IfNone most (IsTrue result) }
 {

@@ -3,7 +3,7 @@
 ghost use Rattle.std.specs.Prelude.{◌≡◌, ◌++◌, OnOk, IfOk, string_bytes};
 ghost use Rattle.std.specs.Net.Addr.{ipv4_octets, ipv6_segments, MatchIp};
 ghost use Rattle.std.specs.Net.Text.{ipv4_text};
-ghost use Rattle.serve_bounds.specs.Addresses.{group_text, next_text, groups_text, IsTextOf};
+ghost use Rattle.serve_door.specs.Addresses.{group_text, next_text, groups_text, IsTextOf};
 
 use std::alloc::Global;
 use std::net::{IpAddr, Ipv6Addr};
@@ -58,7 +58,7 @@ fn put_address(text: &mut String, address: &IpAddr) -> Result<(), NoMemory>
 /// The text of an address, as the servers of an ensemble write it, so that an entry of an access control list names the
 /// same client here and there: of IPv6 all eight groups are written, and an address of IPv4 within one of IPv6 is
 /// written as that of IPv4. Fails only if an allocation is refused.
-pub fn address_text(alloc: Global, address: IpAddr) -> Result<Text, NoMemory>
+pub(crate) fn address_text(alloc: Global, address: IpAddr) -> Result<Text, NoMemory>
     ensures { IfOk result (IsTextOf address) }
 {
     let mut text = String::new(alloc);

@@ -2,7 +2,7 @@
 use Rattle.std.proofs.Common.{◌≡◌, ℕ, zero, suc, ◌+◌, ◌<◌, List, [], ◌∷◌, ◌++◌, length, take, slice_index, Bool, true, false, refl, sym, ap, ◌∙◌, arith}
 use Rattle.std.specs.List.{flat_map}
 use Rattle.std.proofs.lemmas.List.{append-nil, append_assoc}
-use Rattle.serve_bounds.specs.Addresses.{next_text, groups_text}
+use Rattle.serve_door.specs.Addresses.{next_text, groups_text}
 
 others_more : (xs : List ℕ) (i : ℕ) → i < length xs
     → flat_map (next_text false) (take i xs) ++ next_text false (slice_index xs i)

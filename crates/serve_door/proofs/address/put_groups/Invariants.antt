@@ -1,6 +1,6 @@
 use Rattle.std.proofs.Common.{◌≡◌, ◌++◌, ◌<◌, true, false, string_bytes, take}
-use Rattle.serve_bounds.specs.Addresses.{groups_text}
-use Rattle.serve_bounds.proofs.address.put_groups.Given as goal
+use Rattle.serve_door.specs.Addresses.{groups_text}
+use Rattle.serve_door.proofs.address.put_groups.Given as goal
 
 abbrev pub invariant-loop-group : goal.invariant-loop-group
 invariant-loop-group l =

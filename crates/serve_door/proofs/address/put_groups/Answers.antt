@@ -1,8 +1,8 @@
 use Rattle.std.proofs.Common.{◌≡◌, ℕ, suc, ◌+◌, ◌++◌, ◌∙◌, length, sym, ap, string_bytes, slice_index, append-nil, append_assoc, take, arith, refl}
 use Rattle.std.proofs.lemmas.List.{take_all}
-use Rattle.serve_bounds.specs.Addresses.{next_text, groups_text}
-use Rattle.serve_bounds.proofs.Groups.{groups_more}
-use Rattle.serve_bounds.proofs.address.put_groups.Goals as goal
+use Rattle.serve_door.specs.Addresses.{next_text, groups_text}
+use Rattle.serve_door.proofs.Groups.{groups_more}
+use Rattle.serve_door.proofs.address.put_groups.Goals as goal
 
 pub loop-group-init : goal.loop-group-init
 loop-group-init c =
