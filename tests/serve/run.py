@@ -4,8 +4,9 @@
 It plays a small leader and many clients: some are reset, some are cut in the middle of a frame, some say nothing, some
 don't read, some send what is no frame, some go while their session or a write of theirs waits for the leader, some
 bring their sessions from elsewhere (claims.py), or with passwords of a secret (keyed.py), some ask for the address that
-they come from (addresses.py), some ask words (words.py) or for figures (metrics.py), some say little or nothing (door.py), some wait until it serves
-(waiting.py), and many of these load it together with clients that pipeline; and leaders that fault, or end in the middle
+they come from (addresses.py), some ask words (words.py) or for figures (metrics.py), some say little or nothing
+(door.py), some wait until it serves (waiting.py), and many of these load it together with clients that pipeline; and
+leaders that fault, or end in the middle
 of an image; and descriptors or the disk of a record run out (failing.py). Files of ensembles are tried, too
 (configured.py, drawn_config.py). Then it attacks the server (attacks.py, attacks_on_memory.py). By --long some of this
 is tried more often, or whole. What can't be tried on a machine is told as skipped and counted nowhere. PROGRAM is
