@@ -19,6 +19,9 @@ use values::{Blob, NoMemory};
 /// The most bytes that are read at once and wait to be sent on.
 pub(crate) const READ_LEN: usize = 16_384;
 
+/// The length of the buffer until a read fills it. A connection that only pings needs no more.
+const SHORT_LEN: usize = 512;
+
 /// How a connection's bytes are cut into messages.
 #[derive(Clone, Copy, Debug, PartialEq, Eq)]
 pub enum Cutting {
@@ -148,6 +151,23 @@ fn move_to_start(bytes: &mut [u8], start: usize, end: usize)
     front[..len].copy_from_slice(&back[..len]);
 }
 
+// How long the buffer is for the next read: short at first, and as long as it may be once a read has filled it.
+fn len_to_read(len: usize, end: usize) -> usize
+    requires inside { end ≤ len }
+    requires bound { len ≤ buffer_length }
+    ensures kept { len ≤ result }
+    ensures bound { result ≤ buffer_length }
+    ensures room { end < buffer_length → end < result }
+{
+    if len == 0 {
+        return SHORT_LEN;
+    }
+    if end == len {
+        return READ_LEN;
+    }
+    len
+}
+
 // Moves the waiting bytes to the buffer's start if there is no room after them, and returns where they begin then.
 // Mostly at most half of the buffer waits then, so at most as many bytes are moved as were sent on.
 fn make_room(buffer: &mut Vec<u8>, start: usize, end: usize) -> usize
@@ -157,6 +177,7 @@ fn make_room(buffer: &mut Vec<u8>, start: usize, end: usize) -> usize
         ≡ take (end - start) (drop start buffer.old.items) }
     ensures len { vec_len buffer.new ≡ vec_len buffer.old }
     ensures inside { result + (end - start) ≤ vec_len buffer.new }
+    ensures down { result ≤ start }
     ensures room { end - start < buffer_length → result + (end - start) < buffer_length }
 {
     if start == end {
@@ -224,12 +245,24 @@ impl Incoming {
         ensures fits { length self.new.bytes ≤ buffer_length }
     {
         let len = self.end - self.start;
+        let room = len_to_read(self.buffer.len(), self.end);
         self.start = make_room(&mut self.buffer, self.start, self.end);
         self.end = self.start + len;
-        self.buffer.resize(READ_LEN, 0)?;
+        self.buffer.resize(room, 0)?;
         let count = reader.read(&mut self.buffer[self.end..])?;
         self.end += count;
         Ok(count)
+    }
+
+    /// Frees a long buffer if no byte waits in it.
+    pub(crate) fn free_if_empty(&mut self, alloc: Global)
+        ensures { self.new ≡ self.old }
+    {
+        if self.start == self.end && self.buffer.len() > SHORT_LEN {
+            self.buffer = Vec::new(alloc);
+            self.start = 0;
+            self.end = 0;
+        }
     }
 
     /// The next piece to send on: of a client's bytes at most `most` frames, which pass the gate. A frame waits until it

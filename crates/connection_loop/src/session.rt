@@ -60,6 +60,9 @@ const LONGEST_WAIT: u64 = 10_000;
 /// The longest wait for the hub or for room to write, in milliseconds.
 const LONGEST_REST: u64 = 1000;
 
+/// A session that rests no more often than this, in milliseconds, keeps no long buffer meanwhile.
+const QUIET: u64 = 1000;
+
 // A connection with its streams and its port.
 #[derive(Drop)]
 struct Session {
@@ -83,6 +86,8 @@ struct Session {
     ended: bool,
     // Since when there is nothing to do, in milliseconds since the start.
     idle_since: Option<u64>,
+    // When it last began to rest, in milliseconds since the start.
+    last_rest: u64,
     // The fault for which the engine refused the last bytes of a connection that has ended.
     late_fault: Option<Fault>,
     wants_memory: bool,
@@ -121,6 +126,7 @@ impl Session {
             refuses: false,
             ended: false,
             idle_since: None,
+            last_rest: 0,
             late_fault: None,
             wants_memory: false,
         }
@@ -356,6 +362,10 @@ impl Session {
         ensures kept { Keeps (R.remaining reader.old) (R.remaining reader.new) }
     {
         let now = self.now(rt);
+        if now.saturating_sub(self.last_rest) >= QUIET {
+            self.incoming.free_if_empty(self.alloc);
+        }
+        self.last_rest = now;
         let since = self.idle_since.unwrap_or(now);
         self.idle_since = Some(since);
         let waits = Waits {
@@ -528,6 +538,7 @@ impl Session {
             refuses: _,
             ended: _,
             idle_since: _,
+            last_rest: _,
             late_fault,
             wants_memory,
         } = self;
