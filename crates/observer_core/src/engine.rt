@@ -273,8 +273,8 @@ impl Engine {
     /// Does what `feed_inline` does, on several threads. The transactions of one event of the leader are cut into
     /// batches within the limits of the configuration, and each batch is applied by up to so many workers, which pass
     /// `gate` for each of its groups. Reads that follow each other with nothing else to be done between them, in one
-    /// event or in several, are answered by as many workers, which pass `gate` for each read. The first worker is the
-    /// calling thread, which waits for the others.
+    /// event or in several, are answered by as many workers, which pass `gate` for each 64 of them. The first worker is
+    /// the calling thread, which waits for the others.
     pub fn feed<G: Gate + Sync, R: Threads + Sync>(
         &mut self,
         rt: &R,

@@ -1,23 +1,32 @@
 -- Reads that are works at a board.
-use Rattle.std.specs.Prelude.{◌≡◌, List, [], ◌∷◌}
+use Rattle.std.specs.Prelude.{◌≡◌, ⊥, List, [], ◌∷◌, ◌++◌}
 use Rattle.apply_board.specs.declared.group.Group.{Group}
-use Rattle.apply_board.specs.declared.group.Group.TheVariants.{Home}
-use Rattle.read_processor.specs.Asking.{look_for_ask}
+use Rattle.apply_board.specs.declared.group.Group.TheVariants.{Home, Unclaimed}
+use Rattle.read_processor.specs.Asking.{looks_at}
 use Rattle.read_processor.specs.declared.shown.Look.{Look}
 use Rattle.read_workers.specs.declared.work.LookWork.{LookWork}
 use Rattle.read_workers.specs.declared.work.Looked.{Looked}
 use Rattle.read_workers.specs.declared.work.Looked.TheVariants.{Answered, Refused}
 
--- The answer to the work's own ask.
-abbrev pub look_for_work : LookWork → Look
-look_for_work work = look_for_ask work.tree.now work.ask.now
+-- The answers to the work's own asks, in order.
+abbrev pub looks_for_work : LookWork → List Look
+looks_for_work work = looks_at work.tree.now work.asks.now
 
 -- The work was answered, or an allocation was refused.
-abbrev pub IsLookOf : LookWork → Looked → Type 0
-IsLookOf work (Answered answer) = answer ≡ look_for_work work
-IsLookOf work Refused = Unit {0}
+abbrev pub AreLooksOf : LookWork → Looked → Type 0
+AreLooksOf work (Answered answers) = answers.items ≡ looks_for_work work
+AreLooksOf work Refused = Unit {0}
 
--- The works of a closed board that all were answered, in order.
-abbrev pub answered_groups : List Look → List (Group LookWork Looked)
-answered_groups [] = []
-answered_groups (answer ∷ others) = Home (Answered answer) ∷ answered_groups others
+-- The answers that a closed board returns, in order.
+abbrev pub answers_of : List (Group LookWork Looked) → List Look
+answers_of [] = []
+answers_of (Home (Answered answers) ∷ groups) = answers.items ++ answers_of groups
+answers_of (Home Refused ∷ groups) = answers_of groups
+answers_of (Unclaimed work ∷ groups) = answers_of groups
+
+-- All works were answered.
+abbrev pub AreAnswered : List (Group LookWork Looked) → Type 0
+AreAnswered [] = Unit {0}
+AreAnswered (Home (Answered answers) ∷ groups) = AreAnswered groups
+AreAnswered (Home Refused ∷ groups) = ⊥
+AreAnswered (Unclaimed work ∷ groups) = ⊥

@@ -18,7 +18,10 @@ const MOST_TURNS: u64 = 1_000_000_000;
 // The asks of `asks`, by their errors: 0 for a node that is there, and -101 for one that isn't.
 const ERRORS: &[i32] = &[0, -101, 0];
 
-// Holds the first ask until the second one was passed, or notes that it wasn't.
+// How often these are asked, one after the other, so that they are more than a reader takes at a time.
+const TIMES: usize = 40;
+
+// Holds the first piece until another one was passed, or notes that none was.
 #[derive(Drop)]
 struct Holding {
     passed: AtomicU64,
@@ -26,8 +29,8 @@ struct Holding {
 }
 
 impl Gate for Holding {
-    fn pass(&self, _reader: usize, ask: usize) {
-        if ask != 0 {
+    fn pass(&self, _reader: usize, piece: usize) {
+        if piece != 0 {
             self.passed.store(1, Ordering::SeqCst);
             return;
         }
@@ -50,16 +53,22 @@ fn exists(path: &str) -> Ask<'_> {
     Ask { ids: &[], request }
 }
 
-// Reads of a node that is there, of one that isn't, and of a node that is there.
-fn asks(alloc: Global) -> Result<Vec<Ask<'static>>, NoMemory> {
-    Ok(vec![in alloc; exists("/zookeeper"), exists("/q"), exists("/")]?)
+// Reads of a node that is there, of one that isn't, and of a node that is there, so often.
+fn asks(alloc: Global, times: usize) -> Result<Vec<Ask<'static>>, NoMemory> {
+    let mut asks = Vec::new(alloc);
+    for _ in 0..times {
+        asks.push(exists("/zookeeper"))?;
+        asks.push(exists("/q"))?;
+        asks.push(exists("/"))?;
+    }
+    Ok(asks)
 }
 
-fn have_errors(looks: &[Look], errors: &[i32]) -> bool {
-    looks.len() == errors.len()
+fn have_errors(looks: &[Look], times: usize) -> bool {
+    looks.len() == ERRORS.len().saturating_mul(times)
         && looks
             .iter()
-            .zip(errors.iter())
+            .zip(ERRORS.iter().cycle())
             .all(|(look, error)| look.error == *error)
 }
 
@@ -73,9 +82,9 @@ fn are_right<R: Threads + Sync, G: Gate + Sync>(
     requires { (1 ≤ readers) × (readers ≤ 64) }
 {
     let tree = Tree::fresh(alloc)?;
-    let asks = asks(alloc)?;
+    let asks = asks(alloc, TIMES)?;
     let looks = look_all(rt, alloc, &tree, asks.as_slice(), readers, gate)?;
-    Ok(have_errors(looks.as_slice(), ERRORS))
+    Ok(have_errors(looks.as_slice(), TIMES))
 }
 
 // The same below a threshold of four reads, with a gate that would be held.
@@ -85,9 +94,9 @@ fn are_right_below_threshold<R: Threads + Sync, G: Gate + Sync>(
     gate: &G,
 ) -> Result<bool, NoMemory> {
     let tree = Tree::fresh(alloc)?;
-    let asks = asks(alloc)?;
+    let asks = asks(alloc, 1)?;
     let looks = look_run(rt, alloc, &tree, asks.as_slice(), 2, 4, gate)?;
-    Ok(have_errors(looks.as_slice(), ERRORS))
+    Ok(have_errors(looks.as_slice(), 1))
 }
 
 fn new_gate() -> Holding {

@@ -15,8 +15,10 @@ use values::{NoMemory, Str};
 // The most readers that there may be.
 const READERS: usize = 64;
 
-// More than readers, so that each of these would have a read.
-const ASKS: usize = 130;
+// 65 pieces of 64 asks: more than readers, so that each of these would have one.
+const ASKS: usize = 4160;
+
+const PIECES: u64 = 65;
 
 // How many of the threads beside the calling one are refused.
 const REFUSED: [usize; 3] = [0, 1, 63];
@@ -88,17 +90,17 @@ impl Starts for Refusing {
     }
 }
 
-// Counts the reads, and those of readers past this number.
+// Counts the pieces, and those of readers past this number.
 #[derive(Drop)]
 struct Counting {
     last: usize,
-    reads: AtomicU64,
+    pieces: AtomicU64,
     past: AtomicU64,
 }
 
 impl Gate for Counting {
-    fn pass(&self, reader: usize, _ask: usize) {
-        self.reads.fetch_add(1, Ordering::SeqCst);
+    fn pass(&self, reader: usize, _piece: usize) {
+        self.pieces.fetch_add(1, Ordering::SeqCst);
         if reader > self.last {
             self.past.fetch_add(1, Ordering::SeqCst);
         }
@@ -122,7 +124,7 @@ fn are_replies(looks: Vec<Look>) -> bool {
     are_right
 }
 
-// Whether the answers are right, each ask was passed once, and no more readers passed one than there were, where this
+// Whether the answers are right, each piece was passed once, and no more readers passed one than there were, where this
 // many threads are refused.
 fn are_right<R: Threads + Sync>(
     rt: &R,
@@ -133,7 +135,7 @@ fn are_right<R: Threads + Sync>(
     let asks = asks(alloc)?;
     let gate = Counting {
         last: READERS.saturating_sub(1).saturating_sub(threads),
-        reads: AtomicU64::new(0),
+        pieces: AtomicU64::new(0),
         past: AtomicU64::new(0),
     };
     let starts = Refusing {
@@ -143,7 +145,7 @@ fn are_right<R: Threads + Sync>(
     let looks = look_all_on(rt, alloc, tree, asks.as_slice(), READERS, &gate, &starts)?;
     Ok(
         are_replies(looks)
-            && gate.reads.load(Ordering::SeqCst) == 130
+            && gate.pieces.load(Ordering::SeqCst) == PIECES
             && gate.past.load(Ordering::SeqCst) == 0
             && starts.asked.load(Ordering::SeqCst) == 63,
     )

@@ -1,8 +1,14 @@
-use Rattle.std.proofs.Common.{◌≡◌, ◌++◌, drop, map}
+use Rattle.std.proofs.Common.{◌≡◌, ◌++◌}
+use Rattle.std.specs.List.{flat_map}
+use Rattle.std.specs.Slice.Iter.{chunks_rest, chunks_size}
 use Rattle.read_processor.specs.Asking.{looks_at}
-use Rattle.read_workers.specs.Working.{look_for_work}
+use Rattle.read_workers.specs.Working.{looks_for_work}
 use Rattle.read_workers.proofs.readers.look_works.Given as goal
 
-abbrev pub invariant-loop-ask : goal.invariant-loop-ask
-invariant-loop-ask l =
-    map look_for_work l.works.items ++ looks_at l.tree (drop l.ask-index l.asks) ≡ looks_at l.fn.tree l.asks
+abbrev pub invariant-loop-asks : goal.invariant-loop-asks
+invariant-loop-asks l =
+    record {
+      looks : flat_map looks_for_work l.works.items ++ looks_at l.fn.tree.now (chunks_rest l.asks-iterator)
+          ≡ looks_at l.fn.tree.now l.fn.asks.now;
+      size : chunks_size l.asks-iterator ≡ 64;
+    }
