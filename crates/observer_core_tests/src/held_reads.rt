@@ -3,11 +3,10 @@
 use crate::held::{HoldsFirst, creates, with_workers};
 use crate::helpers::{are_replies, asked, told};
 use apply_workers::OpenGate;
-use observer_core::{Engine, Event};
+use observer_core::Engine;
 use std::alloc::Global;
 use std::test::*;
 use std::thread::Threads;
-use values::NoMemory;
 
 // The getData of /a and that of /b.
 const FIRST_ASKED: &[u8] = b"\0\0\0\x0f\0\0\0\x02\0\0\0\x04\0\0\0\x02/a\0";
@@ -27,24 +26,6 @@ const WANTED: [&[u8]; 2] = [
 // How often each is asked, in turns, so that the reads are more than a reader takes at a time.
 const TIMES: usize = 40;
 
-fn reads(alloc: Global) -> Result<Vec<Event<'static>>, NoMemory> {
-    let mut reads = Vec::new(alloc);
-    for _ in 0..TIMES {
-        reads.push(asked(FIRST_ASKED))?;
-        reads.push(asked(THEN_ASKED))?;
-    }
-    Ok(reads)
-}
-
-fn wanted(alloc: Global) -> Result<Vec<&'static [u8]>, NoMemory> {
-    let mut wanted = Vec::new(alloc);
-    for _ in 0..TIMES {
-        wanted.push(WANTED[0])?;
-        wanted.push(WANTED[1])?;
-    }
-    Ok(wanted)
-}
-
 // Whether two readers have reads in hand at once, and the replies are right and in their order.
 fn holds_no_other<R: Threads + Sync>(
     rt: &R,
@@ -54,9 +35,16 @@ fn holds_no_other<R: Threads + Sync>(
     let gate = HoldsFirst::new();
     let nodes = creates(alloc, &["/a", "/b"], 1)?;
     let made = [told(nodes.as_slice())];
-    let (Ok(reads), Ok(wanted)) = (reads(alloc), wanted(alloc)) else {
-        return Err("memory");
-    };
+    let mut reads = Vec::new(alloc);
+    let mut wanted = Vec::new(alloc);
+    for _ in 0..TIMES {
+        let grown = reads.push(asked(FIRST_ASKED)).is_ok()
+            && reads.push(asked(THEN_ASKED)).is_ok()
+            && wanted.extend_from_slice(&WANTED).is_ok();
+        if !grown {
+            return Err("memory");
+        }
+    }
     let mut outputs = Vec::new(alloc);
     Ok(
         engine

@@ -7,8 +7,9 @@
 //! of load balancers do, or says nothing gets no thread and no port, and the engine doesn't learn of it. One that says
 //! nothing for too long is closed.
 //!
-//! It is proved how places are counted (`places.rt`) and what the text of an address is (`address.rt`), and in
-//! `server_words` what words are answered; the rest is proved safe, and tested over sockets.
+//! It is proved how places are counted (`places.rt`), what the text of an address is (`address.rt`), and that the first
+//! bytes are given on as they came (`first.rt`), and in `server_words` what words are answered; the rest is proved safe,
+//! and tested over sockets.
 //!
 //! ```text
 //! let limits = DoorLimits { places, silent };
