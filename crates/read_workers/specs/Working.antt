@@ -1,5 +1,5 @@
 -- Reads that are works at a board.
-use Rattle.std.specs.Prelude.{◌≡◌, ⊥, List, [], ◌∷◌, ◌++◌}
+use Rattle.std.specs.Prelude.{◌≡◌, List, [], ◌∷◌, ◌++◌}
 use Rattle.apply_board.specs.declared.group.Group.{Group}
 use Rattle.apply_board.specs.declared.group.Group.TheVariants.{Home, Unclaimed}
 use Rattle.read_processor.specs.Asking.{looks_at}

@@ -58,8 +58,9 @@ consumes_both (Some xs) (Some ys) (Some zs) bs cs first then =
 
 pub reads_more : (a b c : Beginning) (one two three : Option (List ℕ)) → HasRead a b one two → HasRead b c two three
     → HasRead a c one three
-reads_more a b c one two three (bs, is, first) (cs, is', then) =
-    (bs ++ cs,
-     is' ∙ ap (λ (m : Beginning). record m { bytes = m.bytes ++ cs }) is
-     ∙ with_bytes a ((a.bytes ++ bs) ++ cs) (a.bytes ++ (bs ++ cs)) (append_assoc a.bytes bs cs),
-     consumes_both one two three bs cs first then)
+reads_more a b c one two three (bs, is, first) (cs, is', then) = (
+  bs ++ cs,
+  is' ∙ ap (λ (m : Beginning). record m { bytes = m.bytes ++ cs }) is
+      ∙ with_bytes a ((a.bytes ++ bs) ++ cs) (a.bytes ++ (bs ++ cs)) (append_assoc a.bytes bs cs),
+  consumes_both one two three bs cs first then,
+)

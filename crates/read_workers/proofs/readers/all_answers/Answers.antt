@@ -13,8 +13,8 @@ loop-group-preserved c =
     let was = at.invariant.len in
     let is : c.in-Some.group ≡ Home (Answered c.in-Home-Answered.answers) = search rules in
     record {
-      answers = one_more_work _ _ c.in-Home-Answered.answers _ _ _ _ steps.0 is
+      answers = one_more_work _ _ c.in-Home-Answered.answers _ _ _ c.args.groups.items steps.0 is
           c.in_ok-append-in-Home-Answered.ensures.items at.invariant.answers;
-      answered = all_are_answered c.in-Home-Answered.answers _ _ _ _ steps.0 is at.invariant.answered;
+      answered = all_are_answered c.in-Home-Answered.answers _ _ _ c.args.groups.items steps.0 is at.invariant.answered;
       len = omega arith;
     }

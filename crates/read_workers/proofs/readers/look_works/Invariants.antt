@@ -8,7 +8,7 @@ use Rattle.read_workers.proofs.readers.look_works.Given as goal
 abbrev pub invariant-loop-asks : goal.invariant-loop-asks
 invariant-loop-asks l =
     record {
-      looks : flat_map looks_for_work l.works.items ++ looks_at l.fn.tree.now (chunks_rest l.asks-iterator)
-          ≡ looks_at l.fn.tree.now l.fn.asks.now;
+      looks : flat_map looks_for_work l.works.items ++ looks_at l.fn.tree (chunks_rest l.asks-iterator)
+          ≡ looks_at l.fn.tree l.fn.asks;
       size : chunks_size l.asks-iterator ≡ 64;
     }

@@ -7,11 +7,12 @@ pub returns-then-is_waiting-clause-bytes : goal.returns-then-is_waiting-clause-b
 returns-then-is_waiting-clause-bytes g c =
     let first = c.args.self.now.first in
     let left = g.R.Read.remaining c.args.self.now.reader in
-    let within : c.give.result ≤ length first.bytes = omega (arith, c.give.ensures.count) in
-    (gives_first first c.give.new.self left c.give.result c.args.buf.now c.give.new.buf c.give.ensures.rest
-     c.give.ensures.given within,
-     λ none room. gives_some first c.give.result c.args.buf.now c.give.new.buf (c.is_waiting.ensures.0 c.if-is_waiting.true)
-     c.give.ensures.count c.give.ensures.given none room _)
+    let within : c.give.result ≤ length first.bytes = omega (arith, c.give.ensures.count) in (
+      gives_first first c.give.new.self left c.give.result c.args.buf.now c.give.new.buf c.give.ensures.rest
+          c.give.ensures.given within,
+      λ none room. gives_some first c.give.result c.args.buf.now c.give.new.buf (c.is_waiting.ensures.0 c.if-is_waiting.true)
+          c.give.ensures.count c.give.ensures.given none room _,
+    )
 
 pub returns-then-is_last-clause-bytes : goal.returns-then-is_last-clause-bytes
 returns-then-is_last-clause-bytes g c =
@@ -26,5 +27,7 @@ returns-clause-bytes g c =
     let first = c.args.self.now.first in
     let none = no_bytes c.is_waiting.result first.bytes c.is_waiting.ensures c.if-is_waiting.false in
     let more = sym c.is_last.ensures ∙ c.if-is_last.false in
-    rw (nothing_first first (g.R.Read.remaining c.args.self.now.reader) none more,
-        nothing_first first (g.R.Read.remaining c.read.new.self) none more) c.read.ensures.bytes
+    rw (
+      nothing_first first (g.R.Read.remaining c.args.self.now.reader) none more,
+      nothing_first first (g.R.Read.remaining c.read.new.self) none more,
+    ) c.read.ensures.bytes

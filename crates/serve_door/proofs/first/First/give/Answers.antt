@@ -1,4 +1,4 @@
-use Rattle.std.proofs.Common.{◌≡◌, ◌+◌, ◌-◌, ◌≤◌, ◌∙◌, ap, arith, drop, length, length-take}
+use Rattle.std.proofs.Common.{◌+◌, ◌-◌, ◌≤◌, ◌∙◌, ap, arith, drop, length, length-take}
 use Rattle.serve_door.specs.Beginnings.{Beginning}
 use Rattle.serve_door.proofs.Beginnings.{left_after}
 use Rattle.serve_door.proofs.first.First.give.Goals as goal
