@@ -1,5 +1,4 @@
-use Rattle.std.proofs.Common.{◌≡◌, ◌≤◌, [], ℕ, length, Option, List, Some, refl, sym, ◌∙◌, arith}
-use Rattle.std.specs.Io.KnownBytes.{Consumes, IsAtEnd, ReadConsumes}
+use Rattle.std.proofs.Common.{◌≤◌, length, refl, sym, ◌∙◌, arith}
 use Rattle.serve_clients.proofs.Brought.{no_bytes, gives_first, gives_some, nothing_left, nothing_first}
 use Rattle.serve_clients.proofs.counted.CountedReader.read_next.Goals as goal
 
