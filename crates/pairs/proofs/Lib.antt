@@ -4,8 +4,8 @@ pub mod Totals
 pub mod Ties
 -- The number of elements of a set. Public.
 pub mod SetCounts
--- Maps and sets of texts that are found by their hash.
-mod Hashed
+-- Maps and sets of texts that are found by their hash. Public.
+pub mod Hashed
 -- Pairs that are stored as a set for each key. Public.
 pub mod Grouped
 -- The keys of pairs that are stored as a set for each key.

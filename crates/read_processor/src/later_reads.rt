@@ -121,7 +121,7 @@ fn nodes_below(tree: &Tree, path: &[u8]) -> i32
 {
     let mut count: u32 = 0;
     for (other, _) in tree.nodes() {
-        if is_below(path, other.as_bytes()) {
+        if is_below(path, other.as_str().as_bytes()) {
             count = count.wrapping_add(1);
         }
     }
