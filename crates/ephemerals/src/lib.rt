@@ -14,8 +14,8 @@
 //! ```
 #![tactic(auto)]
 
+mod number_of_session;
 mod owners;
-mod session_number;
 mod text_set;
 
 pub use owners::Ephemerals;

@@ -9,7 +9,7 @@ ghost use Rattle.ephemerals.specs.Pairs.{with_pair, without_pair, with_other_own
 ghost use Rattle.ephemerals.specs.Pairs.{pairs_at, without_paths};
 ghost use Rattle.ephemerals.specs.Inner.Steps.{without_path, pairs_on};
 
-use crate::session_number::session_number;
+use crate::number_of_session::number_of_session;
 use crate::text_set::TextSet;
 use pairs::{HashKey, Pairs, TextKey};
 use std::alloc::{AllocError, Global};
@@ -64,7 +64,7 @@ impl Ephemerals {
     pub fn contains(&self, session: i64, path: &str) -> bool
         ensures { result ≡ set.contains self.now (session, path.now) }
     {
-        self.pairs.contains(path, session_number(session))
+        self.pairs.contains(path, number_of_session(session))
     }
 
     /// Makes the session an owner of the path and returns whether it is new. Session 0 gains nothing. A refused
@@ -78,7 +78,7 @@ impl Ephemerals {
         if session == 0 {
             return Ok(false);
         }
-        self.pairs.insert(alloc, path, session_number(session))
+        self.pairs.insert(alloc, path, number_of_session(session))
     }
 
     /// Removes the session as an owner of the path. Session 0 loses nothing.
@@ -88,7 +88,7 @@ impl Ephemerals {
         if session == 0 {
             return;
         }
-        self.pairs.remove(path, session_number(session))
+        self.pairs.remove(path, number_of_session(session))
     }
 
     /// Gives the path of the old session to the new one. Session 0 loses and gains nothing. A refused allocation
@@ -109,7 +109,7 @@ impl Ephemerals {
     pub fn owns_any(&self, session: i64) -> bool
         ensures { IsTrue result ↔ (paths_of_session session self.now ≢ set.empty) }
     {
-        match self.pairs.texts_of(session_number(session)) {
+        match self.pairs.texts_of(number_of_session(session)) {
             None => false,
             Some(_) => true,
         }
@@ -120,7 +120,7 @@ impl Ephemerals {
         ensures paths { set.from_list result.now ≡ paths_of_session session self.now }
         ensures once { IsDistinct bytes_eq result.now }
     {
-        match self.pairs.texts_of(session_number(session)) {
+        match self.pairs.texts_of(number_of_session(session)) {
             None => return &[],
             Some(paths) => paths.as_slice(),
         }
@@ -145,7 +145,7 @@ impl Ephemerals {
         ensures err { OnErr result (self.new ≡ self.old) }
     {
         let paths = self.of(alloc, session)?;
-        self.pairs.take_number(session_number(session));
+        self.pairs.take_number(number_of_session(session));
         Ok(paths)
     }
 

@@ -5,12 +5,12 @@ use Rattle.pairs.specs.Pairs.{TextPairs}
 use Rattle.ephemerals.specs.Orders.{Bytes, OwnerPairs}
 
 -- The sessions 0, -1, 1, -2, 2, .. have the numbers 0, 1, 2, 3, 4, .., so that each number is one session's.
-abbrev pub session_number : ℤ → ℕ
-session_number (pos n) = 2 * n
-session_number (negsuc n) = 2 * n + 1
+abbrev pub number_of_session : ℤ → ℕ
+number_of_session (pos n) = 2 * n
+number_of_session (negsuc n) = 2 * n + 1
 
-abbrev pub numbered_session : ℕ → ℤ
-numbered_session number = if number % 2 == 0 then pos (number / 2) else negsuc (number / 2)
+abbrev pub session_of_number : ℕ → ℤ
+session_of_number number = if number % 2 == 0 then pos (number / 2) else negsuc (number / 2)
 
 abbrev pub owners_in : TextPairs → OwnerPairs
-owners_in pairs = set.from_list (map (λ (p : Bytes × ℕ). (numbered_session p.1, p.0)) (set.items pairs))
+owners_in pairs = set.from_list (map (λ (p : Bytes × ℕ). (session_of_number p.1, p.0)) (set.items pairs))

@@ -5,15 +5,15 @@ use Rattle.std.specs.Ordering.{int_eq}
 use Rattle.std.specs.FinSet as set
 use Rattle.ephemerals.specs.Orders.{OwnerPairs}
 use Rattle.ephemerals.specs.Pairs.{with_pair}
-use Rattle.ephemerals.specs.Inner.OwnersView.{session_number}
+use Rattle.ephemerals.specs.Inner.OwnersView.{number_of_session}
 use Rattle.ephemerals.proofs.Ties.{apart_sessions}
 use Rattle.ephemerals.proofs.OwnersView.{contains-owners, owners-with}
 use Rattle.ephemerals.proofs.owners.Ephemerals.add.Goals as goal
 
 pub returns-clause-ok : goal.returns-clause-ok
 returns-clause-ok c =
-    let number : c.session_number.result ≡ session_number c.args.session =
-    c.session_number.ensures ∙ ap session_number (to_z-of_z w64 c.args.session c.ranges.session) in
+    let number : c.number_of_session.result ≡ number_of_session c.args.session =
+    c.number_of_session.ensures ∙ ap number_of_session (to_z-of_z w64 c.args.session c.ranges.session) in
     let apart : int_eq c.args.session (pos 0) ≡ false =
     apart_sessions c.args.session (pos 0) (λ e. c.if-session-eq0.false (ap (of_z w64) e)) in
     on_ok_weaker c.insert.result
@@ -24,8 +24,8 @@ returns-clause-ok c =
 
 pub returns-clause-added : goal.returns-clause-added
 returns-clause-added c =
-    let number : c.session_number.result ≡ session_number c.args.session =
-    c.session_number.ensures ∙ ap session_number (to_z-of_z w64 c.args.session c.ranges.session) in
+    let number : c.number_of_session.result ≡ number_of_session c.args.session =
+    c.number_of_session.ensures ∙ ap number_of_session (to_z-of_z w64 c.args.session c.ranges.session) in
     let apart : int_eq c.args.session (pos 0) ≡ false =
     apart_sessions c.args.session (pos 0) (λ e. c.if-session-eq0.false (ap (of_z w64) e)) in
     subst (λ b. IfOk c.insert.result (λ added. added ≡ b))
