@@ -102,7 +102,7 @@ impl Tree {
         nodes.insert(alloc, "/zookeeper/quota", Node::childless(alloc)?)?;
         Ok(Tree {
             nodes,
-            ephemerals: Ephemerals::new(alloc),
+            ephemerals: Ephemerals::keyed(alloc, key),
             timeouts: Timeouts::new(alloc),
         })
     }
@@ -121,7 +121,7 @@ impl Tree {
     {
         Tree {
             nodes: NodeMap::with_key(alloc, key),
-            ephemerals: Ephemerals::new(alloc),
+            ephemerals: Ephemerals::keyed(alloc, key),
             timeouts: Timeouts::new(alloc),
         }
     }
@@ -442,7 +442,7 @@ impl Tree {
             (triggers.new.items ≡ triggers.old.items ++
             (of_close_session header.now listed.now self.old).triggers) }
     {
-        let own = self.ephemerals.take_session(alloc, header.client_id);
+        let own = self.ephemerals.take_session(alloc, header.client_id)?;
         self.timeouts.remove(header.client_id);
         let paths = with_names(alloc, own, listed)?;
         self.delete_all(alloc, header, paths, triggers)

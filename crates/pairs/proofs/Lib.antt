@@ -12,6 +12,10 @@ pub mod Grouped
 mod Keys
 -- The numbers of a text and the texts of a number. Public.
 pub mod NumbersOf
+-- Sets that gain the elements of a list, one after the other. Public.
+pub mod Adding
+-- The pairs of one text, and those with one number, as lists.
+mod ListedPairs
 -- Pairs by text and by number.
 mod Tables
 -- The counts of pairs.

@@ -13,4 +13,4 @@ returns c =
     let three =
     c.in_ok-insert-3.ensures.ok
     ∙ (λ i. finmap.insert (two i) (codes "/zookeeper/quota") (c.in_ok-childless.ensures i)) in
-    λ i. record { nodes = three i; pairs = c.new.ensures i; sessions = c.new-2.ensures i }
+    λ i. record { nodes = three i; pairs = c.keyed.ensures i; sessions = c.new.ensures i }
