@@ -37,12 +37,13 @@ or_true false = refl
 passes-each : (test : Bytes → Bool) (xs : List Bytes) (q : Bytes) → list_all test xs ≡ true
     → list_any (eq_by_cmp path_cmp q) xs ≡ true → test q ≡ true
 passes-each test [] q all any = absurd (true≢false (sym any))
-passes-each test (x ∷ xs) q all any = by (eq_by_cmp path_cmp q x) refl
+passes-each test (x ∷ xs) q all any = by (eq_by_cmp path_cmp q x) refl (passes-each test xs q)
   where
-    by : (t : Bool) → eq_by_cmp path_cmp q x ≡ t → test q ≡ true
-    by true e = ap test (tells_apart exact_bytes q x e) ∙ front_holds (test x) (list_all test xs) all
-    by false e =
-        passes-each test xs q (rest_holds (test x) (list_all test xs) all)
+    by : (t : Bool) → eq_by_cmp path_cmp q x ≡ t
+        → (list_all test xs ≡ true → list_any (eq_by_cmp path_cmp q) xs ≡ true → test q ≡ true) → test q ≡ true
+    by true e later = ap test (tells_apart exact_bytes q x e) ∙ front_holds (test x) (list_all test xs) all
+    by false e later =
+        later (rest_holds (test x) (list_all test xs) all)
         (ap (λ b. b || list_any (eq_by_cmp path_cmp q) xs) (sym e) ∙ any)
 
 each-passes : (test : Bytes → Bool) (xs : List Bytes)

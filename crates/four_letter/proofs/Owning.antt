@@ -11,6 +11,10 @@ use Rattle.four_letter.specs.Dumped.{has_ephemerals}
 use Rattle.four_letter.specs.Texts.{owner_block}
 use Rattle.four_letter.specs.Inner.Owners.{owner_if_any}
 
+pub owns_none : (pairs : OwnerPairs) (session : ℤ) → paths_of_session session pairs ≡ set.empty
+    → has_ephemerals pairs session ≡ false
+owns_none pairs session none = ap (λ n. nat_lt 0 n) (ap set.len none ∙ set.len-empty path_cmp)
+
 pub owns_some : (pairs : OwnerPairs) (session : ℤ) → paths_of_session session pairs ≢ set.empty
     → has_ephemerals pairs session ≡ true
 owns_some pairs session some = by (set.len (paths_of_session session pairs)) refl
