@@ -3,11 +3,10 @@
 ghost use Rattle.std.specs.Prelude.{◌≡◌};
 ghost use Rattle.std.specs.Option.{option_copied};
 ghost use Rattle.audit.specs.Clean.{is_childless, are_childless, counts_up, is_orderly, closes_clean, counts_all};
-ghost use Rattle.ephemerals.specs.Orders.{sorted_names};
 ghost use Rattle.paths_and_acls.specs.Paths.{is_child_path};
 
 use data_tree::{Node, Tree};
-use ephemerals::TextSet;
+use pairs::TextKey;
 use paths_and_acls::Path;
 use settings::Dialect;
 use txn_codec::{Operation, TxnHeader};
@@ -55,10 +54,10 @@ pub(crate) fn is_orderly(operation: &Operation, tree: &Tree) -> bool
     }
 }
 
-fn are_childless(paths: &TextSet, tree: &Tree) -> bool
-    ensures { result ≡ are_childless tree.now.nodes (sorted_names paths.now) }
+fn are_childless(paths: &[TextKey], tree: &Tree) -> bool
+    ensures { result ≡ are_childless tree.now.nodes paths.now }
 {
-    for path in paths.iter() {
+    for path in paths {
         if !is_childless(tree.node(path.as_str())) {
             return false;
         }
@@ -77,8 +76,5 @@ pub(crate) fn counts_all(header: &TxnHeader) -> bool
 pub(crate) fn closes_clean(header: &TxnHeader, tree: &Tree) -> bool
     ensures { result ≡ closes_clean header.now.client_id tree.now }
 {
-    match tree.ephemerals().of(header.client_id) {
-        None => true,
-        Some(paths) => are_childless(paths, tree),
-    }
+    are_childless(tree.ephemerals().paths_of(header.client_id), tree)
 }

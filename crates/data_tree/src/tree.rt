@@ -1,6 +1,6 @@
 //! The data tree.
 
-ghost use Rattle.std.specs.Prelude.{◌≡◌, ◌++◌, [], ◌↔◌, OnOk, OnErr, IfOk, IsTrue, not, map, String, string_bytes, codes};
+ghost use Rattle.std.specs.Prelude.{◌≡◌, ◌++◌, [], ◌↔◌, OnOk, OnErr, IfOk, IsTrue, not, codes};
 ghost use Rattle.std.specs.Option.{option_copied, option_map};
 ghost use Rattle.std.specs.FinMap as finmap;
 ghost use Rattle.std.specs.List.{IsDistinct};
@@ -22,7 +22,7 @@ ghost use Rattle.data_tree.specs.Cells.{cells_at, without_cells, with_cells, Has
 ghost use Rattle.data_tree.specs.Refused.{IsAfterFront};
 ghost use Rattle.data_tree.specs.Refused.{IsPartlyDone, IsLeftByRefused};
 ghost use Rattle.data_tree.specs.Inner.Doing.{DoesEffect};
-ghost use Rattle.ephemerals.specs.Orders.{path_cmp, sorted_names};
+ghost use Rattle.ephemerals.specs.Orders.{Bytes, path_cmp, sorted_names};
 
 use crate::multi::{failed_outcome, first_error};
 use crate::outcome::{
@@ -33,7 +33,7 @@ use ephemerals::{Ephemerals, TextSet};
 use indexmap::map::Iter;
 use jute::Stat;
 use jute::codes::{NO_NODE, NODE_EXISTS};
-use node_map::{AddedChild, HashKey, Node, NodeMap};
+use node_map::{AddedChild, HashKey, Node, NodeMap, TextKey};
 use paths_and_acls::{Path, name_of, parent_of};
 use settings::Dialect;
 use std::alloc::Global;
@@ -97,21 +97,12 @@ impl Tree {
         ensures { IfOk result (λ tree. tree ≡ fresh_state) }
     {
         let mut nodes = NodeMap::with_key(alloc, key);
-        nodes.insert(
-            String::from_str(alloc, "/")?,
-            Node::with_child(alloc, "zookeeper")?,
-        )?;
-        nodes.insert(
-            String::from_str(alloc, "/zookeeper")?,
-            Node::with_child(alloc, "quota")?,
-        )?;
-        nodes.insert(
-            String::from_str(alloc, "/zookeeper/quota")?,
-            Node::childless(alloc)?,
-        )?;
+        nodes.insert(alloc, "/", Node::with_child(alloc, "zookeeper")?)?;
+        nodes.insert(alloc, "/zookeeper", Node::with_child(alloc, "quota")?)?;
+        nodes.insert(alloc, "/zookeeper/quota", Node::childless(alloc)?)?;
         Ok(Tree {
             nodes,
-            ephemerals: Ephemerals::new(alloc),
+            ephemerals: Ephemerals::keyed(alloc, key),
             timeouts: Timeouts::new(alloc),
         })
     }
@@ -130,7 +121,7 @@ impl Tree {
     {
         Tree {
             nodes: NodeMap::with_key(alloc, key),
-            ephemerals: Ephemerals::new(alloc),
+            ephemerals: Ephemerals::keyed(alloc, key),
             timeouts: Timeouts::new(alloc),
         }
     }
@@ -221,9 +212,8 @@ impl Tree {
         ensures err { OnErr result (self.new ≡ self.old) }
     {
         let owner = node.stat.ephemeral_owner;
-        let key = String::from_str(alloc, path)?;
         let added = self.ephemerals.add(alloc, owner, path)?;
-        match self.nodes.insert(key, node) {
+        match self.nodes.insert(alloc, path, node) {
             Ok(()) => Ok(()),
             Err(error) => {
                 if added {
@@ -452,7 +442,7 @@ impl Tree {
             (triggers.new.items ≡ triggers.old.items ++
             (of_close_session header.now listed.now self.old).triggers) }
     {
-        let own = self.ephemerals.take_session(alloc, header.client_id);
+        let own = self.ephemerals.take_session(alloc, header.client_id)?;
         self.timeouts.remove(header.client_id);
         let paths = with_names(alloc, own, listed)?;
         self.delete_all(alloc, header, paths, triggers)
@@ -565,11 +555,11 @@ impl Tree {
     }
 
     /// The nodes with their paths, each once, in no order that a caller may rely on.
-    pub fn nodes(&self) -> Iter<'_, String, Node>
-        ensures nodes { finmap.from_entries (map (λ e. (string_bytes e.0, e.1)) result) ≡ self.now.nodes }
-        ensures once { IsDistinct (eq_by_cmp path_cmp) (keys_of (map (λ e. (string_bytes e.0, e.1)) result)) }
-        ensures entries { IsPermutation (finmap.entries self.now.nodes) (map (λ e. (string_bytes e.0, e.1)) result) }
-        ensures runs { ShowsInOrder (deref_pair {K = String Global} {X = TheNode}) }
+    pub fn nodes(&self) -> Iter<'_, TextKey, Node>
+        ensures nodes { finmap.from_entries result ≡ self.now.nodes }
+        ensures once { IsDistinct (eq_by_cmp path_cmp) (keys_of result) }
+        ensures entries { IsPermutation (finmap.entries self.now.nodes) result }
+        ensures runs { ShowsInOrder (deref_pair {K = Bytes} {X = TheNode}) }
     {
         self.nodes.iter()
     }

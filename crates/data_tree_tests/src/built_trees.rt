@@ -148,7 +148,7 @@ fn paths(alloc: Global, tree: &Tree) -> Result<String, Fail> {
     let mut paths = TextSet::new(alloc);
     for (path, _) in tree.nodes() {
         count = count.wrapping_add(1);
-        paths.insert(path.clone()?)?;
+        paths.insert(String::from_str(alloc, path.as_str())?)?;
     }
     listed(alloc, count, &paths)
 }

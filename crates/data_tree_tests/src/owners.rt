@@ -7,13 +7,12 @@ use std::test::Fail;
 // The paths of a session, one after another; a dash if there are none.
 fn paths(alloc: Global, owners: &Ephemerals, session: i64) -> Result<String, Fail> {
     let mut text = String::new(alloc);
-    match owners.of(session) {
-        None => text.push_str("-")?,
-        Some(paths) => {
-            for path in paths.iter() {
-                text.push_str(path)?;
-            }
-        }
+    if !owners.owns_any(session) {
+        text.push_str("-")?;
+    }
+    let paths = owners.of(alloc, session)?;
+    for path in paths.iter() {
+        text.push_str(path)?;
     }
     Ok(text)
 }
@@ -86,7 +85,8 @@ fn pairs_come_and_go(rt: HostRuntime) -> Result<(), Fail> {
     let signs = fill(rt.alloc(), &mut owners)?;
     assert_eq!(rt; signs.as_str(), "++--");
     assert_eq!(rt; moved(rt.alloc(), &owners)?.as_str(), "-;/a;/b;");
-    assert_eq!(rt; owners.take_session(rt.alloc(), 9).len(), 2);
+    assert_eq!(rt; owners.paths_of(9).len(), 2);
+    assert_eq!(rt; owners.take_session(rt.alloc(), 9)?.len(), 2);
     assert_eq!(rt; text_of(rt.alloc(), &owners)?.as_str(), "-;-;-;");
     Ok(())
 }

@@ -6,19 +6,15 @@ pub mod Ties
 pub mod Errors
 -- The first of a list of texts in order.
 pub mod TextSets
--- The pairs of one session, and those of the others.
+-- The pairs of one session, and those of the others. Public.
 pub mod SessionPaths
--- Sets of paths by session as a set of pairs.
-pub mod PairSets
 -- One owner in place of another.
 pub mod OtherOwner
--- The number of pairs.
-pub mod Counts
--- Pairs that are stored as a set for each key. Public.
-pub mod Grouped
 -- The elements of a set that is listed in order. Public.
 pub mod Ascending
--- Sets of sessions by path as a set of pairs.
-pub mod PathSets
--- Pairs that are visited by path or by session, and pairs at some paths. Public.
+-- Pairs at one path, and at some paths. Public.
 pub mod Steps
+-- Sessions and numbers, one to one.
+mod Numbers
+-- The owners, as they are stored: with a number for each session.
+mod OwnersView

@@ -3,7 +3,8 @@ use Rattle.std.proofs.Common.{◌≡◌, List, [], ◌∷◌, false, true, Optio
 use Rattle.std.specs.declared.cmp.Ordering.TheVariants.{Less}
 use Rattle.std.specs.List.Sorted.{IsStrictlySortedBy}
 use mathlib.Core.Bool.{true≢false}
-use Rattle.std.specs.List.{All, AllByRecursion, AllZip}
+use Rattle.std.specs.List.{All, AllByRecursion, AllZip, IsDistinct}
+use Rattle.std.specs.Str.{bytes_eq}
 use Rattle.std.specs.String.{string_cmp}
 use Rattle.std.specs.declared.string.String.{String}
 use Rattle.std.proofs.lemmas.List.Elements.{recursion_from_All}
@@ -49,3 +50,7 @@ same_bytes [] [] h = refl
 same_bytes [] (y ∷ ys) h = absurd h
 same_bytes (x ∷ xs) [] h = absurd h
 same_bytes (x ∷ xs) (y ∷ ys) h = λ i. h.0 i ∷ same_bytes xs ys h.1 i
+
+pub distinct-none : IsDistinct bytes_eq []
+unfolding IsDistinct
+distinct-none = tt

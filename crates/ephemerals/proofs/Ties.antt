@@ -1,16 +1,10 @@
--- Equality of two pairs, by their order.
-use Rattle.std.proofs.Common.{◌≡◌, ℤ, Bool, true, false, ◌&&◌, refl}
-use Rattle.std.specs.Ordering.{eq_by_cmp, is_eq, int_cmp, int_eq, ordering_then}
+-- Equality of two pairs, and of two sessions, by their order.
+use Rattle.std.proofs.Common.{◌≡◌, ℤ, Bool, true, false, refl}
+use Rattle.std.specs.Ordering.{eq_by_cmp, int_cmp, int_eq}
 use Rattle.std.specs.Cmp.{int_cmp_total, eq_by_cmp_equiv}
-use Rattle.std.specs.declared.cmp.Ordering.{Ordering}
-use Rattle.std.specs.declared.cmp.Ordering.TheVariants.{Less, Equal, Greater}
 use Rattle.std.proofs.lemmas.Map.Views.{tells_apart}
 use Rattle.std.proofs.lemmas.Map.Lookups.{exact_signed}
-
-pub tied_then : (a b : Ordering) → is_eq (ordering_then a b) ≡ (is_eq a && is_eq b)
-tied_then Less b = refl
-tied_then Equal b = refl
-tied_then Greater b = refl
+pub use Rattle.pairs.proofs.Ties.{tied_then}
 
 -- Whether two sessions are equal, by their order.
 pub same_session : (a b : ℤ) → int_eq a b ≡ eq_by_cmp int_cmp b a

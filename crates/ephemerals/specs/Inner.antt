@@ -1,5 +1,4 @@
 -- The models of the types' private fields. No caller depends on this.
 pub mod NamesView
-pub mod PairsView
-pub mod SessionsView
+pub mod OwnersView
 pub mod Steps

@@ -1,23 +1,21 @@
 //! Ordered sets of texts, and the paths that each session owns.
 //!
 //! A `TextSet` is a finite set of texts that iterates in ascending order of their bytes: a node's children, or a
-//! session's paths. `Ephemerals` is a finite set of pairs of a session and a path, stored by session and by path, so
-//! that ending a session and removing a path look at no other pairs. Session 0 owns nothing: adding or removing a pair
-//! of it does nothing.
+//! session's paths. `Ephemerals` is a finite set of pairs of a session and a path, found by either (`pairs`), so that
+//! ending a session and removing a path look at no other pairs. Session 0 owns nothing: adding or removing a pair of it
+//! does nothing.
 //!
 //! ```text
-//! let mut owners = Ephemerals::new(alloc);
+//! let mut owners = Ephemerals::keyed(alloc, key);
 //! owners.add(alloc, 9, "/a")?;                // true: the pair is new
 //! owners.replace(alloc, "/a", 9, 7)?;         // from session 9 to session 7
-//! owners.of(9)                                // None
-//! owners.take_session(alloc, 7)               // the set of "/a"
+//! owners.of(alloc, 7)?                        // the set of "/a"
+//! owners.owns_any(9)                          // false
 //! ```
 #![tactic(auto)]
 
-mod by_path;
-mod by_session;
+mod number_of_session;
 mod owners;
-mod session_set;
 mod text_set;
 
 pub use owners::Ephemerals;

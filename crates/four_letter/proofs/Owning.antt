@@ -1,15 +1,15 @@
 -- The sessions of a tree that own ephemeral nodes.
-use Rattle.std.proofs.Common.{◌≡◌, ◌≢◌, ℕ, zero, suc, ◌+◌, ◌-◌, ◌≤◌, ℤ, Bool, true, false, Option, Some, None, IfSome, IfNone, is_some, List, [], ◌∷◌, ◌++◌, length, map, refl, ap, ◌∙◌, arith}
+use Rattle.std.proofs.Common.{◌≡◌, ◌≢◌, ℕ, zero, suc, ◌+◌, ◌-◌, ◌≤◌, ℤ, Bool, true, false, IsTrue, ◌↔◌, List, [], ◌∷◌, ◌++◌, length, map, refl, sym, ap, ◌∙◌, arith}
 use Rattle.std.specs.Prelude.{nat_lt, if◌then◌else◌}
 use Rattle.std.specs.List.{filter, flat_map}
 use Rattle.std.specs.FinSet as set
 use Rattle.std.proofs.lemmas.Bool.{lt-ltb}
-use Rattle.ephemerals.specs.Orders.{Names, OwnerPairs, path_cmp}
+use mathlib.Core.Bool.{true≢false}
+use Rattle.ephemerals.specs.Orders.{OwnerPairs, path_cmp}
 use Rattle.ephemerals.specs.Pairs.{paths_of_session}
 use Rattle.four_letter.specs.Dumped.{has_ephemerals}
 use Rattle.four_letter.specs.Texts.{owner_block}
 use Rattle.four_letter.specs.Inner.Owners.{owner_if_any}
-use denote.Ref.{Bor}
 
 pub owns_none : (pairs : OwnerPairs) (session : ℤ) → paths_of_session session pairs ≡ set.empty
     → has_ephemerals pairs session ≡ false
@@ -23,13 +23,17 @@ owns_some pairs session some = by (set.len (paths_of_session session pairs)) ref
     by zero e = absurd (some (set.empty_of_len (paths_of_session session pairs) e))
     by (suc n) e = lt-ltb 0 (suc n) (omega arith)
 
--- What a search for the session's paths tells.
-pub owns_if_found : (pairs : OwnerPairs) (session : ℤ) (found : Option (Bor Names))
-    → IfSome found (λ paths. paths.now ≡ paths_of_session session pairs)
-    → IfSome found (λ paths. paths.now ≢ set.empty) → IfNone found (paths_of_session session pairs ≡ set.empty)
-    → has_ephemerals pairs session ≡ is_some found
-owns_if_found pairs session None paths some none = owns_none pairs session none
-owns_if_found pairs session (Some found) paths some none = owns_some pairs session (λ e. some (paths ∙ e))
+-- What `owns_any` tells.
+pub owns_if_any : (pairs : OwnerPairs) (session : ℤ) (owns : Bool)
+    → IsTrue owns ↔ (paths_of_session session pairs ≢ set.empty) → has_ephemerals pairs session ≡ owns
+owns_if_any pairs session true is = owns_some pairs session (is.0 refl)
+owns_if_any pairs session false is = by (set.len (paths_of_session session pairs)) refl
+  where
+    by : (n : ℕ) → set.len (paths_of_session session pairs) ≡ n → nat_lt 0 n ≡ false
+    by zero e = refl
+    by (suc n) e =
+        absurd (true≢false (sym (is.1 (λ none.
+        absurd (omega (arith, sym e ∙ ap set.len none ∙ set.len-empty path_cmp))))))
 
 -- The sessions of the entries.
 abbrev pub sessions_in : List (ℤ × ℤ) → List ℤ

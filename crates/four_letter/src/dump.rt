@@ -11,6 +11,7 @@ ghost use Rattle.four_letter.specs.Inner.Owners.{owner_if_any};
 use crate::put::{put, put_heading, put_id, put_path, put_timeout};
 use data_tree::Timeouts;
 use ephemerals::{Ephemerals, TextSet};
+use std::alloc::Global;
 use values::NoMemory;
 
 fn put_timeouts(out: &mut Vec<u8>, timeouts: &Timeouts) -> Result<(), NoMemory>
@@ -40,7 +41,7 @@ fn owner_count(timeouts: &Timeouts, ephemerals: &Ephemerals) -> usize
     let sessions = timeouts.iter();
     let mut count = sessions.len();
     for (session, _) in sessions {
-        if ephemerals.of(*session).is_none() {
+        if !ephemerals.owns_any(*session) {
             count -= 1;
         }
     }
@@ -48,20 +49,25 @@ fn owner_count(timeouts: &Timeouts, ephemerals: &Ephemerals) -> usize
 }
 
 // Appends a session with its ephemeral nodes, if it has any.
-fn put_owner(out: &mut Vec<u8>, session: i64, ephemerals: &Ephemerals) -> Result<(), NoMemory>
+fn put_owner(
+    out: &mut Vec<u8>,
+    alloc: Global,
+    session: i64,
+    ephemerals: &Ephemerals,
+) -> Result<(), NoMemory>
     ensures { OnOk result (out.new.items ≡ out.old.items ++ owner_if_any ephemerals.now session) }
 {
-    match ephemerals.of(session) {
-        None => return Ok(()),
-        Some(paths) => {
-            put_id(out, session, ":\n")?;
-            put_paths(out, paths)
-        }
+    if !ephemerals.owns_any(session) {
+        return Ok(());
     }
+    let paths = ephemerals.of(alloc, session)?;
+    put_id(out, session, ":\n")?;
+    put_paths(out, &paths)
 }
 
 fn put_owners(
     out: &mut Vec<u8>,
+    alloc: Global,
     timeouts: &Timeouts,
     ephemerals: &Ephemerals,
 ) -> Result<(), NoMemory>
@@ -69,7 +75,7 @@ fn put_owners(
         ++ flat_map (owner_block ephemerals.now) (owning_sessions timeouts.now ephemerals.now)) }
 {
     for (session, _) in timeouts.iter() {
-        put_owner(out, *session, ephemerals)?;
+        put_owner(out, alloc, *session, ephemerals)?;
     }
     Ok(())
 }
@@ -77,6 +83,7 @@ fn put_owners(
 /// Appends the sessions with their timeouts, and those with ephemeral nodes.
 pub fn put_dump(
     out: &mut Vec<u8>,
+    alloc: Global,
     timeouts: &Timeouts,
     ephemerals: &Ephemerals,
 ) -> Result<(), NoMemory>
@@ -91,5 +98,5 @@ pub fn put_dump(
         "Sessions with Ephemerals ",
         owner_count(timeouts, ephemerals),
     )?;
-    put_owners(out, timeouts, ephemerals)
+    put_owners(out, alloc, timeouts, ephemerals)
 }

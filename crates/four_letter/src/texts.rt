@@ -113,7 +113,7 @@ fn put_text(
         Word::Wchs => put_wchs(out, &figures.watched),
         Word::Wchp => put_wchp(out, alloc, figures.watches.as_slice()),
         Word::Wchc => put_wchc(out, alloc, figures.watches.as_slice()),
-        Word::Dump => put_dump(out, figures.timeouts.get(), figures.ephemerals.get()),
+        Word::Dump => put_dump(out, alloc, figures.timeouts.get(), figures.ephemerals.get()),
     }
 }
 

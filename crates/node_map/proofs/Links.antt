@@ -1,7 +1,6 @@
 -- What holds of each entry holds of each node of a map, and how nodes are linked.
 use Rattle.std.proofs.Common.{◌≡◌, suc, ◌<◌, List, [], ◌∷◌, Bool, true, false, cond, Option, Some, None, refl, sym, ap, subst, ◌∙◌, ◌||◌, ◌↔◌, map, length, string_bytes, is_some, arith}
 use mathlib.Core.Bool.{true≢false}
-use Rattle.std.specs.Map.{lookup}
 use Rattle.std.specs.List.{list_any, All, AllByRecursion}
 use Rattle.std.specs.Ordering.{eq_by_cmp, is_eq}
 use Rattle.std.specs.Cmp.{tied_itself}
@@ -13,14 +12,13 @@ use Rattle.std.specs.FinSet as set
 use Rattle.ephemerals.specs.Orders.{Bytes, Names, path_cmp}
 use Rattle.paths_and_acls.specs.Paths.{child_of}
 use Rattle.node_map.specs.Nodes.{Nodes}
-use Rattle.node_map.specs.Inner.NodesView.{nodes_of}
 use Rattle.node_map.specs.Agreement.{has_node, has_parent, is_listed, AreLinked}
 use Rattle.node_map.specs.Children.{HasItsChildren}
 use Rattle.node_map.specs.declared.node.Node.{Node}
 use Rattle.ephemerals.proofs.Totals.{path_total}
 use Rattle.node_map.proofs.Deciding.{Decides}
 use Rattle.node_map.proofs.HashedNodes.{AreApart, IsFound, each_found}
-use Rattle.values.proofs.Keyed.{query, get-text_map_of}
+use Rattle.pairs.proofs.Hashed.{map_of}
 
 pub each_of_all : {A : Type 0} (P : A → Type 0) (xs : List A) → All P xs → AllByRecursion P xs
 each_of_all P [] h = tt
@@ -74,28 +72,28 @@ module _ {Z : Type 0} (P : Bytes → Type 0) where
   )
 
 -- The entries visited are the nodes of a map.
-module _ {Z : Type 0} (P : Bytes → Node → Type 0) where
-  each_entry : (q : Bytes) (node : Node) (es : List (String Z × Node))
-      → AllByRecursion (λ (e : String Z × Node). P (string_bytes e.0) e.1) es → lookup (query q) es ≡ Some node
+module _ (P : Bytes → Node → Type 0) where
+  each_entry : (q : Bytes) (node : Node) (es : List (Bytes × Node))
+      → AllByRecursion (λ (e : Bytes × Node). P e.0 e.1) es → finmap.find path_cmp q es ≡ Some node
       → P q node
   each_entry q node [] all found = cc
   each_entry q node (e ∷ es) all found =
-      by (each_entry q node es all.1) (eq_by_cmp path_cmp q (string_bytes e.0)) refl found
+      by (each_entry q node es all.1) (eq_by_cmp path_cmp q e.0) refl found
     where
-      by : (lookup (query q) es ≡ Some node → P q node) → (b : Bool) → eq_by_cmp path_cmp q (string_bytes e.0) ≡ b
-          → cond b (Some e.1) (lookup (query q) es) ≡ Some node → P q node
+      by : (finmap.find path_cmp q es ≡ Some node → P q node) → (b : Bool) → eq_by_cmp path_cmp q e.0 ≡ b
+          → cond b (Some e.1) (finmap.find path_cmp q es) ≡ Some node → P q node
       by rest true t found = let same : e.1 ≡ node =
           cc in subst (λ n. P q n) same
-          (subst (λ p. P p e.1) (sym (tells_apart exact_bytes q (string_bytes e.0) t)) all.0)
+          (subst (λ p. P p e.1) (sym (tells_apart exact_bytes q e.0 t)) all.0)
       by rest false t found = rest found
 
-  pub all_nodes : (es : List (String Z × Node)) → AreApart es
-      → AllByRecursion (λ (e : String Z × Node). P (string_bytes e.0) e.1) es
-      ↔ ((path : Bytes) (node : Node) → finmap.get (nodes_of es) path ≡ Some node → P path node)
+  pub all_nodes : (es : List (Bytes × Node)) → AreApart es
+      → AllByRecursion (λ (e : Bytes × Node). P e.0 e.1) es
+      ↔ ((path : Bytes) (node : Node) → finmap.get (map_of es) path ≡ Some node → P path node)
   all_nodes es apart = (
-    (λ all path node is. each_entry path node es all (sym (get-text_map_of es path) ∙ is)),
-    (λ each. all_map (IsFound (nodes_of es)) (λ (e : String Z × Node). P (string_bytes e.0) e.1)
-        (λ e is. each (string_bytes e.0) e.1 is) es (each_found es apart)),
+    (λ all path node is. each_entry path node es all (sym (finmap.get-from_entries path_total es path) ∙ is)),
+    (λ each. all_map (IsFound (map_of es)) (λ (e : Bytes × Node). P e.0 e.1)
+        (λ e is. each e.0 e.1 is) es (each_found es apart)),
   )
 
 -- What a node contributes to the agreement of nodes and names.
@@ -128,13 +126,13 @@ linked-is nodes = (
     children each path name None is one = absurd (true≢false (sym one))
     children each path name (Some node) is one = (each path node is).1 name one
 
-pub linked-entries : {Z : Type 0} (es : List (String Z × Node)) → AreApart es
-    → (rest : List (String Z × Node)) → rest ≡ es → (nodes : Nodes) → nodes_of es ≡ nodes
-    → Decides (λ (e : String Z × Node). IsLinked nodes (string_bytes e.0) e.1) (AreLinked nodes) rest
-linked-entries {Z} es apart rest all nodes is =
-    subst (λ ns. Decides (λ (e : String Z × Node). IsLinked ns (string_bytes e.0) e.1) (AreLinked ns) rest) is
-    (subst (λ xs. Decides (λ (e : String Z × Node). IsLinked (nodes_of es) (string_bytes e.0) e.1)
-    (AreLinked (nodes_of es)) xs) (sym all) (
-      (λ each. (linked-is (nodes_of es)).0 ((all_nodes (IsLinked (nodes_of es)) es apart).0 each)),
-      (λ linked. (all_nodes (IsLinked (nodes_of es)) es apart).1 ((linked-is (nodes_of es)).1 linked)),
+pub linked-entries : (es : List (Bytes × Node)) → AreApart es
+    → (rest : List (Bytes × Node)) → rest ≡ es → (nodes : Nodes) → map_of es ≡ nodes
+    → Decides (λ (e : Bytes × Node). IsLinked nodes e.0 e.1) (AreLinked nodes) rest
+linked-entries es apart rest all nodes is =
+    subst (λ ns. Decides (λ (e : Bytes × Node). IsLinked ns e.0 e.1) (AreLinked ns) rest) is
+    (subst (λ xs. Decides (λ (e : Bytes × Node). IsLinked (map_of es) e.0 e.1)
+    (AreLinked (map_of es)) xs) (sym all) (
+      (λ each. (linked-is (map_of es)).0 ((all_nodes (IsLinked (map_of es)) es apart).0 each)),
+      (λ linked. (all_nodes (IsLinked (map_of es)) es apart).1 ((linked-is (map_of es)).1 linked)),
     ))

@@ -1,5 +1,5 @@
 -- Nodes that are taken out of a map, and put into one.
-use Rattle.std.proofs.Common.{◌≡◌, List, [], ◌∷◌, Bool, true, false, cond, not, ◌||◌, ◌&&◌, Option, Some, None, is_some, ◌⊎◌, inl, inr, refl, sym, ap, ◌∙◌, string_bytes}
+use Rattle.std.proofs.Common.{◌≡◌, List, [], ◌∷◌, Bool, true, false, cond, not, ◌||◌, ◌&&◌, Option, Some, None, is_some, ◌⊎◌, inl, inr, refl, sym, ap, ◌∙◌}
 use Rattle.std.specs.List.{list_any}
 use Rattle.std.specs.Option.{option_or}
 use Rattle.std.proofs.Math.Bool.{and-false, or-false}
@@ -7,7 +7,6 @@ use Rattle.std.specs.Ordering.{eq_by_cmp}
 use Rattle.std.specs.FinMap as finmap
 use Rattle.std.specs.FinSet as set
 use mathlib.Core.Bool.{true≢false}
-use Rattle.std.specs.declared.string.String.{String}
 use Rattle.std.proofs.lemmas.Map.Lookups.{exact_bytes}
 use Rattle.std.proofs.lemmas.Map.Views.{tells_apart}
 use Rattle.ephemerals.specs.Orders.{Bytes, Names, path_cmp, sorted_names}
@@ -18,7 +17,7 @@ use Rattle.node_map.specs.Agreement.{has_node}
 use Rattle.node_map.specs.Updates.{update_found, with_entries, IsBetween}
 use Rattle.node_map.specs.Inner.Moving.{IsRoomFor, with_replaced_node, without_nodes, with_moved_nodes}
 use Rattle.node_map.specs.declared.node.Node.{Node}
-use Rattle.values.proofs.Keyed.{text_map_of, get-text_map_of}
+use Rattle.pairs.proofs.Hashed.{map_of}
 use Rattle.node_map.proofs.HashedNodes.{AreApart, apart_first, apart_rest, not_found_apart}
 
 -- ---- the nodes
@@ -190,69 +189,69 @@ room_for_all paths nodes room all q = sym (or-false (has_node room q)) ∙ all q
 -- ---- nodes that are inserted one by one
 
 -- The first nodes with those of the others that aren't left. At each path they are as before, or as with all others.
-pub record IsJoining {Z : Type 0} (others old : Nodes) (left : List (String Z × Node)) (nodes : Nodes) : Type 0 where
+pub record IsJoining (others old : Nodes) (left : List (Bytes × Node)) (nodes : Nodes) : Type 0 where
   apart : AreApart left
-  same : (q : Bytes) → option_or (finmap.get (text_map_of left) q) (finmap.get nodes q)
+  same : (q : Bytes) → option_or (finmap.get (map_of left) q) (finmap.get nodes q)
       ≡ option_or (finmap.get others q) (finmap.get old q)
   either : (q : Bytes) → (finmap.get nodes q ≡ finmap.get old q)
       ⊎ (finmap.get nodes q ≡ option_or (finmap.get others q) (finmap.get old q))
 
-pub joining : {Z : Type 0} (others old : Nodes) (all : List (String Z × Node))
-    → AreApart all → text_map_of all ≡ others → IsJoining others old all old
+pub joining : (others old : Nodes) (all : List (Bytes × Node))
+    → AreApart all → map_of all ≡ others → IsJoining others old all old
 joining others old all apart is = record {
   apart = apart;
   same = λ q. ap (λ m. option_or (finmap.get m q) (finmap.get old q)) is;
   either = λ q. inl refl;
 }
 
-pub joined_one : {Z : Type 0} (others old nodes new : Nodes) (e : String Z × Node) (es : List (String Z × Node))
-    → IsJoining others old (e ∷ es) nodes → new ≡ finmap.insert nodes (string_bytes e.0) e.1
+pub joined_one : (others old nodes new : Nodes) (e : Bytes × Node) (es : List (Bytes × Node))
+    → IsJoining others old (e ∷ es) nodes → new ≡ finmap.insert nodes e.0 e.1
     → IsJoining others old es new
 joined_one others old nodes new e es before made = record {
   apart = apart_rest e es before.apart;
   same =
       λ q.
-      ap (option_or (finmap.get (text_map_of es) q))
-      (ap (λ m. finmap.get m q) made ∙ finmap.get-insert path_total nodes (string_bytes e.0) e.1 q)
-      ∙ by q (eq_by_cmp path_cmp q (string_bytes e.0)) refl
+      ap (option_or (finmap.get (map_of es) q))
+      (ap (λ m. finmap.get m q) made ∙ finmap.get-insert path_total nodes e.0 e.1 q)
+      ∙ by q (eq_by_cmp path_cmp q e.0) refl
       ∙ ap (λ o. option_or o (finmap.get nodes q))
-      (sym (finmap.get-insert path_total (text_map_of es) (string_bytes e.0) e.1 q))
+      (sym (finmap.get-insert path_total (map_of es) e.0 e.1 q))
       ∙ before.same q;
   either =
       λ q.
-      now_either q (eq_by_cmp path_cmp q (string_bytes e.0)) refl
-      (ap (λ m. finmap.get m q) made ∙ finmap.get-insert path_total nodes (string_bytes e.0) e.1 q) (before.either q);
+      now_either q (eq_by_cmp path_cmp q e.0) refl
+      (ap (λ m. finmap.get m q) made ∙ finmap.get-insert path_total nodes e.0 e.1 q) (before.either q);
 }
   where
-    by : (q : Bytes) (b : Bool) → eq_by_cmp path_cmp q (string_bytes e.0) ≡ b
-        → option_or (finmap.get (text_map_of es) q) (cond b (Some e.1) (finmap.get nodes q))
-        ≡ option_or (cond b (Some e.1) (finmap.get (text_map_of es) q)) (finmap.get nodes q)
+    by : (q : Bytes) (b : Bool) → eq_by_cmp path_cmp q e.0 ≡ b
+        → option_or (finmap.get (map_of es) q) (cond b (Some e.1) (finmap.get nodes q))
+        ≡ option_or (cond b (Some e.1) (finmap.get (map_of es) q)) (finmap.get nodes q)
     by q true t = ap (λ o. option_or o (Some e.1))
-        (ap (finmap.get (text_map_of es)) (tells_apart exact_bytes q (string_bytes e.0) t)
-        ∙ get-text_map_of es (string_bytes e.0)
+        (ap (finmap.get (map_of es)) (tells_apart exact_bytes q e.0 t)
+        ∙ finmap.get-from_entries path_total es e.0
         ∙ not_found_apart e.0 es (apart_first e es before.apart))
     by q false t = refl
 
-    now_either : (q : Bytes) (b : Bool) → eq_by_cmp path_cmp q (string_bytes e.0) ≡ b
-        → finmap.get new q ≡ cond (eq_by_cmp path_cmp q (string_bytes e.0)) (Some e.1) (finmap.get nodes q)
+    now_either : (q : Bytes) (b : Bool) → eq_by_cmp path_cmp q e.0 ≡ b
+        → finmap.get new q ≡ cond (eq_by_cmp path_cmp q e.0) (Some e.1) (finmap.get nodes q)
         → (finmap.get nodes q ≡ finmap.get old q)
         ⊎ (finmap.get nodes q ≡ option_or (finmap.get others q) (finmap.get old q))
         → (finmap.get new q ≡ finmap.get old q) ⊎ (finmap.get new q ≡ option_or (finmap.get others q) (finmap.get old q))
     now_either q true t is or =
         inr (is ∙ ap (λ b. cond b (Some e.1) (finmap.get nodes q)) t
-        ∙ ap (λ o. option_or o (finmap.get nodes q)) (sym (finmap.get-insert path_total (text_map_of es)
-        (string_bytes e.0) e.1 q ∙ ap (λ b. cond b (Some e.1) (finmap.get (text_map_of es) q)) t))
+        ∙ ap (λ o. option_or o (finmap.get nodes q)) (sym (finmap.get-insert path_total (map_of es)
+        e.0 e.1 q ∙ ap (λ b. cond b (Some e.1) (finmap.get (map_of es) q)) t))
         ∙ before.same q)
     now_either q false t is (inl stays) = inl (is ∙ ap (λ b. cond b (Some e.1) (finmap.get nodes q)) t ∙ stays)
     now_either q false t is (inr joined) = inr (is ∙ ap (λ b. cond b (Some e.1) (finmap.get nodes q)) t ∙ joined)
 
-pub all_joined : {Z : Type 0} (others old nodes : Nodes) → IsJoining {Z = Z} others old [] nodes
+pub all_joined : (others old nodes : Nodes) → IsJoining others old [] nodes
     → nodes ≡ with_entries old (finmap.entries others)
 all_joined others old nodes joined = finmap.same_map path_total exact_bytes _ _ (λ q.
     ap (λ o. option_or o (finmap.get nodes q)) (sym (finmap.get-empty path_cmp q))
     ∙ joined.same q ∙ sym (get-with old others q))
 
-pub joined_between : {Z : Type 0} (others old nodes : Nodes) (es : List (String Z × Node)) → IsJoining others old es nodes
+pub joined_between : (others old nodes : Nodes) (es : List (Bytes × Node)) → IsJoining others old es nodes
     → IsBetween old (with_entries old (finmap.entries others)) nodes
 joined_between others old nodes es joined q = by (joined.either q)
   where

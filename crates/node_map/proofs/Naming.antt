@@ -1,5 +1,5 @@
 -- Paths and names stay valid.
-use Rattle.std.proofs.Common.{◌≡◌, ℕ, Bool, true, false, not, ◌&&◌, ◌||◌, ◌==◌, cond, List, [], ◌∷◌, Option, Some, None, is_some, string_bytes, refl, sym, ap, subst, ◌∙◌, if◌then◌else◌}
+use Rattle.std.proofs.Common.{◌≡◌, ℕ, Bool, true, false, not, ◌&&◌, ◌||◌, ◌==◌, cond, List, [], ◌∷◌, Option, Some, None, is_some, refl, sym, ap, subst, ◌∙◌, if◌then◌else◌}
 use mathlib.Core.Bool.{true≢false}
 use Rattle.std.specs.Ordering.{eq_by_cmp}
 use Rattle.std.specs.List.{list_any, list_all, slice_split, onto_first}
@@ -10,10 +10,9 @@ use Rattle.std.specs.FinSet as set
 use Rattle.ephemerals.specs.Orders.{Bytes, Names, path_cmp}
 use Rattle.ephemerals.proofs.Totals.{path_total}
 use Rattle.paths_and_acls.specs.Paths.{is_name, are_names, is_path, is_child_path, has_slash, after_last_slash, name_of}
-use Rattle.std.specs.declared.string.String.{String}
-use Rattle.node_map.specs.Inner.NodesView.{nodes_of}
 use Rattle.node_map.specs.Nodes.{Nodes}
 use Rattle.node_map.proofs.Deciding.{Decides}
+use Rattle.pairs.proofs.Hashed.{map_of}
 use Rattle.node_map.proofs.HashedNodes.{AreApart}
 use Rattle.node_map.proofs.Links.{all_nodes}
 use Rattle.node_map.specs.Agreement.{is_listed, is_child_name, AreChildNames, AreNamed}
@@ -159,15 +158,15 @@ named_of_each nodes each = record {
     name_at path name None is one = absurd (true≢false (sym one))
     name_at path name (Some node) is one = (each path node is).names name one
 
-pub named_entries : {Z : Type 0} (es : List (String Z × Node)) → AreApart es
-    → (rest : List (String Z × Node)) → rest ≡ es → (nodes : Nodes) → nodes_of es ≡ nodes
-    → Decides (λ (e : String Z × Node). IsNamed (string_bytes e.0) e.1) (AreNamed nodes) rest
-named_entries {Z} es apart rest all nodes is =
-    subst (λ ns. Decides (λ (e : String Z × Node). IsNamed (string_bytes e.0) e.1) (AreNamed ns) rest) is
-    (subst (λ xs. Decides (λ (e : String Z × Node). IsNamed (string_bytes e.0) e.1) (AreNamed (nodes_of es)) xs)
+pub named_entries : (es : List (Bytes × Node)) → AreApart es
+    → (rest : List (Bytes × Node)) → rest ≡ es → (nodes : Nodes) → map_of es ≡ nodes
+    → Decides (λ (e : Bytes × Node). IsNamed e.0 e.1) (AreNamed nodes) rest
+named_entries es apart rest all nodes is =
+    subst (λ ns. Decides (λ (e : Bytes × Node). IsNamed e.0 e.1) (AreNamed ns) rest) is
+    (subst (λ xs. Decides (λ (e : Bytes × Node). IsNamed e.0 e.1) (AreNamed (map_of es)) xs)
     (sym all) (
-      (λ each. named_of_each (nodes_of es) ((all_nodes IsNamed es apart).0 each)),
-      (λ named. (all_nodes IsNamed es apart).1 (each_of_named (nodes_of es) named)),
+      (λ each. named_of_each (map_of es) ((all_nodes IsNamed es apart).0 each)),
+      (λ named. (all_nodes IsNamed es apart).1 (each_of_named (map_of es) named)),
     ))
 
 -- ---- one change

@@ -1,4 +1,3 @@
 -- What the contracts of private functions cite. No caller depends on this.
-pub mod NodesView
 pub mod NodeMapLends
 pub mod Moving

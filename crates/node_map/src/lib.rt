@@ -9,7 +9,7 @@
 //!
 //! ```text
 //! let mut nodes = NodeMap::new(alloc);
-//! nodes.insert(String::from_str(alloc, "/")?, Node::childless(alloc)?)?;
+//! nodes.insert(alloc, "/", Node::childless(alloc)?)?;
 //! nodes.add_child("/", name, &header, &create)?       // AddedChild::Added: the root's numbers before
 //! nodes.insert_new(alloc, "/a", Node::created(alloc, &header, &create)?)?     // true: there was no node at the path
 //! let taken = nodes.take(alloc, &paths)?;             // takes the nodes at the paths out
@@ -25,4 +25,4 @@ mod node_map;
 pub use added_child::AddedChild;
 pub use node::Node;
 pub use node_map::NodeMap;
-pub use pairs::HashKey;
+pub use pairs::{HashKey, TextKey};

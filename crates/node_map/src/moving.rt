@@ -28,10 +28,7 @@ impl NodeMap {
         let mut room = NodeMap::with_key(alloc, self.hash_key());
         for path in paths.iter() {
             if self.has(path.as_str()) {
-                room.insert(
-                    String::from_str(alloc, path.as_str())?,
-                    Node::placeholder(alloc),
-                )?;
+                room.insert(alloc, path.as_str(), Node::placeholder(alloc))?;
             }
         }
         Ok(room)

@@ -1,6 +1,6 @@
 //! The nodes by path, modelled as a finite map.
 
-ghost use Rattle.std.specs.Prelude.{◌≡◌, ◌↔◌, ℤ, OnOk, OnErr, IfOk, IsTrue, Option, None, Some, is_some, not, true, map, String, string_bytes};
+ghost use Rattle.std.specs.Prelude.{◌≡◌, ◌↔◌, ℤ, OnOk, OnErr, IfOk, IsTrue, Option, None, Some, is_some, not, true, String, string_bytes};
 ghost use Rattle.std.specs.Option.{option_copied, option_copied_mut};
 ghost use Rattle.std.specs.Borrow.{sem};
 ghost use Rattle.std.specs.FinMap as finmap;
@@ -8,7 +8,7 @@ ghost use Rattle.std.specs.List.{IsDistinct};
 ghost use Rattle.std.specs.List.Sorted.{IsPermutation};
 ghost use Rattle.std.specs.Map.{keys_of};
 ghost use Rattle.std.specs.Ordering.{eq_by_cmp};
-ghost use Rattle.ephemerals.specs.Orders.{path_cmp};
+ghost use Rattle.ephemerals.specs.Orders.{Bytes, path_cmp};
 ghost use Rattle.std.specs.Map.Iter.{ShowsInOrder, deref_pair};
 ghost use Rattle.node_map.specs.declared.node.Node.{Node as TheNode};
 ghost use Rattle.node_map.specs.Inner.NodeMapLends.{LendsNode};
@@ -22,7 +22,7 @@ use ephemerals::{Ephemerals, TextSet};
 use indexmap::IndexMap;
 use indexmap::map::Iter;
 use jute::StatPersisted;
-use pairs::HashKey;
+use pairs::{HashKey, KeyQuery, TextKey};
 use paths_and_acls::{AclList, child_of, is_path, name_of, parent_of};
 use std::alloc::{AllocError, Global};
 use std::marker::Model;
@@ -31,17 +31,16 @@ use values::NoMemory;
 
 /// Nodes by path.
 ///
-/// A node is found by the hash of its path. The nodes lie one after the other, in an order that depends on what was
-/// inserted and removed, and not on the key: a new one comes last, and the last one takes the place of one that is
-/// removed. So nothing is left of a path without a node.
+/// A node is found by the hash of its path, of which up to 30 bytes lie beside the node. The nodes lie one after the
+/// other, in an order that depends on what was inserted and removed, and not on the key: a new one comes last, and the
+/// last one takes the place of one that is removed. So nothing is left of a path without a node.
 #[derive(Drop)]
 pub struct NodeMap {
-    map: IndexMap<String, Node, HashKey>,
+    map: IndexMap<TextKey, Node, HashKey>,
 }
 
 impl Model for NodeMap {
     ghost use Rattle.node_map.specs.Nodes.{Nodes};
-    ghost use Rattle.node_map.specs.Inner.NodesView.{nodes_of};
 
     ghost Value = { Nodes };
 
@@ -51,7 +50,7 @@ impl Model for NodeMap {
 
     ghost coded = { finmap.code (coded_list coded_ℕ) node.the_row.coded };
 
-    ghost view = { λ m. nodes_of m.map.entries };
+    ghost view = { λ m. finmap.from_entries m.map.entries };
 }
 
 impl Clone for NodeMap {
@@ -109,7 +108,7 @@ impl NodeMap {
     pub fn get(&self, path: &str) -> Option<&Node>
         ensures { option_copied result ≡ finmap.get self.now path.now }
     {
-        self.map.get(path)
+        self.map.get(KeyQuery(path))
     }
 
     /// The number of nodes.
@@ -120,21 +119,29 @@ impl NodeMap {
     }
 
     /// The nodes with their paths, each once, in no order that a caller may rely on.
-    pub fn iter(&self) -> Iter<'_, String, Node>
-        ensures nodes { finmap.from_entries (map (λ e. (string_bytes e.0, e.1)) result) ≡ self.now }
-        ensures once { IsDistinct (eq_by_cmp path_cmp) (keys_of (map (λ e. (string_bytes e.0, e.1)) result)) }
-        ensures entries { IsPermutation (finmap.entries self.now) (map (λ e. (string_bytes e.0, e.1)) result) }
-        ensures runs { ShowsInOrder (deref_pair {K = String Global} {X = TheNode}) }
+    pub fn iter(&self) -> Iter<'_, TextKey, Node>
+        ensures nodes { finmap.from_entries result ≡ self.now }
+        ensures once { IsDistinct (eq_by_cmp path_cmp) (keys_of result) }
+        ensures entries { IsPermutation (finmap.entries self.now) result }
+        ensures runs { ShowsInOrder (deref_pair {K = Bytes} {X = TheNode}) }
     {
         self.map.iter()
     }
 
     /// Inserts a node at the path; it replaces another one there. A refused allocation changes nothing.
-    pub fn insert(&mut self, path: String, node: Node) -> Result<(), NoMemory>
-        ensures ok { OnOk result (self.new ≡ finmap.insert self.old (string_bytes path) node) }
+    pub fn insert(&mut self, alloc: Global, path: &str, node: Node) -> Result<(), NoMemory>
+        ensures ok { OnOk result (self.new ≡ finmap.insert self.old path.now node) }
         ensures err { OnErr result (self.new ≡ self.old) }
     {
-        self.map.insert(path, node)?;
+        self.put(TextKey::new(alloc, path)?, node)
+    }
+
+    // Inserts a node at the path of the key; it replaces another one there. A refused allocation changes nothing.
+    fn put(&mut self, key: TextKey, node: Node) -> Result<(), NoMemory>
+        ensures ok { OnOk result (self.new ≡ finmap.insert self.old key node) }
+        ensures err { OnErr result (self.new ≡ self.old) }
+    {
+        self.map.insert(key, node)?;
         Ok(())
     }
 
@@ -145,8 +152,8 @@ impl NodeMap {
         ensures err { OnErr result
             (IsBetween self.old (with_entries self.old (finmap.entries others)) self.new) }
     {
-        for (path, node) in others.map {
-            self.insert(path, node)?;
+        for (key, node) in others.map {
+            self.put(key, node)?;
         }
         Ok(())
     }
@@ -156,14 +163,14 @@ impl NodeMap {
         ensures value { result ≡ finmap.get self.old path.now }
         ensures removed { self.new ≡ finmap.remove self.old path.now }
     {
-        self.map.swap_remove(path)
+        self.map.swap_remove(KeyQuery(path))
     }
 
     pub(crate) fn get_mut(&mut self, path: &str) -> Option<&mut Node>
         ensures* writes_back { sem 𝓛 (LendsNode self.entry path.now result) }
         ensures value { option_copied_mut result ≡ finmap.get self.old path.now }
     {
-        self.map.get_mut(path)
+        self.map.get_mut(KeyQuery(path))
     }
 
     // Replaces the node at the path, if there is one.
@@ -182,7 +189,7 @@ impl NodeMap {
         ensures state { OnOk result (self.new ≡ with_new_node self.old path.now node) }
         ensures err { OnErr result (self.new ≡ self.old) }
     {
-        let key = String::from_str(alloc, path)?;
+        let key = TextKey::new(alloc, path)?;
         match self.map.insert(key, node)? {
             None => Ok(true),
             Some(old) => {

@@ -27,7 +27,7 @@ pub rest_holds : (a b : Bool) → T (a && b) → T b
 rest_holds true b h = h
 rest_holds false b h = absurd h
 
-any-append : {A : Type 0} (test : A → Bool) (xs ys : List A)
+pub any-append : {A : Type 0} (test : A → Bool) (xs ys : List A)
     → list_any test (xs ++ ys) ≡ (list_any test xs || list_any test ys)
 any-append test [] ys = refl
 any-append test (x ∷ xs) ys =
@@ -48,7 +48,8 @@ module _ {K V : Type 0} {R : K → K → Ordering} {S : V → V → Ordering} (o
   pair_exact : CmpEqualImpliesEq (pair_cmp R S)
   pair_exact = exact_pairs R S ek ev
 
-  any-one : (q k : K) (v : V) (ws : List V) → list_any (eq_by_cmp (pair_cmp R S) (q, v)) (map (λ (w : V). (k, w)) ws)
+  -- The key with each of the values.
+  pub any-one : (q k : K) (v : V) (ws : List V) → list_any (eq_by_cmp (pair_cmp R S) (q, v)) (map (λ (w : V). (k, w)) ws)
       ≡ (eq_by_cmp R q k && list_any (eq_by_cmp S v) ws)
   any-one q k v [] = sym (and-false (eq_by_cmp R q k))
   any-one q k v (w ∷ ws) =

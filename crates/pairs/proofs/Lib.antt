@@ -4,14 +4,18 @@ pub mod Totals
 pub mod Ties
 -- The number of elements of a set. Public.
 pub mod SetCounts
--- Maps and sets of texts that are found by their hash.
-mod Hashed
+-- Maps and sets of texts that are found by their hash. Public.
+pub mod Hashed
 -- Pairs that are stored as a set for each key. Public.
 pub mod Grouped
 -- The keys of pairs that are stored as a set for each key.
 mod Keys
 -- The numbers of a text and the texts of a number. Public.
 pub mod NumbersOf
+-- Sets that gain the elements of a list, one after the other. Public.
+pub mod Adding
+-- The pairs of one text, and those with one number, as lists.
+mod ListedPairs
 -- Pairs by text and by number.
 mod Tables
 -- The counts of pairs.

@@ -18,7 +18,7 @@ use Rattle.pairs.proofs.Tables.{turned}
 
 -- ---- the pairs of a number
 
-any-of_number : (q : Bytes) (d c : ℕ) (ps : List Bytes)
+pub any-of_number : (q : Bytes) (d c : ℕ) (ps : List Bytes)
     → list_any (eq_by_cmp (pair_cmp text_cmp nat_cmp) (q, d)) (map (λ (p : Bytes). (p, c)) ps)
     ≡ (list_any (eq_by_cmp text_cmp q) ps && eq_by_cmp nat_cmp d c)
 any-of_number q d c [] = refl

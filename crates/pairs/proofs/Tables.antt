@@ -1,5 +1,5 @@
 -- Pairs by text and by number.
-use Rattle.std.proofs.Common.{◌≡◌, ℕ, List, [], ◌∷◌, ◌++◌, Bool, true, false, not, ◌||◌, ◌&&◌, refl, sym, ap, ◌∙◌, map}
+use Rattle.std.proofs.Common.{◌≡◌, ℕ, List, [], ◌∷◌, Bool, true, false, not, ◌||◌, ◌&&◌, refl, sym, ap, ◌∙◌, map}
 use mathlib.Core.Bool.{and-true, and-false}
 use Rattle.std.specs.List.{list_any}
 use Rattle.std.specs.Ordering.{eq_by_cmp, nat_cmp}
@@ -8,6 +8,7 @@ use Rattle.std.proofs.lemmas.Map.Views.{tells_apart}
 use Rattle.std.proofs.lemmas.Map.Lookups.{exact_unsigned, exact_bytes}
 use Rattle.std.specs.FinSet as set
 use Rattle.pairs.proofs.Ties.{tied_then}
+use Rattle.pairs.proofs.Grouped.{any-append}
 use Rattle.pairs.specs.Pairs.{Bytes, TextKeys, Numbers, TextPairs, pair_cmp, text_cmp, numbers_at, texts_at, without_text, without_number, same_text, same_number, listed_pairs}
 use Rattle.pairs.specs.Inner.Stored.{NumberPairs, all_pairs, AgreeOn, HasLostTexts, HasLostNumbers, without_key}
 use Rattle.pairs.proofs.Totals.{text_total, pair_total, pair_exact, turned_total, turned_exact}
@@ -227,16 +228,6 @@ any-row : (t : Bytes) (n k : ℕ) (vs : List Bytes)
     ≡ list_any (eq_by_cmp (pair_cmp nat_cmp text_cmp) (n, t)) (map (λ (v : Bytes). (k, v)) vs)
 any-row t n k [] = refl
 any-row t n k (v ∷ vs) = λ i. turned t v n k i || any-row t n k vs i
-
-any-append : {A : Type 0} (test : A → Bool) (xs ys : List A)
-    → list_any test (xs ++ ys) ≡ (list_any test xs || list_any test ys)
-any-append test [] ys = refl
-any-append test (x ∷ xs) ys =
-    ap (λ b. test x || b) (any-append test xs ys) ∙ or_assoc (test x) (list_any test xs) (list_any test ys)
-  where
-    or_assoc : (a b c : Bool) → (a || (b || c)) ≡ ((a || b) || c)
-    or_assoc true b c = refl
-    or_assoc false b c = refl
 
 any-listed : (t : Bytes) (n : ℕ) (es : List (ℕ × TextKeys))
     → list_any (eq_by_cmp (pair_cmp text_cmp nat_cmp) (t, n)) (listed_pairs es)

@@ -55,6 +55,9 @@ without_text text pairs = set.retain pairs (λ (p : Bytes × ℕ). not (same_tex
 abbrev pub without_number : ℕ → TextPairs → TextPairs
 without_number number pairs = set.retain pairs (λ (p : Bytes × ℕ). not (same_number number p.1))
 
+abbrev pub pairs_of_text : Bytes → TextPairs → TextPairs
+pairs_of_text text pairs = set.retain pairs (λ (p : Bytes × ℕ). same_text text p.0)
+
 abbrev pub pairs_of_number : ℕ → TextPairs → TextPairs
 pairs_of_number number pairs = set.retain pairs (λ (p : Bytes × ℕ). same_number number p.1)
 

@@ -27,5 +27,5 @@ mod text_table;
 pub use hash_key::HashKey;
 pub use number_set::NumberSet;
 pub use pairs_table::Pairs;
-pub use text_key::TextKey;
+pub use text_key::{KeyQuery, TextKey};
 pub use text_table::TextTable;

@@ -1,10 +1,11 @@
 //! A set of pairs.
 
-ghost use Rattle.std.specs.Prelude.{◌≡◌, ◌≢◌, ◌↔◌, ℕ, OnOk, OnErr, IfOk, IfSome, IfNone, IsTrue, not};
+ghost use Rattle.std.specs.Prelude.{◌≡◌, ◌≢◌, ◌↔◌, ℕ, OnOk, OnErr, IfOk, IfSome, IfNone, IsTrue, true, not};
 ghost use Rattle.std.specs.FinSet as set;
 ghost use Rattle.std.specs.Map.Iter.{ShowsInOrder, deref_pair};
-ghost use Rattle.pairs.specs.Pairs.{TextKeys, text_cmp, texts_at, numbers_at, without_text, without_number, pairs_of_number, listed_pairs};
+ghost use Rattle.pairs.specs.Pairs.{TextKeys, text_cmp, texts_at, numbers_at, without_text, without_number, pairs_of_text, pairs_of_number, listed_pairs};
 ghost use Rattle.pairs.specs.Pairs.{keys_in, keys_beyond, numbers_in, numbers_beyond};
+ghost use Rattle.pairs.specs.Inner.Stored.{pairs_with_number};
 
 use crate::by_number::ByNumber;
 use crate::by_text::ByText;
@@ -203,6 +204,47 @@ impl Pairs {
                 Err(refused)
             }
         }
+    }
+
+    /// Adds the pairs that the others have of the text. A refused allocation takes no pair away, and leaves some of
+    /// theirs added.
+    pub fn add_of_text(&mut self, alloc: Global, text: &str, others: &Pairs) -> Result<(), NoMemory>
+        ensures ok { OnOk result (self.new ≡ set.union self.old (pairs_of_text text.now others.now)) }
+        ensures err_keeps { OnErr result (set.is_subset self.old self.new ≡ true) }
+        ensures err_adds { let of_text = pairs_of_text text.now others.now in
+            OnErr result (set.is_subset self.new (set.union self.old of_text) ≡ true) }
+    {
+        let numbers = others.numbers_of(alloc, text)?;
+        for number in numbers.iter() {
+            self.insert(alloc, text, *number)?;
+        }
+        Ok(())
+    }
+
+    // Adds the number to each of the texts.
+    fn add_texts(&mut self, alloc: Global, texts: &TextTable, number: u64) -> Result<(), NoMemory>
+        ensures ok { OnOk result (self.new ≡ set.union self.old (pairs_with_number number texts.now)) }
+        ensures err_keeps { OnErr result (set.is_subset self.old self.new ≡ true) }
+        ensures err_adds { let all = pairs_with_number number texts.now in
+            OnErr result (set.is_subset self.new (set.union self.old all) ≡ true) }
+    {
+        let all = texts.as_slice();
+        for text in all {
+            self.insert(alloc, text.as_str(), number)?;
+        }
+        Ok(())
+    }
+
+    /// Adds all of the others' pairs. A refused allocation takes no pair away, and leaves some of the others' added.
+    pub fn add_all(&mut self, alloc: Global, others: &Pairs) -> Result<(), NoMemory>
+        ensures ok { OnOk result (self.new ≡ set.union self.old others.now) }
+        ensures err_keeps { OnErr result (set.is_subset self.old self.new ≡ true) }
+        ensures err_adds { OnErr result (set.is_subset self.new (set.union self.old others.now) ≡ true) }
+    {
+        for (number, texts) in others.iter() {
+            self.add_texts(alloc, texts, *number)?;
+        }
+        Ok(())
     }
 
     /// Removes a pair. Allocates nothing.

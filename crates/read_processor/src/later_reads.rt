@@ -8,7 +8,7 @@ ghost use Rattle.node_map.specs.Stats.{java_int};
 ghost use Rattle.client_records.specs.Fields.{names_format};
 ghost use Rattle.read_processor.specs.Limits.{fitting_body};
 ghost use Rattle.permissions.specs.Digests.{client_info_of};
-ghost use Rattle.read_processor.specs.LaterReads.{ephemerals_of, look_at_ephemerals, is_below, nodes_below, look_below_node, look_below, look_at_ids, look_of_sasl};
+ghost use Rattle.read_processor.specs.LaterReads.{look_at_ephemerals, is_below, nodes_below, look_below_node, look_below, look_at_ids, look_of_sasl};
 
 use crate::body::Body;
 use crate::counts::{infos_len, texts_len};
@@ -73,21 +73,6 @@ fn body_of_names(alloc: Global, names: Vec<Name<'_>>) -> Result<Option<Body>, No
     )
 }
 
-// The ephemeral nodes of the session whose paths begin with the prefix.
-fn ephemerals_of<'a>(
-    alloc: Global,
-    tree: &'a Tree,
-    session: i64,
-    prefix: &Option<Str<'_>>,
-) -> Result<Vec<Name<'a>>, NoMemory>
-    ensures { IfOk result (λ found. found.items ≡ ephemerals_of tree.now session prefix.now) }
-{
-    match tree.ephemerals().of(session) {
-        None => Ok(Vec::new(alloc)),
-        Some(paths) => texts_with(alloc, paths, front_of(prefix)),
-    }
-}
-
 /// The answer to a getEphemerals: the ephemeral nodes of the session whose paths begin with the prefix. Fails only if
 /// an allocation is refused.
 pub fn look_at_ephemerals(
@@ -98,7 +83,8 @@ pub fn look_at_ephemerals(
 ) -> Result<Look, NoMemory>
     ensures { IfOk result (λ shown. shown ≡ look_at_ephemerals tree.now session prefix.now) }
 {
-    let names = ephemerals_of(alloc, tree, session, prefix)?;
+    let paths = tree.ephemerals().of(alloc, session)?;
+    let names = texts_with(alloc, &paths, front_of(prefix))?;
     let body = body_of_names(alloc, names)?;
     Ok(Look { error: OK, body })
 }
@@ -121,7 +107,7 @@ fn nodes_below(tree: &Tree, path: &[u8]) -> i32
 {
     let mut count: u32 = 0;
     for (other, _) in tree.nodes() {
-        if is_below(path, other.as_bytes()) {
+        if is_below(path, other.as_str().as_bytes()) {
             count = count.wrapping_add(1);
         }
     }

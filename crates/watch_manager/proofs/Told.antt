@@ -26,7 +26,7 @@ use Rattle.watch_manager.specs.declared.event.Event.{Event}
 use Rattle.watch_manager.specs.declared.event.EventKind.{EventKind}
 use Rattle.watch_manager.specs.declared.event.EventKind.TheVariants.{NodeDeleted}
 use Rattle.ephemerals.proofs.Ascending.{any-ascending}
-use Rattle.ephemerals.proofs.Grouped.{front_holds, rest_holds}
+use Rattle.pairs.proofs.Grouped.{front_holds, rest_holds}
 use Rattle.watch_manager.proofs.Watchers.{contains-watchers, contains-without_path, contains-without_connection}
 use Rattle.watch_manager.proofs.Aboves.{watched_at, paths_up, contains-watchers_above}
 

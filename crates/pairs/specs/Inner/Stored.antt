@@ -51,6 +51,10 @@ HasLostNumbers text numbers old new =
     (n : ℕ) (t : Bytes) → set.contains new (n, t)
     ≡ (set.contains old (n, t) && not (same_text t text && set.contains numbers n))
 
+-- The number with each of the texts.
+abbrev pub pairs_with_number : ℕ → TextKeys → TextPairs
+pairs_with_number number texts = set.from_list (map (λ (t : Bytes). (t, number)) (set.items texts))
+
 -- Without the pairs of the number.
 abbrev pub without_key : ℕ → NumberPairs → NumberPairs
 without_key number pairs = set.retain pairs (λ (p : ℕ × Bytes). not (same_number number p.0))

@@ -1,7 +1,7 @@
 use Rattle.std.proofs.Common.{◌≡◌, true, false, ap, sym, subst, ◌∙◌, w64, rules, length}
 use Rattle.std.proofs.lemmas.Int.{to_z-of_z}
 use Rattle.four_letter.specs.Dumped.{owning_sessions, has_ephemerals}
-use Rattle.four_letter.proofs.Owning.{IsCounted, owns_if_found, counted-owner, counted-other}
+use Rattle.four_letter.proofs.Owning.{IsCounted, owns_if_any, counted-owner, counted-other}
 use Rattle.four_letter.proofs.dump.owner_count.Goals as goal
 use mir.Val.{SFits}
 
@@ -14,13 +14,13 @@ overflow_sub-count c =
     let count = c.loop-session.count in
     let owns : has_ephemerals pairs session ≡ false =
     ap (has_ephemerals pairs) (sym (to_z-of_z w64 session fits))
-    ∙ owns_if_found pairs _ c.of.result c.of.ensures.paths c.of.ensures.some c.of.ensures.none
-    ∙ c.if-is_none.ensures in
+    ∙ owns_if_any pairs _ c.owns_any.result c.owns_any.ensures
+    ∙ c.if-not-owns_any.true in
     let is = subst (λ es. IsCounted pairs all es count) c.in-Some.ensures.steps c.loop-session.invariant.2 in
     (counted-other pairs all (session, c.in-Some.field-0-1.now) c.next.new.self count owns is).0
 
-pub loop-session-preserved-then-is_none : goal.loop-session-preserved-then-is_none
-loop-session-preserved-then-is_none c =
+pub loop-session-preserved-then-not-owns_any : goal.loop-session-preserved-then-not-owns_any
+loop-session-preserved-then-not-owns_any c =
     let pairs = c.args.ephemerals.now in
     let session = c.in-Some.session.now in
     let fits : SFits w64 session = search rules in
@@ -28,8 +28,8 @@ loop-session-preserved-then-is_none c =
     let count = c.loop-session.count in
     let owns : has_ephemerals pairs session ≡ false =
     ap (has_ephemerals pairs) (sym (to_z-of_z w64 session fits))
-    ∙ owns_if_found pairs _ c.of.result c.of.ensures.paths c.of.ensures.some c.of.ensures.none
-    ∙ c.if-is_none.ensures in
+    ∙ owns_if_any pairs _ c.owns_any.result c.owns_any.ensures
+    ∙ c.if-not-owns_any.true in
     let is = subst (λ es. IsCounted pairs all es count) c.in-Some.ensures.steps c.loop-session.invariant.2 in
     (tt, tt, (counted-other pairs all (session, c.in-Some.field-0-1.now) c.next.new.self count owns is).1)
 
@@ -42,7 +42,7 @@ loop-session-preserved c =
     let count = c.loop-session.count in
     let owns : has_ephemerals pairs session ≡ true =
     ap (has_ephemerals pairs) (sym (to_z-of_z w64 session fits))
-    ∙ owns_if_found pairs _ c.of.result c.of.ensures.paths c.of.ensures.some c.of.ensures.none
-    ∙ c.if-is_none.ensures in
+    ∙ owns_if_any pairs _ c.owns_any.result c.owns_any.ensures
+    ∙ c.if-not-owns_any.false in
     let is = subst (λ es. IsCounted pairs all es count) c.in-Some.ensures.steps c.loop-session.invariant.2 in
     (tt, tt, counted-owner pairs all (session, c.in-Some.field-0-1.now) c.next.new.self count owns is)

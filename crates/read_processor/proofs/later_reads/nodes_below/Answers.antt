@@ -1,7 +1,8 @@
-use Rattle.std.proofs.Common.{◌≡◌, ℕ, ◌+◌, ◌%◌, ◌^◌, List, [], ◌∷◌, Bool, true, false, cond, map, String, Global, string_bytes, refl, sym, ap, ◌∙◌, arith}
+use Rattle.std.proofs.Common.{◌≡◌, ℕ, ◌+◌, ◌%◌, ◌^◌, List, Bool, true, false, cond, refl, sym, ap, ◌∙◌, arith}
 use Rattle.std.specs.FinMap as finmap
 use Rattle.std.specs.List.{count_by, sum_by}
 use Rattle.std.specs.List.Sorted.{IsPermutation}
+use Rattle.std.specs.Map.{keys_of}
 use Rattle.std.proofs.lemmas.List.Recursion.{is_count_by}
 use Rattle.std.proofs.lemmas.List.Sorted.{IsPermutation-map, sum_by-IsPermutation}
 use Rattle.std.proofs.lemmas.List.Sums.{sum_by-cons}
@@ -28,12 +29,6 @@ module _ (p : Bytes → Bool) where
   same_count xs ys moved =
       sym (counted ys) ∙ sum_by-IsPermutation (λ x. cond (p x) 1 0) xs ys moved ∙ counted xs
 
-paths : {Z : Type 0} (es : List (String Z × Node))
-    → map (λ (e : Bytes × Node). e.0) (map (λ (e : String Z × Node). (string_bytes e.0, e.1)) es)
-    ≡ map (λ (e : String Z × Node). string_bytes e.0) es
-paths [] = refl
-paths (e ∷ es) = ap (λ ps. string_bytes e.0 ∷ ps) (paths es)
-
 none_yet : (n : ℕ) → 0 + n ≡ n
 none_yet n = omega arith
 
@@ -42,22 +37,14 @@ loop-other-init c =
     let nodes = c.args.tree.now.nodes in
     let below = is_below c.args.path.now in
     let all = c.nodes-other-items.result in
-    let listed : List (Bytes × Node) = map (λ (e : String Global × Node). (string_bytes e.0, e.1)) all in
-    let same : count_by below (map (λ (e : String Global × Node). string_bytes e.0) all)
-    ≡ nodes_below c.args.tree.now c.args.path.now =
-    ap (count_by below) (sym (paths all))
-    ∙ same_count below (finmap.keys nodes) (map (λ (e : Bytes × Node). e.0) listed)
-    (IsPermutation-map (λ (e : Bytes × Node). e.0) (finmap.entries nodes) listed
-    c.nodes-other-items.ensures.entries) in (
+    let same : count_by below (keys_of all) ≡ nodes_below c.args.tree.now c.args.path.now =
+    same_count below (finmap.keys nodes) (keys_of all)
+    (IsPermutation-map (λ (e : Bytes × Node). e.0) (finmap.entries nodes) all c.nodes-other-items.ensures.entries) in (
       tt,
       tt,
       ap (λ (n : ℕ). n % 2 ^ 32)
-          (none_yet
-          (count_by below
-          (map (λ (e : String Global × Node). string_bytes e.0) c.into_iter-other-iterator.result))
-          ∙ ap
-          (λ (es : List (String Global × Node)). count_by below
-          (map (λ (e : String Global × Node). string_bytes e.0) es))
+          (none_yet (count_by below (keys_of c.into_iter-other-iterator.result))
+          ∙ ap (λ (es : List (Bytes × Node)). count_by below (keys_of es))
           c.into_iter-other-iterator.ensures.into_iter_gives
           ∙ same),
     )

@@ -1,4 +1,3 @@
-use Rattle.std.proofs.Common.{map, string_bytes}
 use Rattle.snapshot_codec.specs.Writes.{shown_rows}
 use Rattle.snapshot_codec.proofs.DepthFirst.{SoFar}
 use Rattle.snapshot_codec.proofs.depth_first.depth_first.Given as goal
@@ -7,4 +6,4 @@ abbrev pub invariant-loop-path : goal.invariant-loop-path
 invariant-loop-path l =
     (goal.iterator-loop-path).can_next l.path-iterator
     × (goal.iterator-loop-path).is_finite l.path-iterator
-    × SoFar l.tree.nodes (shown_rows l.rows.entries) (map (λ e. (string_bytes e.0, e.1)) l.path-iterator)
+    × SoFar l.tree.nodes (shown_rows l.rows.entries) l.path-iterator

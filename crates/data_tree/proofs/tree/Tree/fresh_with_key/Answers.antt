@@ -1,4 +1,4 @@
-use Rattle.std.proofs.Common.{◌∙◌}
+use Rattle.std.proofs.Common.{◌∙◌, codes}
 use Rattle.std.specs.FinMap as finmap
 use Rattle.data_tree.proofs.tree.Tree.fresh_with_key.Goals as goal
 
@@ -6,11 +6,11 @@ pub returns : goal.returns
 returns c =
     let one =
     c.in_ok-insert.ensures.ok
-    ∙ (λ i. finmap.insert (c.with_key-nodes.ensures i) (c.in_ok-from_str.ensures.ok i) (c.in_ok-with_child.ensures i)) in
+    ∙ (λ i. finmap.insert (c.with_key-nodes.ensures i) (codes "/") (c.in_ok-with_child.ensures i)) in
     let two =
     c.in_ok-insert-2.ensures.ok
-    ∙ (λ i. finmap.insert (one i) (c.in_ok-from_str-2.ensures.ok i) (c.in_ok-with_child-2.ensures i)) in
+    ∙ (λ i. finmap.insert (one i) (codes "/zookeeper") (c.in_ok-with_child-2.ensures i)) in
     let three =
     c.in_ok-insert-3.ensures.ok
-    ∙ (λ i. finmap.insert (two i) (c.in_ok-from_str-3.ensures.ok i) (c.in_ok-childless.ensures i)) in
-    λ i. record { nodes = three i; pairs = c.new.ensures i; sessions = c.new-2.ensures i }
+    ∙ (λ i. finmap.insert (two i) (codes "/zookeeper/quota") (c.in_ok-childless.ensures i)) in
+    λ i. record { nodes = three i; pairs = c.keyed.ensures i; sessions = c.new.ensures i }

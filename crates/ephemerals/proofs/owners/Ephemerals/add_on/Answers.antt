@@ -1,23 +1,17 @@
-use Rattle.std.proofs.Common.{ap, sym, ◌∙◌, OnOk, Result, Ok, Err}
+use Rattle.std.proofs.Common.{ap, ◌∙◌}
+use Rattle.std.proofs.lemmas.Result.{on_ok_weaker}
 use Rattle.std.specs.FinSet as set
-use Rattle.ephemerals.specs.Orders.{OwnerPairs}
-use Rattle.ephemerals.proofs.Steps.{gained_all, gained_none}
+use Rattle.pairs.specs.Pairs.{pairs_of_text}
+use Rattle.ephemerals.specs.Inner.OwnersView.{owners_in}
+use Rattle.ephemerals.specs.Inner.Steps.{pairs_on}
+use Rattle.ephemerals.proofs.OwnersView.{owners-union, owners-at}
 use Rattle.ephemerals.proofs.owners.Ephemerals.add_on.Goals as goal
-
-on_ok : {A E : Type 0} {P Q : Type 0} (r : Result A E) → (P → Q) → OnOk r P → OnOk r Q
-on_ok (Ok x) f p = f p
-on_ok (Err e) f p = tt
-
-pub returns-in-None : goal.returns-in-None
-returns-in-None c =
-    gained_none c.args.path.now c.args.self.now c.args.others.now
-    (λ v. ap (λ (s : OwnerPairs). set.contains s (v, c.args.path.now)) (sym (c.others.invariant ∙ c.others.view_is))
-    ∙ c.in-None.ensures.none v)
 
 pub returns : goal.returns
 returns c =
-    on_ok c.add_sessions.result
-    (gained_all c.args.path.now c.in-Some.sessions.now c.args.self.now c.add_sessions.new.self c.args.others.now
-    (λ v. c.in-Some.ensures.some v
-    ∙ ap (λ (s : OwnerPairs). set.contains s (v, c.args.path.now)) (c.others.invariant ∙ c.others.view_is)))
-    c.add_sessions.ensures
+    on_ok_weaker c.add_of_text.result
+    (λ is. ap owners_in is
+    ∙ owners-union c.self.inside.pairs (pairs_of_text c.args.path.now c.others.inside.pairs)
+    ∙ (λ i. set.union (c.self.view_is i)
+    ((owners-at c.args.path.now c.others.inside.pairs ∙ ap (λ s. pairs_on c.args.path.now s) c.others.view_is) i)))
+    c.add_of_text.ensures.ok

@@ -1,4 +1,4 @@
-use Rattle.std.proofs.Common.{String, Global, string_bytes}
+use Rattle.ephemerals.specs.Orders.{Bytes}
 use Rattle.node_map.specs.Agreement.{AreLinked}
 use Rattle.node_map.specs.declared.node.Node.{Node}
 use Rattle.node_map.proofs.Deciding.{Decides}
@@ -9,4 +9,4 @@ abbrev pub invariant-loop-path : goal.invariant-loop-path
 invariant-loop-path l =
     (goal.iterator-loop-path).can_next l.path-iterator
     × (goal.iterator-loop-path).is_finite l.path-iterator
-    × Decides (λ (e : String Global × Node). IsLinked l.self (string_bytes e.0) e.1) (AreLinked l.self) l.path-iterator
+    × Decides (λ (e : Bytes × Node). IsLinked l.self e.0 e.1) (AreLinked l.self) l.path-iterator

@@ -1,6 +1,6 @@
 use Rattle.std.proofs.Common.{ap, sym, ◌∙◌}
 use Rattle.std.specs.FinMap as finmap
-use Rattle.node_map.proofs.HashedNodes.{get-hashed}
+use Rattle.pairs.proofs.Hashed.{get-hashed}
 use Rattle.node_map.proofs.node_map.NodeMap.get.Goals as goal
 
 pub returns : goal.returns

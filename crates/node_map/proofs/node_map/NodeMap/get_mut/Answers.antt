@@ -2,8 +2,7 @@ use Rattle.std.proofs.Common.{◌≡◌, Option, Some, None, OnSome, IsSome, ap,
 use Rattle.std.specs.Option.{option_copied_mut}
 use Rattle.std.specs.Borrow.{MutBor}
 use Rattle.std.specs.FinMap as finmap
-use Rattle.node_map.specs.Inner.NodesView.{nodes_of}
-use Rattle.node_map.proofs.HashedNodes.{get-hashed, nodes-inserted}
+use Rattle.pairs.proofs.Hashed.{map_of, get-hashed, map_of-insert}
 use Rattle.node_map.proofs.node_map.NodeMap.get_mut.Goals as goal
 
 -- What holds where a look-up finds a value holds where it borrows one.
@@ -17,9 +16,9 @@ returns c = (
   (
     refl,
     λ w. on_some c.get_mut.result _ c.get_mut.ensures.value
-        (λ some. nodes-inserted c.args.path.now c.self.inside.map (c.get_mut.follows.lender w) w
+        (λ some. map_of-insert c.args.path.now c.self.inside.map (c.get_mut.follows.lender w) w
         ((c.get_mut.follows.holds w).3 some) ∙ ap (λ m. finmap.insert m c.args.path.now w) c.self.view_is),
-    ap (λ m. nodes_of m.entries) c.get_mut.follows.holds-at-none ∙ c.self.view_is,
+    ap (λ m. map_of m.entries) c.get_mut.follows.holds-at-none ∙ c.self.view_is,
   ),
   c.get_mut.ensures.value
       ∙ sym (get-hashed c.self.inside.map.entries c.args.path.now)

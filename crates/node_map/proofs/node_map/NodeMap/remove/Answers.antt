@@ -1,6 +1,6 @@
 use Rattle.std.proofs.Common.{ap, sym, ◌∙◌}
 use Rattle.std.specs.FinMap as finmap
-use Rattle.node_map.proofs.HashedNodes.{get-hashed, nodes-removed}
+use Rattle.pairs.proofs.Hashed.{get-hashed, map_of-remove}
 use Rattle.node_map.proofs.node_map.NodeMap.remove.Goals as goal
 
 pub returns-clause-value : goal.returns-clause-value
@@ -11,5 +11,5 @@ returns-clause-value c =
 
 pub returns-clause-removed : goal.returns-clause-removed
 returns-clause-removed c =
-    nodes-removed c.args.path.now c.self.inside.map c.swap_remove.new.self c.swap_remove.ensures.updates
+    map_of-remove c.args.path.now c.self.inside.map c.swap_remove.new.self c.swap_remove.ensures.updates
     ∙ ap (λ m. finmap.remove m c.args.path.now) c.self.view_is

@@ -13,8 +13,8 @@ loop-path-init c = (
       (ap (map string_bytes) c.into_iter-path-iterator.ensures.into_iter_gives ∙ c.iter-path-items.ensures.texts),
 )
 
-pub loop-path-preserved-in_ok-insert : goal.loop-path-preserved-in_ok-insert
-loop-path-preserved-in_ok-insert c =
+pub loop-path-preserved-in-Continue-1 : goal.loop-path-preserved-in-Continue-1
+loop-path-preserved-in-Continue-1 c =
     let p = string_bytes c.in-Some.path.now in (
       tt,
       tt,
@@ -25,7 +25,7 @@ loop-path-preserved-in_ok-insert c =
           (ap (has_node c.args.self.now) (sym c.as_str.ensures.value) ∙ sym c.has.ensures ∙ c.if-has.true)
           (c.in_ok-insert.ensures.ok
           ∙ ap (λ q. finmap.insert c.loop-path.room q c.placeholder.result)
-          (c.in_ok-from_str.ensures.ok ∙ c.as_str-then-has.ensures.value)),
+          c.as_str-then-has.ensures.value),
     )
 
 pub loop-path-preserved : goal.loop-path-preserved
