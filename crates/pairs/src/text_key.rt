@@ -4,14 +4,36 @@ ghost use Rattle.std.specs.Prelude.{◌≡◌, IfOk};
 ghost use Rattle.std.proofs.Common.{ap};
 ghost use Rattle.std.specs.Cmp.{partial_equiv_from_equiv};
 ghost use Rattle.std.specs.Cmp.Lexicographic.{bytes_decides, nat_list_eq_equiv};
-ghost use Rattle.std.specs.Hash as fed;
+ghost use Rattle.std.specs.List.{fold};
 ghost use Rattle.std.specs.Str.{bytes_eq};
+ghost use Rattle.pairs.specs.Fed.{counted_word, fed_text};
 
 use indexmap::Equivalent;
 use std::alloc::{AllocError, Global};
 use std::hash::{Hash, Hasher};
 use std::marker::Model;
 use values::{NoMemory, Text};
+
+// The number of the bytes, and then the bytes, as a word.
+fn counted_word(rest: &[u8]) -> u64
+    ensures { result ≡ counted_word rest.now }
+{
+    let mut word = rest.len() as u64;
+    for byte in rest {
+        word = word << 8 | *byte as u64;
+    }
+    word
+}
+
+// Feeds the text to the hasher, in whole words.
+fn feed<H: Hasher>(text: &str, state: &mut H)
+    ensures { state.new ≡ fold H.write state.old (fed_text text.now) }
+{
+    let bytes = text.as_bytes();
+    let (words, rest) = bytes.split_at(bytes.len() - bytes.len() % 8);
+    state.write(words);
+    state.write_u64(counted_word(rest));
+}
 
 /// A text as a key.
 #[derive(Drop)]
@@ -69,12 +91,12 @@ impl Eq for TextKey {
 }
 
 impl Hash for TextKey {
-    ghost hash_input = { λ k. fed.str k };
+    ghost hash_input = { λ k. fed_text k };
 
-    ghost respects_eq = { λ x y h. ap fed.str ((bytes_decides x y).0 h) };
+    ghost respects_eq = { λ x y h. ap fed_text ((bytes_decides x y).0 h) };
 
     fn hash<H: Hasher>(&self, state: &mut H) {
-        self.as_str().hash(state);
+        feed(self.as_str(), state);
     }
 }
 
@@ -101,19 +123,19 @@ impl<'a> Eq for KeyQuery<'a> {
 }
 
 impl<'a> Hash for KeyQuery<'a> {
-    ghost hash_input = { λ q. fed.str q.0.now };
+    ghost hash_input = { λ q. fed_text q.0.now };
 
-    ghost respects_eq = { λ x y h. ap fed.str ((bytes_decides x.0.now y.0.now).0 h) };
+    ghost respects_eq = { λ x y h. ap fed_text ((bytes_decides x.0.now y.0.now).0 h) };
 
     fn hash<H: Hasher>(&self, state: &mut H) {
-        self.0.hash(state);
+        feed(self.0, state);
     }
 }
 
 impl<'a> Equivalent<TextKey> for KeyQuery<'a> {
     ghost equivalent = { λ q k. bytes_eq q.0.now k };
 
-    ghost respects_hash = { λ q k h. ap fed.str ((bytes_decides q.0.now k).0 h) };
+    ghost respects_hash = { λ q k h. ap fed_text ((bytes_decides q.0.now k).0 h) };
 
     ghost respects_eq = { λ q x y. nat_list_eq_equiv.congr q.0.now x y };
 
