@@ -13,7 +13,7 @@ ghost use Rattle.replica.specs.Inner.{with_told, UpdatesLearner, CarriesOutAct, 
 use crate::item_outcome::{ItemOutcome, LeaderNews};
 use crate::replica::Replica;
 use data_tree::{Tree, Trigger};
-use learner_sync::Act;
+use learner_sync::{Act, ActList};
 use quorum_packet::{LentItem, QuorumPacket};
 use snapshot_codec::Loader;
 use std::alloc::Global;
@@ -21,11 +21,7 @@ use std::mem;
 use values::{Listed, NoMemory, ReadError};
 
 impl Replica {
-    pub(crate) fn learn(
-        &mut self,
-        alloc: Global,
-        item: LentItem<'_>,
-    ) -> Result<Listed<Act>, ReadError>
+    pub(crate) fn learn(&mut self, alloc: Global, item: LentItem<'_>) -> Result<ActList, ReadError>
         ensures { UpdatesLearner result (learn_item self.old.learner (owned_item item.entry)) self.old self.new }
     {
         self.learner.step(alloc, item)
@@ -139,7 +135,7 @@ impl Replica {
         &mut self,
         alloc: Global,
         loader: &mut Loader,
-        acts: Listed<Act>,
+        acts: ActList,
     ) -> Result<ItemOutcome, ReadError>
         requires { IsPartAlone acts }
         ensures { TakesItem result (carry_out_all (no_effect loader.old self.old) acts)
@@ -148,7 +144,7 @@ impl Replica {
         let mut replies = Vec::new(alloc);
         let mut triggers = Listed::from_vec(Vec::new(alloc));
         let mut news = None;
-        for act in acts.into_vec() {
+        for act in acts.into_vec(alloc)? {
             self.carry_out(alloc, loader, act, &mut replies, &mut triggers, &mut news)?;
         }
         Ok(ItemOutcome {
@@ -179,7 +175,7 @@ impl Replica {
         learner_sync::law::acts();
         let acts = self.learn(alloc, item)?;
         // What most items come to is done without going through a list.
-        if let [Act::Apply] = acts.as_slice() {
+        if acts.is_apply() {
             let replies = Listed::from_vec(Vec::new(alloc));
             let mut triggers = Listed::from_vec(Vec::new(alloc));
             let mut news = None;
