@@ -26,7 +26,7 @@ ghost use Rattle.ephemerals.specs.Orders.{Bytes, path_cmp, sorted_names};
 
 use crate::multi::{failed_outcome, first_error};
 use crate::outcome::{
-    Outcome, PartResult, Trigger, TxnResults, fire_data_changed, fire_with_parent,
+    Outcome, PartResult, Trigger, Triggers, TxnResults, fire_data_changed, fire_with_parent,
 };
 use crate::sessions::Timeouts;
 use ephemerals::{Ephemerals, TextSet};
@@ -405,7 +405,7 @@ impl Tree {
                 err: first_error(results.as_slice()),
                 parts: Listed::from_vec(results),
             },
-            triggers: Listed::from_vec(triggers),
+            triggers: Triggers::from_vec(triggers),
         })
     }
 
@@ -448,6 +448,26 @@ impl Tree {
         self.delete_all(alloc, header, paths, triggers)
     }
 
+    // Applies a setData that isn't a part of a multi. A refused allocation leaves the tree as it was.
+    fn apply_set_data(
+        &mut self,
+        alloc: Global,
+        header: &TxnHeader,
+        body: &SetData,
+    ) -> Result<Outcome, NoMemory>
+        ensures state { OnOk result
+            (self.new ≡ (of_operation header.now (Operation.SetData body.now) self.old).state) }
+        ensures answer { IfOk result (λ o.
+            o ≡ answer_of (of_operation header.now (Operation.SetData body.now) self.old)) }
+        ensures err { OnErr result (self.new ≡ self.old) }
+    {
+        let changed = Trigger::DataChanged(Text::new(alloc, body.path.as_str())?);
+        if !self.nodes.set_data(body.path.as_str(), header, body)? {
+            return Ok(Outcome::without_parts(alloc, NO_NODE, Triggers::from_vec(Vec::new(alloc))));
+        }
+        Ok(Outcome::without_parts(alloc, 0, Triggers::one(changed)))
+    }
+
     /// Applies a transaction and returns its outcome.
     ///
     /// A refused allocation leaves a prefix of a multi's parts applied; after a closeSession it leaves the tree
@@ -459,6 +479,9 @@ impl Tree {
     {
         let mut triggers = Vec::new(alloc);
         let err = match &txn.body {
+            Body::Single(Operation::SetData(body)) => {
+                return self.apply_set_data(alloc, &txn.header, body);
+            }
             Body::Single(operation) => self.operate(alloc, &txn.header, operation, &mut triggers)?,
             Body::SetAcl(body) => self.set_acl(body)?,
             Body::Multi(parts) => return self.apply_multi(alloc, &txn.header, parts.as_slice()),
@@ -471,13 +494,7 @@ impl Tree {
                 0
             }
         };
-        Ok(Outcome {
-            results: TxnResults {
-                err,
-                parts: Listed::from_vec(Vec::new(alloc)),
-            },
-            triggers: Listed::from_vec(triggers),
-        })
+        Ok(Outcome::without_parts(alloc, err, Triggers::from_vec(triggers)))
     }
 
     fn apply_multi(
