@@ -12,7 +12,7 @@ ghost use Rattle.replica.specs.Inner.{with_told, UpdatesLearner, CarriesOutAct, 
 
 use crate::item_outcome::{ItemOutcome, LeaderNews};
 use crate::replica::Replica;
-use data_tree::{Tree, Trigger};
+use data_tree::{Tree, Triggers};
 use learner_sync::{Act, ActList};
 use quorum_packet::{LentItem, QuorumPacket};
 use snapshot_codec::Loader;
@@ -31,7 +31,7 @@ impl Replica {
     fn apply_last(
         &mut self,
         alloc: Global,
-        triggers: &mut Listed<Trigger>,
+        triggers: &mut Triggers,
         news: &mut Option<LeaderNews>,
     ) -> Result<(), NoMemory>
         ensures { OnOk result
@@ -85,7 +85,7 @@ impl Replica {
         loader: &mut Loader,
         act: Act,
         replies: &mut Vec<QuorumPacket>,
-        triggers: &mut Listed<Trigger>,
+        triggers: &mut Triggers,
         news: &mut Option<LeaderNews>,
     ) -> Result<(), ReadError>
         ensures { CarriesOutAct result act
@@ -142,7 +142,7 @@ impl Replica {
             loader.old self.old loader.new self.new }
     {
         let mut replies = Vec::new(alloc);
-        let mut triggers = Listed::from_vec(Vec::new(alloc));
+        let mut triggers = Triggers::from_vec(Vec::new(alloc));
         let mut news = None;
         for act in acts.into_vec(alloc)? {
             self.carry_out(alloc, loader, act, &mut replies, &mut triggers, &mut news)?;
@@ -177,7 +177,7 @@ impl Replica {
         // What most items come to is done without going through a list.
         if acts.is_apply() {
             let replies = Listed::from_vec(Vec::new(alloc));
-            let mut triggers = Listed::from_vec(Vec::new(alloc));
+            let mut triggers = Triggers::from_vec(Vec::new(alloc));
             let mut news = None;
             self.apply_last(alloc, &mut triggers, &mut news)?;
             return Ok(ItemOutcome {
