@@ -2,7 +2,7 @@
 
 ghost use Rattle.std.specs.Prelude.{◌≡◌, int_lt, Ok};
 ghost use Rattle.jute.specs.Reads.{ReadsOwnedWhole};
-ghost use Rattle.learner_sync.specs.Learn.{LearnsItem, zxid_floor, with_applied_zxid, carried_txn, learn_inform, learn_activation, learn_revalidated, learn_proposal, learn_commit, new_leader, up_to_date, message_in_replay, message_in_serving};
+ghost use Rattle.learner_sync.specs.Learn.{LearnsItem, zxid_floor, with_applied_zxid, carried_txn, learn_inform, learn_activation, apply_txn, learn_revalidated, learn_proposal, learn_commit, new_leader, up_to_date, message_in_replay, message_in_serving};
 
 use crate::act::{Act, ActList};
 use crate::answers::{act_list, empty_act_list};
@@ -47,18 +47,28 @@ impl Learner {
         decode_txn_in(self.dialect, alloc, bytes)
     }
 
+    // Puts a transaction that was committed into the log.
+    fn append(&mut self, txn: Txn) -> Result<ActList, ReadError>
+        ensures { LearnsItem result (apply_txn self.old txn) self.old self.new }
+    {
+        if !self.may_apply(&txn.header) {
+            return Err(ReadError::Fault(Fault::OutOfOrder));
+        }
+        self.log.reserve(1)?;
+        let header = txn.header;
+        self.log.push_reserved(txn);
+        self.note_applied(header);
+        Ok(ActList::apply())
+    }
+
     // Applies a transaction that is proposed and committed in one packet.
     fn inform(&mut self, alloc: Global, bytes: &[u8]) -> Result<ActList, ReadError>
         ensures { LearnsItem result (learn_inform self.old bytes.now) self.old self.new }
     {
-        let txn = self.carried_txn(alloc, bytes)?;
-        if !self.may_apply(&txn.header) {
-            return Err(ReadError::Fault(Fault::OutOfOrder));
+        match self.carried_txn(alloc, bytes) {
+            Ok(txn) => self.append(txn),
+            Err(error) => Err(error),
         }
-        let header = txn.header;
-        self.log.push(txn)?;
-        self.note_applied(header);
-        Ok(ActList::apply())
     }
 
     // Applies a change of the configuration, which comes after the id of a server.
