@@ -18,7 +18,7 @@ fn entry_of(alloc: Global, perms: i32) -> Result<Acl, Fail> {
 }
 
 // Whether a list is the open one, and so is its copy.
-fn is_open(acl: &Option<Listed<Acl>>) -> Result<bool, Fail> {
+fn is_open(acl: &Option<AclList>) -> Result<bool, Fail> {
     let list = AclList::of(acl)?;
     Ok(list.listed().is_none() && list.clone()?.listed().is_none())
 }
@@ -29,7 +29,7 @@ fn keeps(alloc: Global, perms: i32) -> Result<bool, Fail> {
     entries
         .push(entry_of(alloc, perms)?)
         .map_err(AllocError::from)?;
-    let list = AclList::of(&Some(Listed::from_vec(entries)))?;
+    let list = AclList::from_entries(Listed::from_vec(entries));
     let wanted = [entry_of(alloc, perms)?];
     let copy = list.clone()?;
     Ok(list.listed() == Some(wanted.as_slice()) && copy.listed() == Some(wanted.as_slice()))
@@ -39,7 +39,7 @@ fn keeps(alloc: Global, perms: i32) -> Result<bool, Fail> {
 fn the_open_list_has_no_entries_of_its_own(rt: HostRuntime) -> Result<(), Fail> {
     assert!(rt; AclList::open().listed().is_none());
     assert!(rt; is_open(&None)?);
-    assert!(rt; is_open(&Some(open_list(rt.alloc())?))?);
+    assert!(rt; is_open(&Some(AclList::from_entries(open_list(rt.alloc())?)))?);
     Ok(())
 }
 

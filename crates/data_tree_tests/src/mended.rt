@@ -27,7 +27,7 @@ fn node_of(alloc: Global, owner: i64) -> Result<Node, Fail> {
     };
     Ok(Node {
         bytes: None,
-        acl: AclList::of(&Some(Listed::from_vec(Vec::new(alloc))))?,
+        acl: AclList::from_entries(Listed::from_vec(Vec::new(alloc))),
         stat,
         mark: 0,
         children: TextSet::new(alloc),

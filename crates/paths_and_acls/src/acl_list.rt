@@ -12,7 +12,7 @@ use values::{Listed, NoMemory};
 
 /// A node's access control list; its model is the list of entries. The open list, which nearly every node has, takes no
 /// memory.
-#[derive(Drop)]
+#[derive(Debug, Drop)]
 pub struct AclList {
     // `None` is the open list.
     entries: Option<Listed<Acl>>,
@@ -64,13 +64,10 @@ impl AclList {
         AclList { entries: None }
     }
 
-    /// The list of these entries; null is the open list. Allocates nothing.
-    pub fn new(acl: Option<Listed<Acl>>) -> AclList
-        ensures { result ≡ acl_or_open acl }
+    /// The list of these entries. Allocates nothing.
+    pub fn from_entries(entries: Listed<Acl>) -> AclList
+        ensures { result ≡ entries }
     {
-        let Some(entries) = acl else {
-            return AclList::open();
-        };
         if are_open(entries.as_slice()) {
             return AclList::open();
         }
@@ -79,19 +76,24 @@ impl AclList {
         }
     }
 
-    /// The list of a copy of the entries; null is the open list. Fails only if an allocation is refused.
-    pub fn of(acl: &Option<Listed<Acl>>) -> Result<AclList, NoMemory>
+    /// The list of these entries; null is the open list. Allocates nothing.
+    pub fn new(acl: Option<Listed<Acl>>) -> AclList
+        ensures { result ≡ acl_or_open acl }
+    {
+        match acl {
+            None => AclList::open(),
+            Some(entries) => AclList::from_entries(entries),
+        }
+    }
+
+    /// A copy of the list; null is the open list. Fails only if an allocation is refused.
+    pub fn of(acl: &Option<AclList>) -> Result<AclList, NoMemory>
         ensures { IfOk result (λ list. list ≡ acl_or_open acl.now) }
     {
-        let Some(entries) = acl else {
-            return Ok(AclList::open());
-        };
-        if are_open(entries.as_slice()) {
-            return Ok(AclList::open());
+        match acl {
+            None => Ok(AclList::open()),
+            Some(list) => Ok(list.clone()?),
         }
-        Ok(AclList {
-            entries: Some(entries.clone()?),
-        })
     }
 
     /// Whether it has no entry, and grants nothing.
