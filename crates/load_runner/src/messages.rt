@@ -8,7 +8,7 @@ use client_records::codes::PING_XID;
 use client_records::{ConnectRequest, PathAndWatch, ReadKind, RequestKind};
 use jute::codes::ALL;
 use jute::{RequestHeader, WriteRecord, put_bytes, put_int, put_string};
-use paths_and_acls::{AclList, Path};
+use paths_and_acls::{AclField, Path};
 use quorum_packet::{PacketKind, QuorumPacket, write_packet};
 use std::alloc::Global;
 use txn_codec::{Body, Create, Operation, Owner, SetData, Txn, encode_txn};
@@ -81,7 +81,7 @@ pub fn create(alloc: Global, path: Path, content: &[u8]) -> Result<Body>
     Ok(Body::Single(Operation::Create(Create {
         path,
         bytes: Some(bytes),
-        acl: Some(AclList::open()),
+        acl: AclField::open(),
         owner: Owner::Nobody,
         asks_stat: false,
         parent_cversion: -1,

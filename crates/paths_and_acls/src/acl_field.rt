@@ -1,95 +1,141 @@
-//! Access control lists as fields of records, read from borrowed bytes and appended to a vector. Null is told apart from
-//! the open list, which takes no memory.
+//! Access control lists as fields of records.
 
-ghost use Rattle.std.specs.Prelude.{◌≡◌, ◌<◌, ◌^◌, ◌++◌, length, Some, IfSome};
-ghost use Rattle.values.specs.Gains.{Puts};
+ghost use Rattle.std.specs.Prelude.{◌≡◌, ◌++◌, None, Some, IfOk, IfSome};
 ghost use Rattle.jute.specs.Codes.{open_acl};
 ghost use Rattle.jute.specs.Format.{vector_of};
 ghost use Rattle.jute.specs.Owned.{acl_in, acl_format};
 ghost use Rattle.jute.specs.Reads.{ReadsOwned};
+ghost use Rattle.paths_and_acls.specs.Acls.{acl_or_open};
 
-use crate::acl_list::AclList;
-use jute::{Reader, items_len, put_int, put_items, read_acls};
-use std::alloc::Global;
-use values::{NoMemory, ReadError};
+use crate::acl_list::{AclList, are_open};
+use jute::{Acl, Reader, WriteRecord, items_len, put_int, put_items, read_acls};
+use std::alloc::{AllocError, Global};
+use std::marker::Model;
+use values::{Listed, NoMemory, ReadError};
 
 // The open list as it is written: a count of one, all permissions, the scheme, and the id.
 const OPEN_BYTES: &[u8] = b"\0\0\0\x01\0\0\0\x1f\0\0\0\x05world\0\0\0\x06anyone";
 
-// The bytes after the open list, if it is at the front.
+// What a field holds.
+#[derive(Debug, Drop)]
+enum Held {
+    Null,
+    Open,
+    Entries(Listed<Acl>),
+}
+
+/// An access control list, or null, as a field of a record. Neither null nor the open list takes memory.
+#[derive(Debug, Drop)]
+pub struct AclField {
+    held: Held,
+}
+
+impl Model for AclField {
+    ghost use Rattle.std.specs.Prelude.{List, Option};
+    ghost use Rattle.jute.specs.declared.owned.Acl.{Acl};
+    ghost use Rattle.paths_and_acls.specs.Held.{held_entries};
+
+    ghost Value = { Option (List Acl) };
+
+    ghost view = { λ f. held_entries f.held };
+}
+
+// The bytes after the open list, if that is at the front.
 fn after_open(bytes: &[u8]) -> Option<&[u8]>
     ensures { IfSome result (λ rest. bytes.now ≡ (vector_of acl_format).written (Some open_acl) ++ rest.now) }
 {
     bytes.strip_prefix(OPEN_BYTES)
 }
 
-/// Reads an access control list, in whose texts surrogates may stand or not; `None` is null. The faults are those of
-/// [`read_acls`]. Fails with `NoMemory` if an allocation is refused.
-pub fn read_acl_list(
-    surrogates: bool,
-    alloc: Global,
-    reader: &mut Reader<'_>,
-) -> Result<Option<AclList>, ReadError>
-    ensures { ReadsOwned (vector_of (acl_in surrogates)).read (λ v. v) result reader.old reader.new }
-{
-    if let Some(rest) = after_open(reader.rest()) {
-        *reader = Reader::new(rest);
-        return Ok(Some(AclList::open()));
+impl AclField {
+    pub fn null() -> AclField
+        ensures { result ≡ None }
+    {
+        AclField { held: Held::Null }
     }
-    match read_acls(surrogates, alloc, reader)? {
-        None => Ok(None),
-        Some(entries) => Ok(Some(AclList::from_entries(entries))),
-    }
-}
 
-// The length in bytes of a list with its count.
-#[tactic(auto, unfolding(jute::specs::Format::number_bytes, jute::specs::Owned::acl_in, jute::specs::Owned::id_in))]
-fn list_len(list: &AclList) -> usize
-    requires writable { (vector_of acl_format).Writable (Some list.now) }
-    requires small { length ((vector_of acl_format).written (Some list.now)) < 2 ^ 63 }
-    ensures { result ≡ length ((vector_of acl_format).written (Some list.now)) }
-{
-    match list.listed() {
-        None => OPEN_BYTES.len(),
-        Some(entries) => 4 + items_len(entries),
+    /// The list that grants every client everything.
+    pub fn open() -> AclField
+        ensures { result ≡ Some open_acl }
+    {
+        AclField { held: Held::Open }
     }
-}
 
-// Appends a list with its count.
-fn put_list(out: &mut Vec<u8>, list: &AclList) -> Result<(), NoMemory>
-    requires { (vector_of acl_format).Writable (Some list.now) }
-    ensures { Puts result out.old.items ((vector_of acl_format).written (Some list.now)) out.new.items }
-{
-    match list.listed() {
-        None => Ok(out.extend_from_slice(OPEN_BYTES)?),
-        Some(entries) => {
-            put_int(out, entries.len() as i32)?;
-            put_items(out, entries)
+    /// The list of these entries. Allocates nothing.
+    pub fn from_entries(entries: Listed<Acl>) -> AclField
+        ensures { result ≡ Some entries }
+    {
+        if are_open(entries.as_slice()) {
+            return AclField::open();
+        }
+        AclField {
+            held: Held::Entries(entries),
+        }
+    }
+
+    /// Reads a list, in whose texts surrogates may stand or not. The faults are those of [`read_acls`]. Fails with
+    /// `NoMemory` if an allocation is refused.
+    pub fn read(
+        surrogates: bool,
+        alloc: Global,
+        reader: &mut Reader<'_>,
+    ) -> Result<AclField, ReadError>
+        ensures { ReadsOwned (vector_of (acl_in surrogates)).read (λ f. f) result reader.old reader.new }
+    {
+        if let Some(rest) = after_open(reader.rest()) {
+            *reader = Reader::new(rest);
+            return Ok(AclField::open());
+        }
+        match read_acls(surrogates, alloc, reader)? {
+            None => Ok(AclField::null()),
+            Some(entries) => Ok(AclField::from_entries(entries)),
+        }
+    }
+
+    /// A copy of the list; null means the open list. Fails only if an allocation is refused.
+    pub fn to_list(&self) -> Result<AclList, NoMemory>
+        ensures { IfOk result (λ list. list ≡ acl_or_open self.now) }
+    {
+        match &self.held {
+            Held::Null | Held::Open => Ok(AclList::open()),
+            Held::Entries(entries) => Ok(AclList::from_entries(entries.clone()?)),
         }
     }
 }
 
-/// The length in bytes of an access control list with its count, or of null.
-#[tactic(auto, unfolding(jute::specs::Format::number_bytes))]
-pub fn acl_list_len(list: &Option<AclList>) -> usize
-    requires writable { (vector_of acl_format).Writable list.now }
-    requires small { length ((vector_of acl_format).written list.now) < 2 ^ 63 }
-    ensures { result ≡ length ((vector_of acl_format).written list.now) }
-{
-    match list {
-        None => 4,
-        Some(list) => list_len(list),
+impl WriteRecord for AclField {
+    ghost format = { vector_of acl_format };
+
+    #[tactic(auto, unfolding(jute::specs::Format::number_bytes, jute::specs::Owned::acl_in, jute::specs::Owned::id_in))]
+    fn written_len(&self) -> usize {
+        match &self.held {
+            Held::Null => 4,
+            Held::Open => OPEN_BYTES.len(),
+            Held::Entries(entries) => 4 + items_len(entries.as_slice()),
+        }
+    }
+
+    fn write(&self, out: &mut Vec<u8>) -> Result<(), NoMemory> {
+        match &self.held {
+            Held::Null => put_int(out, -1),
+            Held::Open => Ok(out.extend_from_slice(OPEN_BYTES)?),
+            Held::Entries(entries) => {
+                put_int(out, entries.len() as i32)?;
+                put_items(out, entries.as_slice())
+            }
+        }
     }
 }
 
-/// Appends an access control list with its count; `None` is null, the count -1. A refused allocation leaves a prefix of
-/// the bytes appended.
-pub fn put_acl_list(out: &mut Vec<u8>, list: &Option<AclList>) -> Result<(), NoMemory>
-    requires { (vector_of acl_format).Writable list.now }
-    ensures { Puts result out.old.items ((vector_of acl_format).written list.now) out.new.items }
-{
-    match list {
-        None => put_int(out, -1),
-        Some(list) => put_list(out, list),
+impl Clone for AclField {
+    ghost is_clone = { λ x y. y ≡ x };
+
+    fn clone(&self) -> Result<AclField, AllocError> {
+        let held = match &self.held {
+            Held::Null => Held::Null,
+            Held::Open => Held::Open,
+            Held::Entries(entries) => Held::Entries(entries.clone()?),
+        };
+        Ok(AclField { held })
     }
 }

@@ -1,6 +1,6 @@
 //! Access control lists.
 
-ghost use Rattle.std.specs.Prelude.{◌≡◌, ◌≢◌, ◌↔◌, ◌==◌, length, IfOk, IfSome, IfNone, IsTrue, codes};
+ghost use Rattle.std.specs.Prelude.{◌≡◌, ◌≢◌, ◌↔◌, ◌==◌, length, IfSome, IfNone, IsTrue, codes};
 ghost use Rattle.jute.specs.Codes.{open_acl};
 ghost use Rattle.paths_and_acls.specs.Acls.{acl_or_open};
 
@@ -8,11 +8,11 @@ use jute::codes::ALL;
 use jute::{Acl, Id};
 use std::alloc::AllocError;
 use std::marker::Model;
-use values::{Listed, NoMemory};
+use values::Listed;
 
 /// A node's access control list; its model is the list of entries. The open list, which nearly every node has, takes no
 /// memory.
-#[derive(Debug, Drop)]
+#[derive(Drop)]
 pub struct AclList {
     // `None` is the open list.
     entries: Option<Listed<Acl>>,
@@ -42,7 +42,7 @@ fn is_anyone(id: &Id) -> bool
 }
 
 // Whether the entries are those of the open list.
-fn are_open(entries: &[Acl]) -> bool
+pub(crate) fn are_open(entries: &[Acl]) -> bool
     ensures { IsTrue result ↔ (entries.now ≡ open_acl) }
 {
     match entries {
@@ -83,16 +83,6 @@ impl AclList {
         match acl {
             None => AclList::open(),
             Some(entries) => AclList::from_entries(entries),
-        }
-    }
-
-    /// A copy of the list; null is the open list. Fails only if an allocation is refused.
-    pub fn of(acl: &Option<AclList>) -> Result<AclList, NoMemory>
-        ensures { IfOk result (λ list. list ≡ acl_or_open acl.now) }
-    {
-        match acl {
-            None => Ok(AclList::open()),
-            Some(list) => Ok(list.clone()?),
         }
     }
 

@@ -15,6 +15,6 @@ mod acl_field;
 mod acl_list;
 mod path;
 
-pub use acl_field::{acl_list_len, put_acl_list, read_acl_list};
+pub use acl_field::AclField;
 pub use acl_list::AclList;
 pub use path::{Path, child_of, is_path, name_of, parent_of};

@@ -2,7 +2,7 @@ use Rattle.std.proofs.Common.{ap, ◌∙◌}
 use Rattle.jute.specs.Format.{vector_at}
 use Rattle.jute.specs.Owned.{acl_in}
 use Rattle.paths_and_acls.proofs.OpenList.{open_read}
-use Rattle.paths_and_acls.proofs.acl_field.read_acl_list.Goals as goal
+use Rattle.paths_and_acls.proofs.acl_field.AclField.read.Goals as goal
 
 pub returns-in-Some : goal.returns-in-Some
 returns-in-Some c =
