@@ -5,4 +5,4 @@ use Rattle.paths_and_acls.proofs.acl_field.AclFieldWriteRecord.write.Goals as go
 pub returns-in_ok-extend_from_slice-in-Open : goal.returns-in_ok-extend_from_slice-in-Open
 unfolding id_in acl_in number_bytes
 returns-in_ok-extend_from_slice-in-Open c =
-    rw (c.self.view_is, c.in-Open.is) c.in_ok-extend_from_slice-in-Open.ensures.items
+    rw (← c.self.view_is, c.in-Open.is) c.in_ok-extend_from_slice-in-Open.ensures.items
