@@ -28,7 +28,7 @@ fn stat_of(owner: i64) -> StatPersisted {
 fn node_of(alloc: Global, owner: i64) -> Result<Node, Fail> {
     Ok(Node {
         bytes: None,
-        acl: AclList::of(&Some(Listed::from_vec(Vec::new(alloc))))?,
+        acl: AclList::from_entries(Listed::from_vec(Vec::new(alloc))),
         stat: stat_of(owner),
         mark: 0,
         children: TextSet::new(alloc),

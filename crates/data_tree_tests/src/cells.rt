@@ -4,6 +4,7 @@ use crate::path_of;
 use crate::transactions::fresh;
 use data_tree::{Cells, Tree};
 use ephemerals::TextSet;
+use paths_and_acls::AclField;
 use settings::Dialect;
 use std::alloc::Global;
 use std::test::Fail;
@@ -27,7 +28,7 @@ fn create(alloc: Global, session: i64, path: &str) -> Result<Txn, Fail> {
     let create = Create {
         path: path_of(alloc, path).ok_or("a path")?,
         bytes: Some(Blob::new(alloc, b"a")?),
-        acl: None,
+        acl: AclField::null(),
         owner: Owner::Client,
         asks_stat: false,
         parent_cversion: -1,

@@ -247,7 +247,7 @@ impl Node {
     {
         Ok(Node {
             bytes: create.bytes.clone()?,
-            acl: AclList::of(&create.acl)?,
+            acl: create.acl.to_list()?,
             stat: first_stat(header, create),
             mark: mark(create.owner),
             children: TextSet::new(alloc),
@@ -292,7 +292,7 @@ impl Node {
         ensures ok { OnOk result (self.new ≡ with_acl body.now self.old) }
         ensures err { OnErr result (self.new ≡ self.old) }
     {
-        let acl = AclList::of(&body.acl)?;
+        let acl = body.acl.to_list()?;
         self.acl = acl;
         self.stat.aversion = body.version;
         Ok(())

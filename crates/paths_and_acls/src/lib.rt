@@ -11,8 +11,10 @@
 //! ```
 #![tactic(auto)]
 
+mod acl_field;
 mod acl_list;
 mod path;
 
+pub use acl_field::AclField;
 pub use acl_list::AclList;
 pub use path::{Path, child_of, is_path, name_of, parent_of};
