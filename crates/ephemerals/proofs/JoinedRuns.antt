@@ -330,7 +330,7 @@ split_is runs new i filled lt len is =
     let later = drop 32 run in
     let next : i + 1 ≡ suc i = omega arith in
     let whole : new ≡ parted runs i earlier later =
-        is ∙ ap (λ (n : ℕ). take i runs ++ earlier ∷ later ∷ drop n runs) next in
+    is ∙ ap (λ (n : ℕ). take i runs ++ earlier ∷ later ∷ drop n runs) next in
     let first : length earlier ≡ 32 = length-take-le 32 run (omega arith) in
     let second : length later ≡ length run - 32 = length-drop 32 run in
     record {
@@ -339,8 +339,8 @@ split_is runs new i filled lt len is =
       first = ap (λ rs. length (get_or rs i [])) whole ∙ ap length (parted_first earlier later runs i lt) ∙ first;
       second =
           let here = ap (λ rs. length (get_or rs (i + 1) [])) whole
-              ∙ ap (λ (n : ℕ). length (get_or (parted runs i earlier later) n [])) next
-              ∙ ap length (parted_second earlier later runs i lt) in
+          ∙ ap (λ (n : ℕ). length (get_or (parted runs i earlier later) n [])) next
+          ∙ ap length (parted_second earlier later runs i lt) in
           omega (arith, here);
       same = ap joined whole ∙ parted_joined earlier later runs i lt (sym (take-append-drop 32 run));
       before = ap (λ rs. texts_before rs i) whole ∙ parted_before earlier later runs i lt;

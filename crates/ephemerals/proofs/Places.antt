@@ -181,7 +181,7 @@ left_out texts i text s at =
     let again = inserted_again texts i text at in
     let gap = gap-insert left i text (subst (IsStrictlySortedBy path_cmp) again s) in
     let none : set.contains (set.from_list {R = path_cmp} left) text ≡ false =
-        set.contains-from_list path_total left text ∙ none_in_gap left i text gap.0 gap.1 in
+    set.contains-from_list path_total left text ∙ none_in_gap left i text gap.0 gap.1 in
     let names = ap (λ ts. set.from_list {R = path_cmp} ts) again ∙ names-insert left i text in
     record {
       ascending = gap.2;

@@ -18,7 +18,6 @@ mod number_of_session;
 mod owners;
 mod run;
 mod runs;
-
 mod text_set;
 mod texts;
 

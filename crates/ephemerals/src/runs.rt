@@ -11,6 +11,7 @@ use values::{NoMemory, Text};
 
 // How many texts a run may have, and half as many.
 const FULL: usize = 64;
+
 const HALF: usize = 32;
 
 /// A run, and a place in it.

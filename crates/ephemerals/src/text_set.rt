@@ -3,7 +3,6 @@
 ghost use Rattle.std.specs.Prelude.{◌≡◌, ◌∷◌, [], ◌↔◌, OnOk, OnErr, IfOk, IfSome, IfNone, IsTrue, not, false};
 ghost use Rattle.std.specs.List.{list_any};
 ghost use Rattle.std.specs.Ordering.{eq_by_cmp};
-ghost use Rattle.std.specs.Map.Iter.{ShowsInOrder, deref};
 ghost use Rattle.std.specs.FinSet as set;
 ghost use Rattle.ephemerals.specs.Orders.{Bytes, path_cmp, sorted_names};
 
@@ -110,7 +109,6 @@ impl TextSet {
     pub fn iter(&self) -> Texts<'_>
         ensures texts { result ≡ sorted_names self.now }
         ensures members { (q : Bytes) → set.contains self.now q ≡ list_any (eq_by_cmp path_cmp q) result }
-        ensures runs { ShowsInOrder (deref {X = Bytes}) }
     {
         Texts::of(&self.runs)
     }

@@ -16,8 +16,8 @@ returns-clause-below c =
     let runs = c.args.runs.now in
     let i = c.partition_point.result in
     let parts = c.partition_point.ensures.partitioned (ends_below text)
-        (answers_by _ _ (λ f. f.0.now ≡ text) (λ f a r g called same. (search rules, search rules)) _ refl)
-        (partitioned text runs c.requires) in
+    (answers_by _ _ (λ f. f.0.now ≡ text) (λ f a r g called same. (search rules, search rules)) _ refl)
+    (partitioned text runs c.requires) in
     below_before text runs i c.requires.ascending c.partition_point.ensures.bound parts.0
 
 pub returns-clause-above : goal.returns-clause-above
@@ -26,7 +26,7 @@ returns-clause-above c lt =
     let runs = c.args.runs.now in
     let i = c.partition_point.result in
     let parts = c.partition_point.ensures.partitioned (ends_below text)
-        (answers_by _ _ (λ f. f.0.now ≡ text) (λ f a r g called same. (search rules, search rules)) _ refl)
-        (partitioned text runs c.requires) in
+    (answers_by _ _ (λ f. f.0.now ≡ text) (λ f a r g called same. (search rules, search rules)) _ refl)
+    (partitioned text runs c.requires) in
     subst (λ (n : ℕ). AreAbove text (joined (drop n runs))) {x = suc i} {y = i + 1} (omega arith)
     (above_after text runs i c.requires.ascending lt (parts.1 i [] (omega arith) lt))

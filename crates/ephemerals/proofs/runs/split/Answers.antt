@@ -16,13 +16,13 @@ returns-clause-ok c =
     let next : i + 1 ≡ suc i = omega arith in
     let made = c.in_ok-insert.ensures.items in
     let later : c.in_ok-later.later ≡ drop 32 run =
-        c.in_ok-later.ensures ∙ ap (drop 32) (c.index.ensures ∙ get_or_default runs i c.index.result.now [] lt) in
+    c.in_ok-later.ensures ∙ ap (drop 32) (c.index.ensures ∙ get_or_default runs i c.index.result.now [] lt) in
     let own = c.index_mut-own.result.now in
     let is : own ≡ run =
-        c.index_mut-own.ensures.value
-        ∙ ap (λ rs. get_or rs i own) made
-        ∙ get_or-insert_below runs (i + 1) c.in_ok-later.later own i (omega arith) (omega arith)
-        ∙ get_or_default runs i own [] lt in
+    c.index_mut-own.ensures.value
+    ∙ ap (λ rs. get_or rs i own) made
+    ∙ get_or-insert_below runs (i + 1) c.in_ok-later.later own i (omega arith) (omega arith)
+    ∙ get_or_default runs i own [] lt in
     let earlier : c.truncate.new.self ≡ take 32 run = c.truncate.ensures ∙ ap (take 32) is in
     ap (λ rs. set rs i c.truncate.new.self) made
     ∙ (λ j. set (insert runs (next j) (later j)) i (earlier j))

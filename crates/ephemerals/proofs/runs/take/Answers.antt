@@ -13,13 +13,13 @@ returns-then-len-eq0-clause-rest c =
     let i = c.args.place.run in
     let is = c.index_mut-own.ensures.value ∙ get_or_default runs i c.index_mut-own.result.now [] c.requires.taken.run in
     let gone = ap (λ (run : List Bytes). joined (set runs i run))
-        (c.remove-text.ensures.rest ∙ ap (λ (run : List Bytes). remove run c.args.place.text) is)
-        ∙ taken_from_run runs i c.args.place.text c.requires.taken.run c.requires.taken.text in
+    (c.remove-text.ensures.rest ∙ ap (λ (run : List Bytes). remove run c.args.place.text) is)
+    ∙ taken_from_run runs i c.args.place.text c.requires.taken.run c.requires.taken.text in
     let lt : i < length (set runs i c.remove-text.new.self) = omega (arith, length-set runs i c.remove-text.new.self, c.requires.taken.run) in
     let none : length c.remove-text.new.self ≡ 0 = omega arith in
     ap joined c.remove.ensures.items
     ∙ joined_without (set runs i c.remove-text.new.self) i lt
-        (ap length (get-set runs i c.remove-text.new.self c.requires.taken.run) ∙ none)
+    (ap length (get-set runs i c.remove-text.new.self c.requires.taken.run) ∙ none)
     ∙ gone
 
 pub returns-then-len-eq0-clause-text : goal.returns-then-len-eq0-clause-text
@@ -40,8 +40,8 @@ returns-else-len-eq0-clause-rest c =
     let i = c.args.place.run in
     let is = c.index_mut-own.ensures.value ∙ get_or_default runs i c.index_mut-own.result.now [] c.requires.taken.run in
     let gone = ap (λ (run : List Bytes). joined (set runs i run))
-        (c.remove-text.ensures.rest ∙ ap (λ (run : List Bytes). remove run c.args.place.text) is)
-        ∙ taken_from_run runs i c.args.place.text c.requires.taken.run c.requires.taken.text in
+    (c.remove-text.ensures.rest ∙ ap (λ (run : List Bytes). remove run c.args.place.text) is)
+    ∙ taken_from_run runs i c.args.place.text c.requires.taken.run c.requires.taken.text in
     gone
 
 pub returns-else-len-eq0-clause-text : goal.returns-else-len-eq0-clause-text

@@ -10,7 +10,7 @@ pub returns : goal.returns
 returns c =
     let facts = c.binary_search_by.ensures in
     let by_text = facts.position (λ (t : Bytes). path_cmp t c.args.text.now)
-        (answers_by _ _ (λ f. f.0.now ≡ c.args.text.now) (λ f a r g called same. (search rules, search rules)) _ refl) in
+    (answers_by _ _ (λ f. f.0.now ≡ c.args.text.now) (λ f a r g called same. (search rules, search rules)) _ refl) in
     let is = c.deref.ensures.value ∙ c.self.view_is in
     let both = searched c.deref.result.now c.args.text.now (subst (IsStrictlySortedBy path_cmp) (sym is) c.requires) c.binary_search_by.result facts.bound by_text in
     record {

@@ -13,9 +13,9 @@ returns c =
     let runs = c.self.inside.runs.items in
     let text = c.args.text.now in
     let found = subst (λ (rs : List (List Bytes)). IfOk c.find.result (λ p. IsAt text (joined rs) (texts_before_place rs p)))
-        c.deref.ensures.value c.find.ensures.found in
+    c.deref.ensures.value c.find.ensures.found in
     let absent = subst (λ (rs : List (List Bytes)). IfErr c.find.result (λ p. IsGapFor text (joined rs) (texts_before_place rs p)))
-        c.deref.ensures.value c.find.ensures.absent in
+    c.deref.ensures.value c.find.ensures.absent in
     c.is_ok.ensures.value
     ∙ is_found (texts_before_place runs) (joined runs) text c.self.invariant.0.ascending c.find.result found absent
     ∙ ap (λ (s : Names). set.contains s text) c.self.view_is

@@ -17,7 +17,7 @@ returns-then-self-clause-absent c =
     let text = c.args.text.now in
     let place = texts_before_place runs c.in-Err.place in
     let gap = subst (λ (rs : List (List Bytes)). IsGapFor text (joined rs) (texts_before_place rs c.in-Err.place))
-        c.deref.ensures.value c.in-Err.ensures.absent in
+    c.deref.ensures.value c.in-Err.ensures.absent in
     let none = ap (λ (s : Names). set.contains s text) (sym c.self.view_is) ∙ absent_in_gap (joined runs) place text gap in
     none
 
@@ -27,7 +27,7 @@ returns-in_err-put-in-Err-clause-absent c =
     let text = c.args.text.now in
     let place = texts_before_place runs c.in-Err.place in
     let gap = subst (λ (rs : List (List Bytes)). IsGapFor text (joined rs) (texts_before_place rs c.in-Err.place))
-        c.deref.ensures.value c.in-Err.ensures.absent in
+    c.deref.ensures.value c.in-Err.ensures.absent in
     let none = ap (λ (s : Names). set.contains s text) (sym c.self.view_is) ∙ absent_in_gap (joined runs) place text gap in
     on_err c.from_residual.result none
 
@@ -37,9 +37,9 @@ invariant_of-self-in-Err c =
     let text = c.args.text.now in
     let place = texts_before_place runs c.in-Err.place in
     let gap = subst (λ (rs : List (List Bytes)). IsGapFor text (joined rs) (texts_before_place rs c.in-Err.place))
-        c.deref.ensures.value c.in-Err.ensures.absent in
+    c.deref.ensures.value c.in-Err.ensures.absent in
     let with = with_text text runs c.put.new.runs.items place c.self.invariant.0 gap
-        c.in_ok-put-in-Err.ensures.filled c.in_ok-put-in-Err.ensures.ok in
+    c.in_ok-put-in-Err.ensures.filled c.in_ok-put-in-Err.ensures.ok in
     (with.are, omega (arith, with.len, c.self.invariant.1))
 
 pub returns-in-Ok-clause-ok : goal.returns-in-Ok-clause-ok
@@ -48,9 +48,9 @@ returns-in-Ok-clause-ok c =
     let text = c.args.text.now in
     let place = texts_before_place runs c.in-Ok.field-0 in
     let found = subst (λ (rs : List (List Bytes)). IsAt text (joined rs) (texts_before_place rs c.in-Ok.field-0))
-        c.deref.ensures.value c.in-Ok.ensures.found in
+    c.deref.ensures.value c.in-Ok.ensures.found in
     let was = ap (λ (s : Names). set.contains s text) (sym c.self.view_is)
-        ∙ (left_out (joined runs) place text c.self.invariant.0.ascending found).was in
+    ∙ (left_out (joined runs) place text c.self.invariant.0.ascending found).was in
     insert-present path_total exact_bytes c.args.self.now text was
 
 pub returns-in-Ok-clause-added : goal.returns-in-Ok-clause-added
@@ -59,9 +59,9 @@ returns-in-Ok-clause-added c =
     let text = c.args.text.now in
     let place = texts_before_place runs c.in-Ok.field-0 in
     let found = subst (λ (rs : List (List Bytes)). IsAt text (joined rs) (texts_before_place rs c.in-Ok.field-0))
-        c.deref.ensures.value c.in-Ok.ensures.found in
+    c.deref.ensures.value c.in-Ok.ensures.found in
     let was = ap (λ (s : Names). set.contains s text) (sym c.self.view_is)
-        ∙ (left_out (joined runs) place text c.self.invariant.0.ascending found).was in
+    ∙ (left_out (joined runs) place text c.self.invariant.0.ascending found).was in
     ap not (sym was)
 
 pub returns-in_ok-put-in-Err-clause-ok : goal.returns-in_ok-put-in-Err-clause-ok
@@ -70,9 +70,9 @@ returns-in_ok-put-in-Err-clause-ok c =
     let text = c.args.text.now in
     let place = texts_before_place runs c.in-Err.place in
     let gap = subst (λ (rs : List (List Bytes)). IsGapFor text (joined rs) (texts_before_place rs c.in-Err.place))
-        c.deref.ensures.value c.in-Err.ensures.absent in
+    c.deref.ensures.value c.in-Err.ensures.absent in
     let with = with_text text runs c.put.new.runs.items place c.self.invariant.0 gap
-        c.in_ok-put-in-Err.ensures.filled c.in_ok-put-in-Err.ensures.ok in
+    c.in_ok-put-in-Err.ensures.filled c.in_ok-put-in-Err.ensures.ok in
     with.names ∙ ap (λ (s : Names). set.insert s text) c.self.view_is
 
 pub returns-in_ok-put-in-Err-clause-added : goal.returns-in_ok-put-in-Err-clause-added
@@ -81,6 +81,6 @@ returns-in_ok-put-in-Err-clause-added c =
     let text = c.args.text.now in
     let place = texts_before_place runs c.in-Err.place in
     let gap = subst (λ (rs : List (List Bytes)). IsGapFor text (joined rs) (texts_before_place rs c.in-Err.place))
-        c.deref.ensures.value c.in-Err.ensures.absent in
+    c.deref.ensures.value c.in-Err.ensures.absent in
     let none = ap (λ (s : Names). set.contains s text) (sym c.self.view_is) ∙ absent_in_gap (joined runs) place text gap in
     ap not (sym none)

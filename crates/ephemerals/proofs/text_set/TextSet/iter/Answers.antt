@@ -6,8 +6,6 @@ use Rattle.ephemerals.specs.Orders.{Bytes, Names, path_cmp, sorted_names}
 use Rattle.ephemerals.specs.Inner.Runs.{joined, names_in, texts_before, AreFilled, AreRuns, AreBelow, AreAbove, IsAt, IsGapFor, ends_below}
 use Rattle.std.specs.List.{list_any}
 use Rattle.std.specs.Ordering.{eq_by_cmp}
-use Rattle.std.specs.Map.Iter.{deref}
-use Rattle.std_collections.proofs.IterRuns.{shows_in_order}
 use Rattle.values.proofs.Keyed.{set_of-in_order}
 use Rattle.ephemerals.proofs.text_set.TextSet.iter.Goals as goal
 
@@ -22,6 +20,3 @@ returns-clause-members c q =
     ap (λ (s : Names). set.contains s q) (sym c.self.view_is)
     ∙ set.contains-from_list path_total (joined c.self.inside.runs.items) q
     ∙ ap (list_any (eq_by_cmp path_cmp q)) (sym (c.of.ensures ∙ ap joined c.deref.ensures.value))
-
-pub returns-clause-runs : goal.returns-clause-runs
-returns-clause-runs c = shows_in_order (deref {X = Bytes})

@@ -15,9 +15,9 @@ invariant_of-self c =
     let text = c.args.text.now in
     let place = texts_before_place runs c.in-Ok.place in
     let found = subst (λ (rs : List (List Bytes)). IsAt text (joined rs) (texts_before_place rs c.in-Ok.place))
-        c.deref.ensures.value c.in-Ok.ensures.found in
+    c.deref.ensures.value c.in-Ok.ensures.found in
     let without = without_text text runs c.take.new.runs.items place c.self.invariant.0 found
-        c.take.ensures.filled c.take.ensures.rest in
+    c.take.ensures.filled c.take.ensures.rest in
     (without.are, omega (arith, without.len, c.self.invariant.1))
 
 pub returns-in-Ok-clause-removed : goal.returns-in-Ok-clause-removed
@@ -26,9 +26,9 @@ returns-in-Ok-clause-removed c =
     let text = c.args.text.now in
     let place = texts_before_place runs c.in-Ok.place in
     let found = subst (λ (rs : List (List Bytes)). IsAt text (joined rs) (texts_before_place rs c.in-Ok.place))
-        c.deref.ensures.value c.in-Ok.ensures.found in
+    c.deref.ensures.value c.in-Ok.ensures.found in
     let without = without_text text runs c.take.new.runs.items place c.self.invariant.0 found
-        c.take.ensures.filled c.take.ensures.rest in
+    c.take.ensures.filled c.take.ensures.rest in
     without.names ∙ ap (λ (s : Names). set.remove s text) c.self.view_is
 
 pub returns-in-Ok-clause-was : goal.returns-in-Ok-clause-was
@@ -37,9 +37,9 @@ returns-in-Ok-clause-was c =
     let text = c.args.text.now in
     let place = texts_before_place runs c.in-Ok.place in
     let found = subst (λ (rs : List (List Bytes)). IsAt text (joined rs) (texts_before_place rs c.in-Ok.place))
-        c.deref.ensures.value c.in-Ok.ensures.found in
+    c.deref.ensures.value c.in-Ok.ensures.found in
     let without = without_text text runs c.take.new.runs.items place c.self.invariant.0 found
-        c.take.ensures.filled c.take.ensures.rest in
+    c.take.ensures.filled c.take.ensures.rest in
     sym without.was ∙ ap (λ (s : Names). set.contains s text) c.self.view_is
 
 pub returns-in-Err-clause-removed : goal.returns-in-Err-clause-removed
@@ -48,7 +48,7 @@ returns-in-Err-clause-removed c =
     let text = c.args.text.now in
     let place = texts_before_place runs c.in-Err.field-0 in
     let gap = subst (λ (rs : List (List Bytes)). IsGapFor text (joined rs) (texts_before_place rs c.in-Err.field-0))
-        c.deref.ensures.value c.in-Err.ensures.absent in
+    c.deref.ensures.value c.in-Err.ensures.absent in
     let none = ap (λ (s : Names). set.contains s text) (sym c.self.view_is) ∙ absent_in_gap (joined runs) place text gap in
     sym (remove-absent c.args.self.now text none)
 
@@ -58,6 +58,6 @@ returns-in-Err-clause-was c =
     let text = c.args.text.now in
     let place = texts_before_place runs c.in-Err.field-0 in
     let gap = subst (λ (rs : List (List Bytes)). IsGapFor text (joined rs) (texts_before_place rs c.in-Err.field-0))
-        c.deref.ensures.value c.in-Err.ensures.absent in
+    c.deref.ensures.value c.in-Err.ensures.absent in
     let none = ap (λ (s : Names). set.contains s text) (sym c.self.view_is) ∙ absent_in_gap (joined runs) place text gap in
     sym none
