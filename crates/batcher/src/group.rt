@@ -39,7 +39,7 @@ impl Drop for Group {
 fn add_path(alloc: Global, names: &mut TextSet, path: &str) -> Result<(), NoMemory>
     ensures { OnOk result (names.new ≡ set.insert names.old path.now) }
 {
-    names.insert(String::from_str(alloc, path)?)?;
+    names.insert(alloc, path)?;
     Ok(())
 }
 

@@ -78,7 +78,7 @@ fn with_names(alloc: Global, names: TextSet, paths: &[Path]) -> Result<TextSet, 
 {
     let mut all = names;
     for path in paths {
-        all.insert(String::from_str(alloc, path.as_str())?)?;
+        all.insert(alloc, path.as_str())?;
     }
     Ok(all)
 }
@@ -156,8 +156,7 @@ impl Tree {
         if path.as_str() == "/" {
             return self.put_root(alloc, node);
         }
-        let name = String::from_str(alloc, path.name())?;
-        match self.nodes.add_name(path.parent(), name)? {
+        match self.nodes.add_name(alloc, path.parent(), path.name())? {
             AddedChild::NoParent => Ok(false),
             AddedChild::Taken => self.place_new_node(alloc, path.as_str(), node),
             AddedChild::Added(_) => match self.place_new_node(alloc, path.as_str(), node) {
@@ -240,8 +239,7 @@ impl Tree {
         let created = Trigger::Created(Text::new(alloc, create.path.as_str())?);
         fire_with_parent(triggers, alloc, created, parent)?;
         let node = Node::created(alloc, header, create)?;
-        let name = String::from_str(alloc, create.path.name())?;
-        match self.nodes.add_child(parent, name, header, create)? {
+        match self.nodes.add_child(alloc, parent, create.path.name(), header, create)? {
             AddedChild::NoParent => {
                 triggers.truncate(before);
                 Ok(NO_NODE)

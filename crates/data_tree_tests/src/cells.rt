@@ -51,7 +51,7 @@ fn set_data(alloc: Global, path: &str) -> Result<Txn, Fail> {
 fn texts(alloc: Global, texts: &[&str]) -> Result<TextSet, Fail> {
     let mut set = TextSet::new(alloc);
     for text in texts {
-        set.insert(String::from_str(alloc, text)?)?;
+        set.insert(alloc, text)?;
     }
     Ok(set)
 }
