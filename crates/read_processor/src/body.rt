@@ -126,11 +126,7 @@ impl Body {
     }
 
     // The names of a set in its order, with capacity for that many bytes after the room.
-    pub(crate) fn of_names(
-        alloc: Global,
-        size: usize,
-        texts: &TextSet,
-    ) -> Result<Body, NoMemory>
+    pub(crate) fn of_names(alloc: Global, size: usize, texts: &TextSet) -> Result<Body, NoMemory>
         requires within { size ≤ body_limit }
         requires whole { length (names_format.written (sorted_names texts.now)) ≤ size }
         ensures { IfOk result (λ body. body ≡ names_format.written (sorted_names texts.now)) }
