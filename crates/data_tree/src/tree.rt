@@ -239,7 +239,10 @@ impl Tree {
         let created = Trigger::Created(Text::new(alloc, create.path.as_str())?);
         fire_with_parent(triggers, alloc, created, parent)?;
         let node = Node::created(alloc, header, create)?;
-        match self.nodes.add_child(alloc, parent, create.path.name(), header, create)? {
+        match self
+            .nodes
+            .add_child(alloc, parent, create.path.name(), header, create)?
+        {
             AddedChild::NoParent => {
                 triggers.truncate(before);
                 Ok(NO_NODE)
