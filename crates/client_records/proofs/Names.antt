@@ -56,7 +56,7 @@ pub count_in_order : (names : Names) → length (sorted_names names) ≡ set.len
 count_in_order names =
     sym (len-set_of path_total exact_bytes (sorted_names names) (names_ascend names))
     ∙ ap set.len (set.same_set path_total exact_bytes _ names (λ q.
-        set.contains-from_list path_total (sorted_names names) q ∙ any-in_order names q))
+    set.contains-from_list path_total (sorted_names names) q ∙ any-in_order names q))
 
 abbrev pub MayBeWritten : Bytes → Type 0
 MayBeWritten t = length t < 2 ^ 31

@@ -14,7 +14,7 @@ pub returns-in_err-put_int : goal.returns-in_err-put_int
 returns-in_err-put_int c =
     fails _ c.from_residual.ensures.0
     (put_part_of_count c.args.out.now.items c.put_int.new.out.items _ (sorted_names c.args.texts.now)
-        (count_in_order c.args.texts.now ∙ sym c.len.ensures) c.requires.0 c.in_err-put_int.ensures)
+    (count_in_order c.args.texts.now ∙ sym c.len.ensures) c.requires.0 c.in_err-put_int.ensures)
 
 pub loop-text-init : goal.loop-text-init
 loop-text-init c =
