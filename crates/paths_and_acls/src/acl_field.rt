@@ -48,6 +48,7 @@ fn after_open(bytes: &[u8]) -> Option<&[u8]>
 }
 
 impl AclField {
+    /// Null, which means the open list.
     pub fn null() -> AclField
         ensures { result ≡ None }
     {
