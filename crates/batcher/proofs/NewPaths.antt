@@ -1,8 +1,7 @@
 -- Paths with their numbers, one after the other.
-use Rattle.std.proofs.Common.{◌≡◌, ℕ, zero, suc, ◌+◌, ◌<◌, List, [], ◌∷◌, ◌++◌, ap, sym, subst, ◌∙◌, arith, drop, length, get_or}
+use Rattle.std.proofs.Common.{◌≡◌, ℕ, zero, suc, ◌+◌, ◌<◌, List, [], ◌∷◌, ◌++◌, ap, sym, subst, ◌∙◌, arith, length, get_or}
 use Rattle.std.specs.List.{AllByRecursion}
 use Rattle.std.proofs.lemmas.List.{drop-map, length-map}
-use Rattle.ephemerals.specs.Orders.{Bytes}
 use Rattle.batcher.specs.declared.owners.NewPath.{NewPath}
 use Rattle.batcher.specs.Inner.Owners.{paths_of}
 use Rattle.batcher.proofs.Steps.{IsNext, next_is}

@@ -1,4 +1,4 @@
-use Rattle.std.proofs.Common.{ap, sym, refl, ◌∙◌, ◌-◌, Some, length}
+use Rattle.std.proofs.Common.{ap, sym, ◌∙◌, ◌-◌, Some}
 use Rattle.batcher.specs.Inner.Joining.{met_group}
 use Rattle.batcher.proofs.Drafting.{for_no_path, for_paths, numbered_draft, unowned_as_before}
 use Rattle.batcher.proofs.draft.Draft.group_for.Goals as goal

@@ -1,4 +1,4 @@
-use Rattle.std.proofs.Common.{◌∙◌, sym}
+use Rattle.std.proofs.Common.{◌∙◌}
 use Rattle.batcher.specs.Inner.Owners.{get_by_path, paths_of}
 use Rattle.batcher.proofs.Steps.{owned_next}
 use Rattle.batcher.proofs.NewPaths.{path_within, path_at}
