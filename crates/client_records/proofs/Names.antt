@@ -1,62 +1,14 @@
 -- The texts of a set, written one after another.
-use Rattle.std.proofs.Common.{◌≡◌, ℕ, ◌<◌, ◌^◌, List, [], ◌∷◌, ◌++◌, Bool, true, false, ◌&&◌, T, length, map, All, refl, sym, ap, subst, ◌∙◌, append_assoc, w32, to_z, pos}
-use Rattle.std.specs.declared.cmp.Ordering.{Ordering}
-use Rattle.std.specs.declared.cmp.Ordering.TheVariants.{Less, Equal, Greater}
-use Rattle.std.specs.Ordering.{is_lt}
-use Rattle.std.specs.List.Sorted.{IsStrictlySortedBy}
-use Rattle.std.specs.FinMap.Entries.{is_sorted, below_all}
-use Rattle.ephemerals.proofs.Ascending.{any-in_order}
-use Rattle.values.proofs.Keyed.{len-set_of}
-use Rattle.std.specs.FinMap as finmap
-use Rattle.std.specs.FinSet as set
+use Rattle.std.proofs.Common.{◌≡◌, ℕ, ◌<◌, ◌^◌, List, [], ◌∷◌, ◌++◌, length, All, refl, sym, ap, subst, ◌∙◌, append_assoc, w32, to_z, pos}
 use Rattle.std.specs.List.{flat_map, AllByRecursion}
 use Rattle.std.proofs.lemmas.List.Concat.{flat_map-cons}
-use Rattle.std.proofs.lemmas.List.{length-map}
 use Rattle.std.proofs.lemmas.List.Elements.{All-head, All-tail}
-use Rattle.std.proofs.lemmas.Map.Lookups.{exact_bytes}
 use Rattle.std.proofs.lemmas.Int.{to_z_pos}
-use Rattle.ephemerals.specs.Orders.{Bytes, Names, path_cmp, sorted_names}
-use Rattle.ephemerals.proofs.Totals.{path_total}
+use Rattle.ephemerals.specs.Orders.{Bytes}
 use Rattle.jute.specs.Format.{text_or_empty, number_bytes}
 use Rattle.client_records.specs.Fields.{names_format}
 use Rattle.values.specs.Gains.{Gains}
 use Rattle.values.proofs.Gaining.{gains_first, gains_behind, gains_same}
-
-both : (a b : Bool) → T (a && b) → T a × T b
-both true b h = (tt, h)
-both false b h = absurd h
-
-less : (o : Ordering) → T (is_lt o) → o ≡ Less
-less Less h = refl
-less Equal h = absurd h
-less Greater h = absurd h
-
-all_above : (k : Bytes) (es : List (Bytes × Unit {0})) → T (below_all path_cmp k es)
-    → AllByRecursion (λ y. path_cmp k y ≡ Less) (map (λ (e : Bytes × Unit {0}). e.0) es)
-all_above k [] h = tt
-all_above k (e ∷ es) h =
-    let parts = both (is_lt (path_cmp k e.0)) (below_all path_cmp k es) h in
-    (less (path_cmp k e.0) parts.0, all_above k es parts.1)
-
-keys_ascend : (es : List (Bytes × Unit {0})) → T (is_sorted path_cmp es)
-    → IsStrictlySortedBy path_cmp (map (λ (e : Bytes × Unit {0}). e.0) es)
-unfolding IsStrictlySortedBy
-keys_ascend [] h = tt
-keys_ascend (e ∷ es) h =
-    let parts = both (below_all path_cmp e.0 es) (is_sorted path_cmp es) h in
-    (all_above e.0 es parts.0, keys_ascend es parts.1)
-
-names_ascend : (names : Names) → IsStrictlySortedBy path_cmp (sorted_names names)
-names_ascend names =
-    let entries = finmap.from_entries {R = path_cmp} (map (λ (t : Bytes). (t, tt {0})) (set.items names)) in
-    keys_ascend (finmap.entries entries) (finmap.entries_sorted entries)
-
--- The texts in order are as many as the set has.
-pub count_in_order : (names : Names) → length (sorted_names names) ≡ set.len names
-count_in_order names =
-    sym (len-set_of path_total exact_bytes (sorted_names names) (names_ascend names))
-    ∙ ap set.len (set.same_set path_total exact_bytes _ names (λ q.
-    set.contains-from_list path_total (sorted_names names) q ∙ any-in_order names q))
 
 abbrev pub MayBeWritten : Bytes → Type 0
 MayBeWritten t = length t < 2 ^ 31

@@ -1,7 +1,8 @@
 use Rattle.std.proofs.Common.{◌<◌, ◌^◌, length, sym, subst, ◌∙◌, arith}
 use Rattle.ephemerals.specs.Orders.{sorted_names}
+use Rattle.ephemerals.proofs.Ascending.{count_in_order}
 use Rattle.jute.proofs.Writing.{fails}
-use Rattle.client_records.proofs.Names.{count_in_order, each_may, put_count, put_next, put_part, put_part_of_count}
+use Rattle.client_records.proofs.Names.{each_may, put_count, put_next, put_part, put_part_of_count}
 use Rattle.client_records.proofs.fields.put_names.Goals as goal
 
 pub overflow_cast-len : goal.overflow_cast-len
