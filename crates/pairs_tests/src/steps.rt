@@ -75,19 +75,6 @@ fn taken(rt: &impl Abort, alloc: Global) -> Result<(), Fail> {
     Ok(())
 }
 
-// Pairs of another set.
-fn added(rt: &impl Abort, alloc: Global) -> Result<(), Fail> {
-    let pairs = some_pairs(alloc)?;
-    let mut others = Pairs::new(alloc);
-    others.add_of_text(alloc, "/b", &pairs)?;
-    assert_eq!(rt; numbers(alloc, &others, "/b")?.as_str(), " 1 2 7");
-    assert_eq!(rt; counts(alloc, &others)?.as_str(), "3 1 3");
-    others.insert(alloc, "/c", 9)?;
-    others.add_all(alloc, &pairs)?;
-    assert_eq!(rt; counts(alloc, &others)?.as_str(), "6 4 4");
-    Ok(())
-}
-
 // Texts and numbers that some have and others don't.
 fn beyond(rt: &impl Abort, alloc: Global) -> Result<(), Fail> {
     let (pairs, none) = (some_pairs(alloc)?, Pairs::new(alloc));
@@ -112,11 +99,6 @@ fn removing(rt: HostRuntime) -> Result<(), Fail> {
 #[test]
 fn taking(rt: HostRuntime) -> Result<(), Fail> {
     taken(&rt, rt.alloc())
-}
-
-#[test]
-fn adding(rt: HostRuntime) -> Result<(), Fail> {
-    added(&rt, rt.alloc())
 }
 
 #[test]
