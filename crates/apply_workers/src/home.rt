@@ -8,7 +8,7 @@ ghost use Rattle.apply_workers.specs.Inner.{put_at, finished_groups};
 use crate::group_work::{Finished, Work};
 use apply_board::Group;
 use batcher::LentBatch;
-use data_tree::{Cells, Outcome, Tree, TxnResults};
+use data_tree::{Cells, Outcome, Tree, Triggers, TxnResults};
 use std::alloc::Global;
 use txn_codec::{SessionChange, Txn};
 use values::{Listed, NoMemory};
@@ -81,7 +81,7 @@ fn empty_outcomes(alloc: Global, count: usize) -> Result<Vec<Outcome>, NoMemory>
                 err: 0,
                 parts: Listed::from_vec(Vec::new(alloc)),
             },
-            triggers: Listed::from_vec(Vec::new(alloc)),
+            triggers: Triggers::from_vec(Vec::new(alloc)),
         })?;
     }
     Ok(blanks)

@@ -8,7 +8,7 @@ use crate::gate::Gate;
 use crate::starts::AllStart;
 use crate::work_size::is_worth_spreading;
 use batcher::{Front, LentBatch, Limits, SpreadThreshold, front_of};
-use data_tree::{Outcome, Tree};
+use data_tree::{HashKey, Outcome, Tree};
 use std::alloc::Global;
 use std::thread::{Threads, join_mut};
 use txn_codec::Txn;
@@ -46,9 +46,11 @@ pub fn apply_list_inline(
     Ok(outcomes)
 }
 
-// The batch at the front of the list, or none where its next transactions aren't worth threads.
+// The batch at the front of the list, or none where its next transactions aren't worth threads. Paths are found by a
+// hash with this key.
 fn next_batch(
     alloc: Global,
+    key: HashKey,
     txns: &[Txn],
     limits: &Limits,
     threshold: &SpreadThreshold,
@@ -59,7 +61,7 @@ fn next_batch(
     if next.is_empty() || limits.workers() <= 1 || !is_worth_spreading(next, threshold) {
         return Ok(None);
     }
-    Ok(Some(front_of(alloc, txns, limits)?))
+    Ok(Some(front_of(alloc, key, txns, limits)?))
 }
 
 // Applies the batch by workers and appends its outcomes. Meanwhile one more thread cuts the batch after it.
@@ -79,7 +81,8 @@ fn spread_onto<G: Gate + Sync, R: Threads + Sync>(
         (outcomes.new.items ≡ outcomes.old.items ++ outcomes_of_txns tree.old batch.now) }
     ensures next { IfOk result (λ next. IsNextBatch limits.now next later.now) }
 {
-    let mut cut = || next_batch(alloc, later, limits, threshold);
+    let key = tree.hash_key();
+    let mut cut = || next_batch(alloc, key, later, limits, threshold);
     let mut apply = || apply_lent(rt, alloc, tree, batch, limits.workers(), gate, &AllStart);
     let (next, answered) = if later.is_empty() {
         (Ok(None), apply())
@@ -109,13 +112,14 @@ pub fn apply_list<G: Gate + Sync, R: Threads + Sync>(
 {
     let mut outcomes = Vec::with_capacity(alloc, txns.len())?;
     let mut rest = txns;
-    let mut next = next_batch(alloc, rest, limits, threshold)?;
+    let key = tree.hash_key();
+    let mut next = next_batch(alloc, key, rest, limits, threshold)?;
     while !rest.is_empty() {
         match next {
             None => {
                 let (front, later) = rest.split_at(limits.batch().min(rest.len()));
                 apply_onto(alloc, tree, front, &mut outcomes)?;
-                next = next_batch(alloc, later, limits, threshold)?;
+                next = next_batch(alloc, key, later, limits, threshold)?;
                 rest = later;
             }
             Some(front) => {

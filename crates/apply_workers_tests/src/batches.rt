@@ -3,7 +3,7 @@ use crate::words::{
     CLOSE_SESSION, TWO_GROUPS, answers, batches_of, one_by_one, sizes, state, tree_behind,
 };
 use apply_workers::{OpenGate, Step, apply_batch, apply_inline};
-use batcher::{Batch, Limits, cut};
+use batcher::{Batch, HashKey, Limits, cut};
 use batcher_tests::read_txn;
 use data_tree::{Outcome, Tree};
 use std::alloc::Global;
@@ -136,7 +136,8 @@ fn two_timeouts(alloc: Global) -> Result<Batch, Fail> {
     txns.push(read_txn(alloc, "open")?)?;
     txns.push(read_txn(alloc, "/a")?)?;
     txns.push(later)?;
-    Ok(cut(alloc, txns.as_slice(), &Limits::new(2, 256, 64)?)?)
+    let limits = Limits::new(2, 256, 64)?;
+    Ok(cut(alloc, HashKey::default(), txns.as_slice(), &limits)?)
 }
 
 // The timeout of session 9 after that batch, applied by two workers.

@@ -2,7 +2,7 @@
 
 use crate::words::{answers, tree_behind};
 use apply_workers::{Gate, apply_batch};
-use batcher::{Batch, Limits, cut};
+use batcher::{Batch, HashKey, Limits, cut};
 use batcher_tests::read_txn;
 use data_tree::Tree;
 use std::alloc::Global;
@@ -97,7 +97,8 @@ fn children(alloc: Global) -> Result<Vec<Txn>, Fail> {
 // These transactions as one batch.
 fn largest(alloc: Global) -> Result<Batch, Fail> {
     let txns = children(alloc)?;
-    Ok(cut(alloc, txns.as_slice(), &Limits::new(WORKERS, 4096, 256)?)?)
+    let limits = Limits::new(WORKERS, 4096, 256)?;
+    Ok(cut(alloc, HashKey::default(), txns.as_slice(), &limits)?)
 }
 
 // Whether a group waited in vain while the workers applied the batch; the number of its groups and transactions; the

@@ -1,6 +1,6 @@
 //! Batches and trees given as words, and their outcomes in words.
 
-use batcher::{Batch, Limits, cut};
+use batcher::{Batch, HashKey, Limits, cut};
 use batcher_tests::read_txns;
 use data_tree::{Outcome, Tree, Trigger};
 use std::alloc::Global;
@@ -42,7 +42,8 @@ pub fn tree_behind(alloc: Global, words: &str) -> Result<Tree, Fail> {
 /// The batch cut from the transactions of these words with the default limits.
 pub fn batch_of(alloc: Global, words: &str) -> Result<Batch, Fail> {
     let limits = Limits::new(4, 256, 64)?;
-    Ok(cut(alloc, read_txns(alloc, words)?.as_slice(), &limits)?)
+    let txns = read_txns(alloc, words)?;
+    Ok(cut(alloc, HashKey::default(), txns.as_slice(), &limits)?)
 }
 
 /// All batches cut from the transactions of these words, one after the other; without transactions the empty one.
@@ -52,7 +53,7 @@ pub fn batches_of(alloc: Global, words: &str) -> Result<Vec<Batch>, Fail> {
     let mut rest = txns.as_slice();
     let mut batches = Vec::new(alloc);
     for _ in 0..=txns.len() {
-        let batch = cut(alloc, rest, &limits)?;
+        let batch = cut(alloc, HashKey::default(), rest, &limits)?;
         if batch.len() <= rest.len() {
             rest = &rest[batch.len()..];
         }

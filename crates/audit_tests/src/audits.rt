@@ -1,7 +1,7 @@
 //! Logs that were counted by hand.
 
 use audit::{AuditError, audit_stat};
-use paths_and_acls::Path;
+use paths_and_acls::{AclField, Path};
 use settings::Dialect;
 use std::alloc::Global;
 use std::test::Fail;
@@ -26,7 +26,7 @@ fn create(alloc: Global, path: &str, ephemeral: bool, wanted: i32) -> Result<Ope
     Ok(Operation::Create(Create {
         path: Path::new(alloc, path)?,
         bytes: None,
-        acl: None,
+        acl: AclField::null(),
         owner: if ephemeral {
             Owner::Client
         } else {

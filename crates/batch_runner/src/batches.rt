@@ -4,7 +4,7 @@ use crate::making::tree;
 use crate::tally::Tally;
 use anyhow::{Result, ensure};
 use apply_workers::{OpenGate, apply_batch};
-use batcher::{Batch, Limits, cut_front};
+use batcher::{Batch, HashKey, Limits, cut_front};
 use data_tree::Tree;
 use std::alloc::Global;
 use std::collections::VecDeque;
@@ -38,7 +38,7 @@ pub fn cut_one(
 ) -> Result<Batch> {
     let wanted = queue.len().min(limits.batch());
     let since = Instant::now(rt)?;
-    let batch = cut_front(alloc, queue, limits)?;
+    let batch = cut_front(alloc, HashKey::default(), queue, limits)?;
     tally.end_cut(rt, since)?;
     ensure!(batch.len() == wanted, "a batch is too short");
     tally.count_batch(batch.groups().len());

@@ -3,7 +3,7 @@
 use crate::batches::{GROUPS, LENGTH, cut_one, queued};
 use crate::tally::Tally;
 use anyhow::{Result, ensure};
-use batcher::{Limits, cut};
+use batcher::{HashKey, Limits, cut};
 use std::alloc::Global;
 use std::rt::Clock;
 use std::time::Instant;
@@ -19,7 +19,7 @@ fn cut_once(
 ) -> Result<()> {
     for front in txns.chunks(LENGTH) {
         let since = Instant::now(rt)?;
-        let batch = cut(alloc, front, limits)?;
+        let batch = cut(alloc, HashKey::default(), front, limits)?;
         tally.end_cut(rt, since)?;
         ensure!(batch.len() == front.len(), "a batch is too short");
         tally.count_batch(batch.groups().len());

@@ -3,7 +3,7 @@
 use crate::asked::{Kind, Load};
 use anyhow::Result;
 use data_tree::Tree;
-use paths_and_acls::Path;
+use paths_and_acls::{AclField, Path};
 use settings::Dialect;
 use std::alloc::Global;
 use txn_codec::{Body, Create, Operation, Owner, SetData, Txn, TxnHeader};
@@ -42,7 +42,7 @@ fn create(alloc: Global, path: Path, content: &[u8]) -> Result<Operation> {
     Ok(Operation::Create(Create {
         path,
         bytes: Some(bytes),
-        acl: None,
+        acl: AclField::null(),
         owner: Owner::Nobody,
         asks_stat: false,
         parent_cversion: -1,

@@ -2,7 +2,7 @@
 use Rattle.std.proofs.Common.{◌≡◌, ◌≢◌, ℕ, zero, suc, ◌+◌, ◌-◌, ◌<◌, ◌≤◌, nat_eq, nat_lt, List, [], ◌∷◌, ◌++◌, Bool, true, false, cond, ◌||◌, Option, Some, None, is_some, Result, Ok, Err, OnOk, set, get_or, refl, sym, ap, ◌∙◌, subst, arith, length, drop, take, map, Bor}
 use Rattle.std.specs.List.{zip}
 use Rattle.std.specs.Option.{option_map_or}
-use Rattle.batcher.specs.Inner.Keys.{get_by_path}
+use Rattle.batcher.specs.Inner.Owners.{get_by_path, AreBeside, HaveNumbered}
 use Rattle.std.proofs.lemmas.Bool.Decides.{nat_tests}
 use mathlib.Core.Bool.{true≢false}
 use Rattle.std.proofs.lemmas.List.{length-append, length-map, length-take, map-append}
@@ -14,6 +14,7 @@ use Rattle.footprint.specs.Footprints.{is_barrier}
 use Rattle.batcher.specs.Class.{TxnGroup, empty_group}
 use Rattle.batcher.specs.Limits.{LimitNumbers, are_limits}
 use Rattle.batcher.specs.declared.draft.Draft.{Draft}
+use Rattle.batcher.specs.declared.owners.Owners.{Owners}
 use Rattle.batcher.specs.declared.met.Met.TheVariants.{Nothing}
 use Rattle.batcher.specs.Groups.{group_with, group_count, group_for, group_of_next, tagged_txns, paths_in, txn_groups_of}
 use Rattle.batcher.specs.Front.{IsFrontOf}
@@ -86,6 +87,40 @@ for_paths draft is (p ∷ ps) e =
     ap (λ n. met_group n (all_met (get_by_path draft.owners) Nothing (p ∷ ps))) (opened_in draft is)
     ∙ met_is (tagged_in draft) (get_by_path draft.owners) is.owners p ps
 
+-- No transaction.
+pub no_draft : (draft : Draft) → draft.txns.items ≡ [] → draft.numbers.items ≡ [] → AreBeside draft.owners
+    → ((path : Bytes) → get_by_path draft.owners path ≡ None) → draft.groups.items ≡ [] → IsDraft draft
+no_draft draft txns numbers beside none groups =
+    record {
+      numbers = ap length numbers ∙ sym (ap length none_in);
+      beside = beside;
+      owners = λ path. none path ∙ sym (ap (λ ts. group_with ts path) tagged);
+      groups = groups ∙ sym (ap txn_groups_of tagged);
+    }
+  where
+    none_in : txns_in draft ≡ []
+    none_in = ap (map (λ (t : Bor Txn). t.now)) txns
+
+    tagged : tagged_in draft ≡ []
+    tagged = λ i. zip (numbers i) (none_in i)
+
+-- More paths have a number.
+pub numbered_draft : (draft : Draft) (owners : Owners) → IsDraft draft → HaveNumbered draft.owners owners
+    → IsDraft (record draft { owners = owners })
+numbered_draft draft owners is kept =
+    record {
+      numbers = is.numbers;
+      beside = kept.beside;
+      owners = λ q. kept.owners q ∙ is.owners q;
+      groups = is.groups;
+    }
+
+-- The paths that no group owns are the same.
+pub unowned_as_before : (old new : Owners) (paths : List Bytes) → HaveNumbered old new
+    → unowned_paths (get_by_path old) paths ≡ unowned_paths (get_by_path new) paths
+unowned_as_before old new paths kept =
+    sym (ap (λ (f : Bytes → Option ℕ). unowned_paths f paths) (λ i q. kept.owners q i))
+
 by_the_paths : (before : List GroupedTxn) (t : Txn) → is_barrier t ≡ false
     → group_of_next before t ≡ group_for before (footprint t)
 by_the_paths before t free = ap (λ b. cond b None (group_for before (footprint t))) free
@@ -151,14 +186,16 @@ pub record Gained (old new : Draft) (k : ℕ) (t : Txn) : Type 0 where
 pub gained : (old new : Draft) (k : ℕ) (t : Txn) (paths : List Bytes) → IsDraft old
     → group_for (tagged_in old) (footprint t) ≡ Some k → paths ≡ unowned_paths (get_by_path old.owners) (footprint t)
     → new.numbers.items ≡ old.numbers.items ++ k ∷ [] → txns_in new ≡ txns_in old ++ t ∷ []
+    → AreBeside new.owners
     → ((q : Bytes) → get_by_path new.owners q ≡ cond (has_path paths q) (Some k) (get_by_path old.owners q))
     → new.groups.items ≡ with_member old.groups.items k (length (txns_in old)) paths → Gained old new k t
-gained old new k t paths is for are numbers txns owners groups =
+gained old new k t paths is for are numbers txns beside owners groups =
     record {
       draft = record {
         numbers = let m = ap length numbers in let n = ap length txns in
             let o = length-append old.numbers.items (k ∷ []) in let p = length-append (txns_in old) (t ∷ []) in
             let q = is.numbers in omega arith;
+        beside = beside;
         owners = λ q.
             owners q ∙ ap (cond (has_path paths q) (Some k)) (is.owners q)
             ∙ ap (λ ps. cond (has_path ps q) (Some k) (group_with (tagged_in old) q)) unowned

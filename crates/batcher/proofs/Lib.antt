@@ -1,7 +1,9 @@
 -- Paths and transactions that are taken one after the other.
 mod Steps
--- Keys that are read one after the other.
-mod KeyLists
+-- Paths with their numbers, one after the other.
+mod NewPaths
+-- The owners of paths, by the paths' numbers.
+mod Numbered
 -- The group that is met.
 mod Meeting
 -- The paths of a transaction that no group owns, and a group that gains them.

@@ -1,21 +1,12 @@
 -- Paths and transactions that are taken one after the other.
-use Rattle.std.proofs.Common.{◌≡◌, ℕ, zero, suc, ◌+◌, ◌<◌, ◌≤◌, List, [], ◌∷◌, ◌++◌, Bool, true, false, cond, ◌||◌, ◌&&◌, Option, Some, refl, sym, ap, ◌∙◌, arith, length, drop, take, get_or}
+use Rattle.std.proofs.Common.{◌≡◌, ℕ, zero, suc, ◌+◌, ◌<◌, ◌≤◌, List, [], ◌∷◌, ◌++◌, Bool, true, false, cond, ◌||◌, Option, Some, refl, sym, ap, ◌∙◌, arith, length, drop, take, get_or}
 use Rattle.std.proofs.Math.Seq.{drop-cons, take-suc}
 use Rattle.std.proofs.Math.ListN.{drop_of_length-le}
 use Rattle.std.proofs.Math.Bool.{or_comm}
-use Rattle.std.specs.BTreeMap as tree
-use Rattle.std.specs.BTreeMap.{BTreeMap}
-use Rattle.batcher.specs.Inner.Keys.{tail_of, key_cmp, get_by_path}
-use Rattle.batcher.specs.declared.key.PathKey.{PathKey}
-use Rattle.std.specs.Ordering.{eq_by_cmp, is_eq, nat_cmp, ordering_then}
-use Rattle.std.specs.declared.cmp.Ordering.{Ordering}
-use Rattle.std.specs.declared.cmp.Ordering.TheVariants.{Less, Equal, Greater}
-use Rattle.std.specs.Cmp.{nat_cmp_total, eq_by_cmp_equiv}
-use Rattle.std.specs.Cmp.Lexicographic.{slice_cmp}
+use Rattle.std.specs.Ordering.{eq_by_cmp}
 use Rattle.std.specs.FinSet as set
 use Rattle.std.proofs.lemmas.List.Folds.{list_any-append}
 use Rattle.std.proofs.lemmas.Map.Lookups.{exact_bytes}
-use Rattle.std.proofs.lemmas.Map.Views.{tells_apart}
 use Rattle.ephemerals.specs.Orders.{Bytes, Names, path_cmp}
 use Rattle.ephemerals.proofs.Totals.{path_total}
 use Rattle.data_tree.specs.Footprint.{has_path}
@@ -57,49 +48,6 @@ gained_all paths i past old new gained = set.same_set path_total exact_bytes _ _
     ∙ or_comm (has_path paths q) (set.contains old q)
     ∙ ap (λ b. set.contains old q || b) (sym (set.contains-from_list path_total paths q))
     ∙ sym (set.contains-union path_total old (set.from_list paths) q))
-
-then_eq : (a b : Ordering) → is_eq (ordering_then a b) ≡ (is_eq a && is_eq b)
-then_eq Less b = refl
-then_eq Equal b = refl
-then_eq Greater b = refl
-
--- The owners after a path is given to the group. Two paths have the same key only if they are the same.
-same_key : (p q : Bytes)
-    → is_eq (ordering_then (nat_cmp (tail_of p) (tail_of q)) (slice_cmp nat_cmp p q)) ≡ eq_by_cmp path_cmp q p
-same_key p q = by (eq_by_cmp path_cmp q p) refl
-  where
-    alike : (r : Bytes) → is_eq (ordering_then (nat_cmp (tail_of p) (tail_of r)) (slice_cmp nat_cmp p r))
-        ≡ (is_eq (nat_cmp (tail_of p) (tail_of r)) && is_eq (slice_cmp nat_cmp p r))
-    alike r = then_eq (nat_cmp (tail_of p) (tail_of r)) (slice_cmp nat_cmp p r)
-
-    no_and : (b : Bool) → (b && false) ≡ false
-    no_and true = refl
-    no_and false = refl
-
-    swapped : is_eq (slice_cmp nat_cmp p q) ≡ eq_by_cmp path_cmp q p
-    swapped = (eq_by_cmp_equiv path_total).symm p q
-
-    by : (b : Bool) → eq_by_cmp path_cmp q p ≡ b
-        → is_eq (ordering_then (nat_cmp (tail_of p) (tail_of q)) (slice_cmp nat_cmp p q)) ≡ eq_by_cmp path_cmp q p
-    by true e =
-        alike q
-        ∙ ap (λ r. is_eq (nat_cmp (tail_of p) (tail_of r)) && is_eq (slice_cmp nat_cmp p r)) (tells_apart exact_bytes q p e)
-        ∙ ap (λ b. b && is_eq (slice_cmp nat_cmp p p)) ((eq_by_cmp_equiv nat_cmp_total).refl (tail_of p))
-        ∙ (eq_by_cmp_equiv path_total).refl p
-        ∙ sym e
-    by false e =
-        alike q
-        ∙ ap (λ b. is_eq (nat_cmp (tail_of p) (tail_of q)) && b) (swapped ∙ e)
-        ∙ no_and (is_eq (nat_cmp (tail_of p) (tail_of q)))
-        ∙ sym e
-
-pub owned_now : (m n : BTreeMap PathKey ℕ) (k : ℕ) (key : PathKey) (p : Bytes) → key.tail ≡ tail_of p → key.path.now ≡ p
-    → tree.Updates key_cmp m n key (Some k)
-    → (q : Bytes) → get_by_path n q ≡ cond (eq_by_cmp path_cmp q p) (Some k) (get_by_path m q)
-owned_now m n k key p tail path updates q =
-    updates.0 (record { tail = tail_of q; path = record key.path { now = q } })
-    ∙ ap (λ b. cond b (Some k) (get_by_path m q))
-    ((λ i. is_eq (ordering_then (nat_cmp (tail i) (tail_of q)) (slice_cmp nat_cmp (path i) q))) ∙ same_key p q)
 
 -- The first n of these paths are the group's, and all other owners stay.
 abbrev pub IsOwned : (Bytes → Option ℕ) → (Bytes → Option ℕ) → ℕ → List Bytes → ℕ → Type 0

@@ -2,4 +2,4 @@
 pub mod Joining
 pub mod Taking
 pub mod Drafts
-pub mod Keys
+pub mod Owners

@@ -6,6 +6,7 @@ ghost use Rattle.batcher.specs.Cut.{cut};
 use crate::batch::Batch;
 use crate::front::front_of;
 use crate::limits::Limits;
+use data_tree::HashKey;
 use std::alloc::Global;
 use std::collections::VecDeque;
 use txn_codec::Txn;
@@ -40,12 +41,13 @@ fn moved(alloc: Global, txns: &mut VecDeque<Txn>, count: usize) -> Result<Vec<Tx
 
 /// The batch at the front of the list: the longest prefix that the limits and the groups allow, or a single barrier
 /// that begins the list; the empty batch for the empty list. It owns copies of its transactions. The cost of each
-/// transaction is its number of paths times a logarithm, however many come before it. Fails only if an allocation is
-/// refused.
-pub fn cut(alloc: Global, txns: &[Txn], limits: &Limits) -> Result<Batch, NoMemory>
+/// transaction is its number of paths, however many come before it, unless they collide: the key of the hash by which
+/// paths are found is to be one that nobody knows who chooses them. No result depends on it. Fails only if an
+/// allocation is refused.
+pub fn cut(alloc: Global, key: HashKey, txns: &[Txn], limits: &Limits) -> Result<Batch, NoMemory>
     ensures { IfOk result (λ batch. batch ≡ cut limits.now txns.now) }
 {
-    let front = front_of(alloc, txns, limits)?;
+    let front = front_of(alloc, key, txns, limits)?;
     let copies = copied(alloc, &txns[..front.len()])?;
     Ok(Batch::new(copies, front.into_groups()))
 }
@@ -54,6 +56,7 @@ pub fn cut(alloc: Global, txns: &[Txn], limits: &Limits) -> Result<Batch, NoMemo
 /// queue as it was.
 pub fn cut_front(
     alloc: Global,
+    key: HashKey,
     txns: &mut VecDeque<Txn>,
     limits: &Limits,
 ) -> Result<Batch, NoMemory>
@@ -61,7 +64,7 @@ pub fn cut_front(
     ensures rest { IfOk result (λ batch. txns.new.items ≡ drop (length batch) txns.old.items) }
     ensures refused { OnErr result (txns.new.items ≡ txns.old.items) }
 {
-    let front = front_of(alloc, txns.make_contiguous(), limits)?;
+    let front = front_of(alloc, key, txns.make_contiguous(), limits)?;
     let taken = moved(alloc, txns, front.len())?;
     Ok(Batch::new(taken, front.into_groups()))
 }

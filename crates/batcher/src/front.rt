@@ -8,6 +8,7 @@ use crate::draft::Draft;
 use crate::group::Group;
 use crate::lent::LentBatch;
 use crate::limits::Limits;
+use data_tree::HashKey;
 use std::alloc::Global;
 use std::marker::Model;
 use txn_codec::Txn;
@@ -64,12 +65,17 @@ impl Front {
 
 /// The batch at the front of the list, as `cut` cuts it; no transaction is copied. Fails only if an allocation is
 /// refused.
-pub fn front_of(alloc: Global, txns: &[Txn], limits: &Limits) -> Result<Front, NoMemory>
+pub fn front_of(
+    alloc: Global,
+    key: HashKey,
+    txns: &[Txn],
+    limits: &Limits,
+) -> Result<Front, NoMemory>
     ensures front { IfOk result (λ front. IsFrontOf front txns.now) }
     ensures cut { IfOk result (λ front. take front.count txns.now ≡ cut limits.now txns.now) }
     ensures some { IfOk result (λ front. txns.now ≢ [] → 0 < front.count) }
 {
-    let draft = Draft::of_front(alloc, txns, limits)?;
+    let draft = Draft::of_front(alloc, key, txns, limits)?;
     let count = draft.txns.len();
     // With no other before it only a barrier can't be taken, and it is cut alone.
     if count == 0 {

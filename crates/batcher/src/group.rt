@@ -4,11 +4,13 @@ ghost use Rattle.std.specs.Prelude.{◌≡◌, OnOk};
 ghost use Rattle.std.specs.FinSet as set;
 ghost use Rattle.batcher.specs.Class.{empty_group};
 ghost use Rattle.batcher.specs.Inner.Joining.{with_txn_at};
+ghost use Rattle.batcher.specs.Inner.Owners.{paths_of};
 
+use crate::owners::NewPath;
 use ephemerals::TextSet;
 use std::alloc::Global;
 use std::marker::Model;
-use values::{NoMemory, Str};
+use values::NoMemory;
 
 /// Transactions of a batch that are applied one after the other, as their places in it, and the paths that they may
 /// touch.
@@ -39,15 +41,15 @@ impl Drop for Group {
 fn add_path(alloc: Global, names: &mut TextSet, path: &str) -> Result<(), NoMemory>
     ensures { OnOk result (names.new ≡ set.insert names.old path.now) }
 {
-    names.insert(String::from_str(alloc, path)?)?;
+    names.insert(alloc, path)?;
     Ok(())
 }
 
-fn add_paths(alloc: Global, names: &mut TextSet, paths: &[Str<'_>]) -> Result<(), NoMemory>
-    ensures { OnOk result (names.new ≡ set.union names.old (set.from_list paths.now)) }
+fn add_paths(alloc: Global, names: &mut TextSet, paths: &[NewPath<'_>]) -> Result<(), NoMemory>
+    ensures { OnOk result (names.new ≡ set.union names.old (set.from_list (paths_of paths.now))) }
 {
-    for path in paths {
-        add_path(alloc, names, path.as_str())?;
+    for new in paths {
+        add_path(alloc, names, new.path.as_str())?;
     }
     Ok(())
 }
@@ -82,9 +84,9 @@ impl Group {
         &mut self,
         alloc: Global,
         place: usize,
-        paths: &[Str<'_>],
+        paths: &[NewPath<'_>],
     ) -> Result<(), NoMemory>
-        ensures { OnOk result (self.new ≡ with_txn_at self.old place paths.now) }
+        ensures { OnOk result (self.new ≡ with_txn_at self.old place (paths_of paths.now)) }
     {
         self.members.push(place)?;
         add_paths(alloc, &mut self.paths, paths)

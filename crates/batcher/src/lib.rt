@@ -7,7 +7,7 @@
 //!
 //! ```text
 //! let limits = Limits::new(4, 256, 64)?;
-//! let batch = cut(alloc, txns, &limits)?;
+//! let batch = cut(alloc, key, txns, &limits)?;
 //! let rest = &txns[batch.len()..];
 //! for group in batch.groups() {
 //!     group.members()     // the places in `batch.txns()` of its transactions, ascending
@@ -24,15 +24,16 @@ mod cutting;
 mod draft;
 mod front;
 mod group;
-mod key;
 pub mod law;
 mod lent;
 mod limits;
 mod met;
+mod owners;
 mod threshold;
 
 pub use batch::Batch;
 pub use cutting::{cut, cut_front};
+pub use data_tree::HashKey;
 pub use front::{Front, front_of};
 pub use group::Group;
 pub use lent::LentBatch;

@@ -1,12 +1,11 @@
 //! The groups that a transaction meets.
 
-ghost use Rattle.std.specs.Prelude.{◌≡◌, ◌++◌, ◌∷◌, [], Some, All, IfOk, OnOk};
-ghost use Rattle.batcher.specs.Inner.Keys.{get_by_path, paths_of, HasItsTail};
+ghost use Rattle.std.specs.Prelude.{◌≡◌, ◌++◌, ◌∷◌, [], Some, IfOk, OnOk};
+ghost use Rattle.batcher.specs.Inner.Owners.{get_by_path, paths_of, AreBeside, AreNumbered, HaveNumbered};
 ghost use Rattle.batcher.specs.Inner.Joining.{met_with, all_met, unowned_paths};
 ghost use Rattle.batcher.specs.declared.met.Met.TheVariants.{Nothing};
 
-use crate::key::PathKey;
-use std::collections::BTreeMap;
+use crate::owners::{NewPath, Owners};
 use values::{NoMemory, Str};
 
 /// The groups that have one of a transaction's paths.
@@ -16,13 +15,6 @@ pub enum Met {
     /// One group, by its number.
     Group(usize),
     Several,
-}
-
-fn owner<'p>(owners: &BTreeMap<PathKey<'p>, usize>, key: &PathKey<'p>) -> Option<usize>
-    requires { HasItsTail key.now }
-    ensures { result ≡ get_by_path owners.now key.now.path.now }
-{
-    owners.get(key).copied()
 }
 
 // The groups met so far, and one more.
@@ -41,43 +33,52 @@ fn met_with(met: Met, group: usize) -> Met
     }
 }
 
-// The groups met so far, and the owner of one more path. A path that no group owns is added to `unowned`.
+// The groups met so far, and the owner of one more path, which gets a number. If no group owns it, it is added to
+// `unowned`.
 fn meet<'p>(
     met: Met,
-    owners: &BTreeMap<PathKey<'p>, usize>,
-    key: &PathKey<'p>,
-    unowned: &mut Vec<Str<'p>>,
+    owners: &mut Owners<'p>,
+    path: &'p str,
+    unowned: &mut Vec<NewPath<'p>>,
 ) -> Result<Met, NoMemory>
-    requires { HasItsTail key.now }
-    ensures met { IfOk result (λ more. more ≡ met_with met (get_by_path owners.now key.now.path.now)) }
-    ensures unowned { OnOk result (unowned.new.items
-        ≡ unowned.old.items ++ unowned_paths (get_by_path owners.now) (key.now.path.now ∷ [])) }
+    requires beside { AreBeside owners.old }
+    requires numbered { AreNumbered owners.old.names unowned.old.items }
+    ensures kept { OnOk result (HaveNumbered owners.old owners.new) }
+    ensures met { IfOk result (λ more. more ≡ met_with met (get_by_path owners.old path.now)) }
+    ensures unowned { OnOk result (paths_of unowned.new.items
+        ≡ paths_of unowned.old.items ++ unowned_paths (get_by_path owners.old) (path.now ∷ [])) }
+    ensures numbered { OnOk result (AreNumbered owners.new.names unowned.new.items) }
 {
-    match owner(owners, key) {
+    let number = owners.number(path)?;
+    match owners.group(number) {
         None => {
-            unowned.push(Str::new(key.path()))?;
+            unowned.push(NewPath {
+                path: Str::new(path),
+                number,
+            })?;
             Ok(met)
         }
         Some(group) => Ok(met_with(met, group)),
     }
 }
 
-/// The groups that own one of the paths with these keys, and the paths that none owns.
+/// The groups that own one of the paths, and the paths that none owns. All paths get a number.
 pub(crate) fn met_by<'p>(
-    owners: &BTreeMap<PathKey<'p>, usize>,
-    keys: &[PathKey<'p>],
-    unowned: &mut Vec<Str<'p>>,
+    owners: &mut Owners<'p>,
+    paths: &[Str<'p>],
+    unowned: &mut Vec<NewPath<'p>>,
 ) -> Result<Met, NoMemory>
-    requires { All HasItsTail keys.now }
-    ensures met { IfOk result (λ met.
-        met ≡ all_met (get_by_path owners.now) Nothing (paths_of keys.now)) }
+    requires { AreBeside owners.old }
+    ensures kept { OnOk result (HaveNumbered owners.old owners.new) }
+    ensures met { IfOk result (λ met. met ≡ all_met (get_by_path owners.old) Nothing paths.now) }
     ensures unowned { OnOk result
-        (unowned.new.items ≡ unowned_paths (get_by_path owners.now) (paths_of keys.now)) }
+        (paths_of unowned.new.items ≡ unowned_paths (get_by_path owners.old) paths.now) }
+    ensures numbered { OnOk result (AreNumbered owners.new.names unowned.new.items) }
 {
     unowned.clear();
     let mut met = Met::Nothing;
-    for key in keys {
-        met = meet(met, owners, key, unowned)?;
+    for path in paths {
+        met = meet(met, owners, path.as_str(), unowned)?;
     }
     Ok(met)
 }

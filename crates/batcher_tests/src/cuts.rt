@@ -1,7 +1,7 @@
 //! Batches cut from the front of a list.
 
 use crate::{read_txn, read_txns};
-use batcher::{LentBatch, Limits, cut, cut_front, front_of};
+use batcher::{HashKey, LentBatch, Limits, cut, cut_front, front_of};
 use std::alloc::Global;
 use std::collections::VecDeque;
 use std::test::Fail;
@@ -32,7 +32,7 @@ fn shown(alloc: Global, batch: &LentBatch<'_>) -> Result<String, Fail> {
 fn cut_of(alloc: Global, words: &str, batch: usize, groups: usize) -> Result<String, Fail> {
     let limits = Limits::new(4, batch, groups)?;
     let txns = read_txns(alloc, words)?;
-    let batch = cut(alloc, txns.as_slice(), &limits)?;
+    let batch = cut(alloc, HashKey::default(), txns.as_slice(), &limits)?;
     shown(alloc, &batch.lend())
 }
 
@@ -45,7 +45,8 @@ fn usual(alloc: Global, words: &str) -> Result<String, Fail> {
 // it.
 fn lent(alloc: Global, words: &str) -> Result<String, Fail> {
     let txns = read_txns(alloc, words)?;
-    let front = front_of(alloc, txns.as_slice(), &Limits::new(4, 256, 64)?)?;
+    let limits = Limits::new(4, 256, 64)?;
+    let front = front_of(alloc, HashKey::default(), txns.as_slice(), &limits)?;
     let text = shown(alloc, &front.lend(txns.as_slice()))?;
     let text = text.as_str();
     let rest = txns.len().saturating_sub(front.len());
@@ -62,7 +63,7 @@ fn queue_up(alloc: Global, queue: &mut VecDeque<Txn>, words: &str) -> Result<(),
 
 // The batch moved out of the queue with the default limits, and the number of transactions left there.
 fn moved(alloc: Global, queue: &mut VecDeque<Txn>) -> Result<String, Fail> {
-    let batch = cut_front(alloc, queue, &Limits::new(4, 256, 64)?)?;
+    let batch = cut_front(alloc, HashKey::default(), queue, &Limits::new(4, 256, 64)?)?;
     let text = shown(alloc, &batch.lend())?;
     let text = text.as_str();
     let left = queue.len();
@@ -81,7 +82,8 @@ fn checks(alloc: Global, count: usize) -> Result<Vec<Txn>, Fail> {
 // The most checks that are cut of this many.
 fn most_cut(alloc: Global, count: usize) -> Result<(usize, bool), Fail> {
     let limits = Limits::new(64, 4096, 256)?;
-    let batch = cut(alloc, checks(alloc, count)?.as_slice(), &limits)?;
+    let txns = checks(alloc, count)?;
+    let batch = cut(alloc, HashKey::default(), txns.as_slice(), &limits)?;
     Ok((batch.len(), batch.is_empty()))
 }
 

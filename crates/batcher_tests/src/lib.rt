@@ -5,7 +5,7 @@
 #[cfg(test)]
 mod cuts;
 
-use paths_and_acls::Path;
+use paths_and_acls::{AclField, Path};
 use settings::Dialect;
 use std::alloc::Global;
 use txn_codec::{Body, Check, Create, Operation, Owner, Txn, TxnHeader};
@@ -28,7 +28,7 @@ fn create_of(alloc: Global, path: &str, ephemeral: bool) -> Result<Operation, Re
     Ok(Operation::Create(Create {
         path: Path::new(alloc, path)?,
         bytes: None,
-        acl: None,
+        acl: AclField::null(),
         owner: if ephemeral {
             Owner::Client
         } else {

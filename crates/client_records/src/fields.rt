@@ -1,19 +1,20 @@
 //! Fields of the records: texts and buffers that may be null, and lists.
 
-ghost use Rattle.std.specs.Prelude.{◌≡◌, ℕ, List, length, map, nat_eq, Ok, Some, String, string_bytes};
+ghost use Rattle.std.specs.Prelude.{◌≡◌, ℕ, List, length, nat_eq, Ok, Some};
 ghost use Rattle.std.specs.Cmp.{partial_equiv_from_equiv};
 ghost use Rattle.std.specs.Cmp.Lexicographic.{pointwise, nat_list_eq_equiv};
+ghost use Rattle.ephemerals.specs.Orders.{sorted_names};
 ghost use Rattle.jute.specs.Format.{buffer, text_or_empty, vector_of, vector_at, judged_at, or_empty};
 ghost use Rattle.jute.specs.Reads.{ReadsOwned};
 ghost use Rattle.values.specs.Gains.{Puts};
 ghost use Rattle.client_records.specs.Fields.{names_format};
 
+use ephemerals::TextSet;
 use jute::{
     ReadRecord, Reader, WriteRecord, put_bytes, put_int, put_items, put_string, read_name,
     read_vector,
 };
 use std::alloc::Global;
-use std::collections::btree_set::Iter;
 use std::marker::Model;
 use values::{Bytes, Listed, NoMemory, ReadError, Str};
 
@@ -145,14 +146,14 @@ pub fn put_list<T: WriteRecord>(out: &mut Vec<u8>, items: &[T]) -> Result<(), No
 
 /// Appends the texts of a set in its order, as a vector of ustrings: an int count, and the texts one after the other. A
 /// refused allocation leaves a prefix of the bytes appended.
-pub fn put_names(out: &mut Vec<u8>, texts: Iter<'_, String>) -> Result<(), NoMemory>
-    requires { names_format.Writable (map string_bytes texts) }
+pub fn put_names(out: &mut Vec<u8>, texts: &TextSet) -> Result<(), NoMemory>
+    requires { names_format.Writable (sorted_names texts.now) }
     ensures { Puts result out.old.items
-        (names_format.written (map string_bytes texts.entry)) out.new.items }
+        (names_format.written (sorted_names texts.now)) out.new.items }
 {
     put_int(out, texts.len() as i32)?;
-    for text in texts {
-        put_string(out, text)?;
+    for text in texts.iter() {
+        put_string(out, text.as_str())?;
     }
     Ok(())
 }

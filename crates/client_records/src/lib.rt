@@ -9,7 +9,7 @@
 //! ```text
 //! let request = PathAndWatch::read(alloc, &mut reader)?;    // exists, getData, getChildren, getChildren2
 //! GetDataResponse { bytes, stat }.write(&mut out)?;
-//! put_names(&mut out, names.iter())?;                       // the body of getChildren
+//! put_names(&mut out, &names)?;                              // the body of getChildren
 //! ```
 #![tactic(auto)]
 

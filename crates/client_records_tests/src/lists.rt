@@ -2,18 +2,18 @@
 
 use crate::helpers::expect;
 use client_records::{Name, put_list, put_names, read_list};
+use ephemerals::TextSet;
 use jute::Reader;
 use std::alloc::Global;
-use std::collections::BTreeSet;
 use std::test::Fail;
 use values::{Listed, NoMemory, Text};
 
 /// A set without texts is a count of 0. Texts of children are written by the tests of `read_processor`.
 #[test]
 fn names_of_an_empty_set(rt: HostRuntime) -> Result<(), Fail> {
-    let names: BTreeSet<String> = BTreeSet::new(rt.alloc());
+    let names = TextSet::new(rt.alloc());
     let mut out = Vec::new(rt.alloc());
-    put_names(&mut out, names.iter())?;
+    put_names(&mut out, &names)?;
     expect(&rt, &out.as_slice(), &b"\x00\x00\x00\x00".as_slice());
     Ok(())
 }

@@ -5,13 +5,13 @@ ghost use Rattle.data_tree.specs.Cells.{cells_at, without_cells, with_cells, eff
 ghost use Rattle.data_tree.specs.Meaning.{answer_of};
 ghost use Rattle.data_tree.specs.Refused.{IsLeftByRefused};
 
-use crate::outcome::{Outcome, TxnResults};
+use crate::outcome::{Outcome, Triggers};
 use crate::tree::Tree;
 use ephemerals::TextSet;
 use std::alloc::Global;
 use std::marker::Model;
 use txn_codec::{Body, Txn};
-use values::{Listed, NoMemory};
+use values::NoMemory;
 
 /// The cells at some paths, taken out of a tree by `Tree::take_cells`: the nodes there, and the sessions that list
 /// these paths. Its model is a state without sessions.
@@ -34,19 +34,6 @@ impl Model for Cells {
       pairs = c.tree.pairs;
       sessions = finmap.empty;
     } };
-}
-
-// The outcome of a createSession.
-fn no_outcome(alloc: Global) -> Outcome
-    ensures { result ≡ record { results = record { err = pos 0; parts = [] }; triggers = [] } }
-{
-    Outcome {
-        results: TxnResults {
-            err: 0,
-            parts: Listed::from_vec(Vec::new(alloc)),
-        },
-        triggers: Listed::from_vec(Vec::new(alloc)),
-    }
 }
 
 impl Tree {
@@ -84,7 +71,8 @@ impl Cells {
         ensures err { OnErr result (IsLeftByRefused txn.now.header txn.now.body self.old self.new) }
     {
         if let Body::CreateSession(_) = &txn.body {
-            return Ok(no_outcome(alloc));
+            let none = Triggers::from_vec(Vec::new(alloc));
+            return Ok(Outcome::without_parts(alloc, 0, none));
         }
         self.tree.apply(alloc, txn)
     }

@@ -29,6 +29,6 @@ mod tree;
 
 pub use cells::Cells;
 pub use node_map::{HashKey, Node};
-pub use outcome::{Outcome, PartResult, Trigger, TxnResults};
+pub use outcome::{Outcome, PartResult, Trigger, Triggers, TxnResults};
 pub use sessions::Timeouts;
 pub use tree::Tree;

@@ -3,7 +3,7 @@
 ghost use Rattle.std.specs.Prelude.{◌≡◌, IfOk};
 ghost use Rattle.data_tree.specs.Meaning.{first_error, results_of_failed, failed_outcome};
 
-use crate::outcome::{Outcome, PartResult, TxnResults};
+use crate::outcome::{Outcome, PartResult, Triggers, TxnResults};
 use jute::codes::RUNTIME_INCONSISTENCY;
 use std::alloc::Global;
 use txn_codec::Operation;
@@ -44,6 +44,6 @@ pub(crate) fn failed_outcome(alloc: Global, parts: &[Operation]) -> Result<Outco
             err: first_error(results.as_slice()),
             parts: Listed::from_vec(results),
         },
-        triggers: Listed::from_vec(Vec::new(alloc)),
+        triggers: Triggers::from_vec(Vec::new(alloc)),
     })
 }

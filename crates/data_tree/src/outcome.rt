@@ -1,9 +1,10 @@
 //! The outcome of a transaction.
 
-ghost use Rattle.std.specs.Prelude.{◌≡◌, ◌∷◌, ◌++◌, [], OnOk};
+ghost use Rattle.std.specs.Prelude.{◌≡◌, ◌∷◌, ◌++◌, [], length, OnOk};
 
 use jute::Stat;
 use std::alloc::Global;
+use std::marker::Model;
 use values::{Listed, NoMemory, Text};
 
 /// A change that watches fire on, with its path (ZooKeeper Programmer's Guide, "Watches").
@@ -17,6 +18,64 @@ pub enum Trigger {
     DataChanged(Text),
     /// A node gained or lost a child.
     ChildrenChanged(Text),
+}
+
+// Where the triggers of a transaction are: the one of most, or a block of memory.
+#[derive(Debug, Drop)]
+enum StoredTriggers {
+    One([Trigger; 1]),
+    Listed(Vec<Trigger>),
+}
+
+/// The triggers of a transaction, in order; its model is the list of them. One alone takes no block of memory.
+#[derive(Debug, Drop)]
+pub struct Triggers {
+    stored: StoredTriggers,
+}
+
+impl Model for Triggers {
+    ghost use Rattle.std.specs.Prelude.{List};
+    ghost use Rattle.data_tree.specs.declared.outcome.Trigger.{Trigger};
+    ghost use Rattle.data_tree.specs.Inner.Storing.{stored_triggers};
+
+    ghost Value = { List Trigger };
+
+    ghost view = { λ t. stored_triggers t.stored };
+}
+
+impl Triggers {
+    /// One trigger.
+    pub(crate) fn one(trigger: Trigger) -> Triggers
+        ensures { result ≡ trigger ∷ [] }
+    {
+        Triggers {
+            stored: StoredTriggers::One([trigger]),
+        }
+    }
+
+    /// The vector's triggers.
+    pub fn from_vec(triggers: Vec<Trigger>) -> Triggers
+        ensures { result ≡ triggers.items }
+    {
+        Triggers {
+            stored: StoredTriggers::Listed(triggers),
+        }
+    }
+
+    pub fn as_slice(&self) -> &[Trigger]
+        ensures { result.now ≡ self.now }
+    {
+        match &self.stored {
+            StoredTriggers::One(trigger) => trigger.as_slice(),
+            StoredTriggers::Listed(triggers) => triggers.as_slice(),
+        }
+    }
+
+    pub fn len(&self) -> usize
+        ensures { result ≡ length self.now }
+    {
+        self.as_slice().len()
+    }
 }
 
 /// What comes of a part of a multi.
@@ -42,7 +101,22 @@ pub struct TxnResults {
 pub struct Outcome {
     pub results: TxnResults,
     /// The triggers for watchers, in order.
-    pub triggers: Listed<Trigger>,
+    pub triggers: Triggers,
+}
+
+impl Outcome {
+    /// The outcome of a transaction that isn't a multi.
+    pub(crate) fn without_parts(alloc: Global, err: i32, triggers: Triggers) -> Outcome
+        ensures { result ≡ record { results = record { err = err; parts = [] }; triggers = triggers } }
+    {
+        Outcome {
+            results: TxnResults {
+                err,
+                parts: Listed::from_vec(Vec::new(alloc)),
+            },
+            triggers,
+        }
+    }
 }
 
 /// Adds the triggers of a create or a delete: at the path, and at its parent.

@@ -26,7 +26,7 @@ ghost use Rattle.ephemerals.specs.Orders.{Bytes, path_cmp, sorted_names};
 
 use crate::multi::{failed_outcome, first_error};
 use crate::outcome::{
-    Outcome, PartResult, Trigger, TxnResults, fire_data_changed, fire_with_parent,
+    Outcome, PartResult, Trigger, Triggers, TxnResults, fire_data_changed, fire_with_parent,
 };
 use crate::sessions::Timeouts;
 use ephemerals::{Ephemerals, TextSet};
@@ -78,7 +78,7 @@ fn with_names(alloc: Global, names: TextSet, paths: &[Path]) -> Result<TextSet, 
 {
     let mut all = names;
     for path in paths {
-        all.insert(String::from_str(alloc, path.as_str())?)?;
+        all.insert(alloc, path.as_str())?;
     }
     Ok(all)
 }
@@ -156,8 +156,7 @@ impl Tree {
         if path.as_str() == "/" {
             return self.put_root(alloc, node);
         }
-        let name = String::from_str(alloc, path.name())?;
-        match self.nodes.add_name(path.parent(), name)? {
+        match self.nodes.add_name(alloc, path.parent(), path.name())? {
             AddedChild::NoParent => Ok(false),
             AddedChild::Taken => self.place_new_node(alloc, path.as_str(), node),
             AddedChild::Added(_) => match self.place_new_node(alloc, path.as_str(), node) {
@@ -240,8 +239,10 @@ impl Tree {
         let created = Trigger::Created(Text::new(alloc, create.path.as_str())?);
         fire_with_parent(triggers, alloc, created, parent)?;
         let node = Node::created(alloc, header, create)?;
-        let name = String::from_str(alloc, create.path.name())?;
-        match self.nodes.add_child(parent, name, header, create)? {
+        match self
+            .nodes
+            .add_child(alloc, parent, create.path.name(), header, create)?
+        {
             AddedChild::NoParent => {
                 triggers.truncate(before);
                 Ok(NO_NODE)
@@ -405,7 +406,7 @@ impl Tree {
                 err: first_error(results.as_slice()),
                 parts: Listed::from_vec(results),
             },
-            triggers: Listed::from_vec(triggers),
+            triggers: Triggers::from_vec(triggers),
         })
     }
 
@@ -448,6 +449,26 @@ impl Tree {
         self.delete_all(alloc, header, paths, triggers)
     }
 
+    // Applies a setData that isn't a part of a multi. A refused allocation leaves the tree as it was.
+    fn apply_set_data(
+        &mut self,
+        alloc: Global,
+        header: &TxnHeader,
+        body: &SetData,
+    ) -> Result<Outcome, NoMemory>
+        ensures state { OnOk result
+            (self.new ≡ (of_operation header.now (Operation.SetData body.now) self.old).state) }
+        ensures answer { IfOk result (λ o.
+            o ≡ answer_of (of_operation header.now (Operation.SetData body.now) self.old)) }
+        ensures err { OnErr result (self.new ≡ self.old) }
+    {
+        let changed = Trigger::DataChanged(Text::new(alloc, body.path.as_str())?);
+        if !self.nodes.set_data(body.path.as_str(), header, body)? {
+            return Ok(Outcome::without_parts(alloc, NO_NODE, Triggers::from_vec(Vec::new(alloc))));
+        }
+        Ok(Outcome::without_parts(alloc, 0, Triggers::one(changed)))
+    }
+
     /// Applies a transaction and returns its outcome.
     ///
     /// A refused allocation leaves a prefix of a multi's parts applied; after a closeSession it leaves the tree
@@ -459,6 +480,9 @@ impl Tree {
     {
         let mut triggers = Vec::new(alloc);
         let err = match &txn.body {
+            Body::Single(Operation::SetData(body)) => {
+                return self.apply_set_data(alloc, &txn.header, body);
+            }
             Body::Single(operation) => self.operate(alloc, &txn.header, operation, &mut triggers)?,
             Body::SetAcl(body) => self.set_acl(body)?,
             Body::Multi(parts) => return self.apply_multi(alloc, &txn.header, parts.as_slice()),
@@ -471,13 +495,7 @@ impl Tree {
                 0
             }
         };
-        Ok(Outcome {
-            results: TxnResults {
-                err,
-                parts: Listed::from_vec(Vec::new(alloc)),
-            },
-            triggers: Listed::from_vec(triggers),
-        })
+        Ok(Outcome::without_parts(alloc, err, Triggers::from_vec(triggers)))
     }
 
     fn apply_multi(

@@ -2,7 +2,7 @@
 
 use jute::codes::{ALL, open_list};
 use jute::{Acl, Id};
-use paths_and_acls::AclList;
+use paths_and_acls::{AclField, AclList};
 use std::alloc::{AllocError, Global};
 use std::test::Fail;
 use values::{Blob, Listed};
@@ -18,8 +18,8 @@ fn entry_of(alloc: Global, perms: i32) -> Result<Acl, Fail> {
 }
 
 // Whether a list is the open one, and so is its copy.
-fn is_open(acl: &Option<Listed<Acl>>) -> Result<bool, Fail> {
-    let list = AclList::of(acl)?;
+fn is_open(acl: &AclField) -> Result<bool, Fail> {
+    let list = acl.to_list()?;
     Ok(list.listed().is_none() && list.clone()?.listed().is_none())
 }
 
@@ -29,7 +29,7 @@ fn keeps(alloc: Global, perms: i32) -> Result<bool, Fail> {
     entries
         .push(entry_of(alloc, perms)?)
         .map_err(AllocError::from)?;
-    let list = AclList::of(&Some(Listed::from_vec(entries)))?;
+    let list = AclList::from_entries(Listed::from_vec(entries));
     let wanted = [entry_of(alloc, perms)?];
     let copy = list.clone()?;
     Ok(list.listed() == Some(wanted.as_slice()) && copy.listed() == Some(wanted.as_slice()))
@@ -38,8 +38,8 @@ fn keeps(alloc: Global, perms: i32) -> Result<bool, Fail> {
 #[test]
 fn the_open_list_has_no_entries_of_its_own(rt: HostRuntime) -> Result<(), Fail> {
     assert!(rt; AclList::open().listed().is_none());
-    assert!(rt; is_open(&None)?);
-    assert!(rt; is_open(&Some(open_list(rt.alloc())?))?);
+    assert!(rt; is_open(&AclField::null())?);
+    assert!(rt; is_open(&AclField::from_entries(open_list(rt.alloc())?))?);
     Ok(())
 }
 

@@ -28,7 +28,7 @@ fn stat_of(owner: i64) -> StatPersisted {
 fn node_of(alloc: Global, owner: i64) -> Result<Node, Fail> {
     Ok(Node {
         bytes: None,
-        acl: AclList::of(&Some(Listed::from_vec(Vec::new(alloc))))?,
+        acl: AclList::from_entries(Listed::from_vec(Vec::new(alloc))),
         stat: stat_of(owner),
         mark: 0,
         children: TextSet::new(alloc),
@@ -45,7 +45,7 @@ fn put(alloc: Global, tree: &mut Tree, text: &str, owner: i64) -> Result<bool, F
 fn root_of(alloc: Global, names: &[&str]) -> Result<Node, Fail> {
     let mut root = node_of(alloc, 0)?;
     for name in names {
-        root.children.insert(String::from_str(alloc, name)?)?;
+        root.children.insert(alloc, name)?;
     }
     Ok(root)
 }
@@ -100,7 +100,7 @@ fn make_whole(alloc: Global, tree: &mut Tree) -> Result<String, Fail> {
 fn names(alloc: Global, tree: &Tree) -> Result<String, Fail> {
     let mut text = String::new(alloc);
     for name in tree.children("/").ok_or("no root")?.iter() {
-        text.push_str(name)?;
+        text.push_str(name.as_str())?;
     }
     Ok(text)
 }
@@ -148,7 +148,7 @@ fn paths(alloc: Global, tree: &Tree) -> Result<String, Fail> {
     let mut paths = TextSet::new(alloc);
     for (path, _) in tree.nodes() {
         count = count.wrapping_add(1);
-        paths.insert(String::from_str(alloc, path.as_str())?)?;
+        paths.insert(alloc, path.as_str())?;
     }
     listed(alloc, count, &paths)
 }
@@ -157,7 +157,7 @@ fn listed(alloc: Global, count: u32, paths: &TextSet) -> Result<String, Fail> {
     let mut text = format!(in alloc; "{count}:")?;
     for path in paths.iter() {
         text.push_str(" ")?;
-        text.push_str(path)?;
+        text.push_str(path.as_str())?;
     }
     Ok(text)
 }

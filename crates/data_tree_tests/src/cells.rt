@@ -4,6 +4,7 @@ use crate::path_of;
 use crate::transactions::fresh;
 use data_tree::{Cells, Tree};
 use ephemerals::TextSet;
+use paths_and_acls::AclField;
 use settings::Dialect;
 use std::alloc::Global;
 use std::test::Fail;
@@ -27,7 +28,7 @@ fn create(alloc: Global, session: i64, path: &str) -> Result<Txn, Fail> {
     let create = Create {
         path: path_of(alloc, path).ok_or("a path")?,
         bytes: Some(Blob::new(alloc, b"a")?),
-        acl: None,
+        acl: AclField::null(),
         owner: Owner::Client,
         asks_stat: false,
         parent_cversion: -1,
@@ -50,7 +51,7 @@ fn set_data(alloc: Global, path: &str) -> Result<Txn, Fail> {
 fn texts(alloc: Global, texts: &[&str]) -> Result<TextSet, Fail> {
     let mut set = TextSet::new(alloc);
     for text in texts {
-        set.insert(String::from_str(alloc, text)?)?;
+        set.insert(alloc, text)?;
     }
     Ok(set)
 }

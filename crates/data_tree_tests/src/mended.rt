@@ -5,7 +5,7 @@ use crate::transactions::text_of;
 use data_tree::{Node, Tree};
 use ephemerals::TextSet;
 use jute::StatPersisted;
-use paths_and_acls::AclList;
+use paths_and_acls::{AclField, AclList};
 use settings::Dialect;
 use std::alloc::Global;
 use std::test::Fail;
@@ -27,7 +27,7 @@ fn node_of(alloc: Global, owner: i64) -> Result<Node, Fail> {
     };
     Ok(Node {
         bytes: None,
-        acl: AclList::of(&Some(Listed::from_vec(Vec::new(alloc))))?,
+        acl: AclList::from_entries(Listed::from_vec(Vec::new(alloc))),
         stat,
         mark: 0,
         children: TextSet::new(alloc),
@@ -63,7 +63,7 @@ fn create_of(alloc: Global, path: &str, parent_cversion: i32) -> Result<Body, Fa
     Ok(Body::Single(Operation::Create(Create {
         path: path_of(alloc, path).ok_or("a path")?,
         bytes: None,
-        acl: None,
+        acl: AclField::null(),
         owner: Owner::Nobody,
         asks_stat: false,
         parent_cversion,

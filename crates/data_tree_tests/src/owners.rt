@@ -12,7 +12,7 @@ fn paths(alloc: Global, owners: &Ephemerals, session: i64) -> Result<String, Fai
     }
     let paths = owners.of(alloc, session)?;
     for path in paths.iter() {
-        text.push_str(path)?;
+        text.push_str(path.as_str())?;
     }
     Ok(text)
 }
@@ -57,7 +57,7 @@ fn moved(alloc: Global, owners: &Ephemerals) -> Result<String, Fail> {
 fn taken(alloc: Global, owners: &mut Ephemerals) -> Result<String, Fail> {
     owners.add(alloc, 7, "/a")?;
     let mut paths = TextSet::new(alloc);
-    paths.insert(String::from_str(alloc, "/a")?)?;
+    paths.insert(alloc, "/a")?;
     let found = owners.at(alloc, &paths)?;
     owners.drop_at(&paths);
     let left = text_of(alloc, owners)?;

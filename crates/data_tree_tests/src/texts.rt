@@ -8,7 +8,7 @@ use std::test::Fail;
 fn insert_all(alloc: Global, set: &mut TextSet, texts: &[&str]) -> Result<String, Fail> {
     let mut signs = String::new(alloc);
     for text in texts {
-        let is_new = set.insert(String::from_str(alloc, text)?)?;
+        let is_new = set.insert(alloc, text)?;
         signs.push_str(if is_new { "+" } else { "-" })?;
     }
     Ok(signs)
@@ -18,7 +18,7 @@ fn insert_all(alloc: Global, set: &mut TextSet, texts: &[&str]) -> Result<String
 fn looped(alloc: Global, set: &TextSet) -> Result<String, Fail> {
     let mut out = String::new(alloc);
     for text in set.iter() {
-        out.push_str(text)?;
+        out.push_str(text.as_str())?;
     }
     Ok(out)
 }

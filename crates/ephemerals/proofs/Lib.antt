@@ -18,3 +18,7 @@ pub mod Steps
 mod Numbers
 -- The owners, as they are stored: with a number for each session.
 mod OwnersView
+-- Places in ascending texts.
+mod Places
+-- Texts in runs.
+mod JoinedRuns

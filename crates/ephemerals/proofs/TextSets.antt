@@ -1,55 +1,71 @@
--- The first of a list of texts in order, and the texts of a list that was cloned.
-use Rattle.std.proofs.Common.{◌≡◌, List, [], ◌∷◌, false, true, Option, Some, None, refl, sym, ap, ◌∙◌, map, length, string_bytes, arith, ◌<◌, ◌↔◌, IfSome, IfNone, IsSome}
-use Rattle.std.specs.declared.cmp.Ordering.TheVariants.{Less}
+-- A set of texts after one text came or went.
+use Rattle.std.proofs.Common.{◌≡◌, ℕ, ◌+◌, List, [], ◌∷◌, Bool, true, false, not, ◌&&◌, length, refl, sym, ap, subst, ◌∙◌, arith}
+use Rattle.std.specs.List.{IsDistinct, insert, remove}
 use Rattle.std.specs.List.Sorted.{IsStrictlySortedBy}
-use mathlib.Core.Bool.{true≢false}
-use Rattle.std.specs.List.{All, AllByRecursion, AllZip, IsDistinct}
+use Rattle.std.specs.Ordering.{eq_by_cmp}
 use Rattle.std.specs.Str.{bytes_eq}
-use Rattle.std.specs.String.{string_cmp}
-use Rattle.std.specs.declared.string.String.{String}
-use Rattle.std.proofs.lemmas.List.Elements.{recursion_from_All}
-use Rattle.ephemerals.specs.Orders.{sorted_names}
-use Rattle.ephemerals.specs.Inner.NamesView.{names_of}
-use Rattle.values.proofs.Keyed.{text_set_of-in_order}
+use Rattle.std.specs.FinSet as set
+use Rattle.std.proofs.lemmas.List.Edits.{length-insert, length-remove}
+use Rattle.std.proofs.lemmas.Map.Lookups.{exact_bytes}
+use Rattle.std.proofs.lemmas.Map.Views.{tells_apart}
+use Rattle.values.proofs.Keyed.{set_of-in_order}
+use Rattle.ephemerals.specs.Orders.{Bytes, Names, path_cmp, sorted_names}
+use Rattle.ephemerals.specs.Inner.Runs.{joined, names_in, AreFilled, AreRuns, IsAt, IsGapFor}
+use Rattle.ephemerals.proofs.Totals.{path_total}
+use Rattle.ephemerals.proofs.Places.{ascending_insert, names-insert, left_out}
 
-sorted_push : {Z : Type 0} (k : String Z) (new : List (String Z)) → AllByRecursion (λ x. string_cmp k x ≡ Less) new
-    → IsStrictlySortedBy string_cmp new → IsStrictlySortedBy string_cmp (k ∷ new)
-unfolding IsStrictlySortedBy
-sorted_push k new h s = (h, s)
+pub in_order : (texts : List Bytes) → IsStrictlySortedBy path_cmp texts → sorted_names (set.from_list texts) ≡ texts
+in_order texts s = set_of-in_order path_total exact_bytes texts s
 
-sorted_nothing : (Z : Type 0) → IsStrictlySortedBy {K = String Z} string_cmp []
-unfolding IsStrictlySortedBy
-sorted_nothing Z = tt
+pub none_left : (runs : List (List Bytes)) → length runs ≡ 0 → joined runs ≡ []
+none_left [] e = refl
+none_left (run ∷ runs) e = absurd (omega arith)
 
--- The first text is removed from a sorted list.
-pub popped_first : {Z : Type 0} (r : Option (String Z)) (old new : List (String Z)) → IfSome r (λ k. old ≡ k ∷ new)
-    → IfSome r (λ k. All (λ x. string_cmp k x ≡ Less) new) → IsStrictlySortedBy string_cmp new
-    → IfSome r (λ k. sorted_names (names_of old) ≡ string_bytes k ∷ sorted_names (names_of new))
-popped_first None old new is above sorted = tt
-popped_first (Some k) old new is above sorted =
-    ap (λ ks. sorted_names (names_of ks)) is
-    ∙ text_set_of-in_order (k ∷ new) (sorted_push k new (recursion_from_All (λ x. string_cmp k x ≡ Less) new above) sorted)
-    ∙ ap (λ r. string_bytes k ∷ r) (sym (text_set_of-in_order new sorted))
-
-pub popped_none : {Z : Type 0} (r : Option (String Z)) (old : List (String Z)) → IsSome r ↔ (0 < length old)
-    → IfNone r (sorted_names (names_of old) ≡ [])
-popped_none {Z = Z} None old variant =
-    ap (λ ks. sorted_names (names_of ks)) (none old variant.1)
-    ∙ text_set_of-in_order {Z = Z} [] (sorted_nothing Z)
+pub remove-absent : (names : Names) (text : Bytes) → set.contains names text ≡ false → set.remove names text ≡ names
+remove-absent names text none = set.same_set path_total exact_bytes _ _ (λ q.
+    set.contains-remove path_total names text q ∙ by q (eq_by_cmp path_cmp q text) refl)
   where
-    none : {A : Type 0} (xs : List A) → (0 < length xs → false ≡ true) → xs ≡ []
-    none [] v = refl
-    none (x ∷ xs) v = absurd (true≢false (sym (v (omega arith))))
-popped_none (Some k) old variant = tt
+    by : (q : Bytes) (t : Bool) → eq_by_cmp path_cmp q text ≡ t → (not t && set.contains names q) ≡ set.contains names q
+    by q true e = sym (ap (set.contains names) (tells_apart exact_bytes q text e) ∙ none)
+    by q false e = refl
 
--- Texts that were cloned have the same bytes.
-pub same_bytes : {Y Z : Type 0} (xs : List (String Y)) (ys : List (String Z))
-    → AllZip (λ (x : String Y) (y : String Z). string_bytes y ≡ string_bytes x) xs ys
-    → map string_bytes ys ≡ map string_bytes xs
-same_bytes [] [] h = refl
-same_bytes [] (y ∷ ys) h = absurd h
-same_bytes (x ∷ xs) [] h = absurd h
-same_bytes (x ∷ xs) (y ∷ ys) h = λ i. h.0 i ∷ same_bytes xs ys h.1 i
+-- The runs, with the text.
+pub record IsWith (text : Bytes) (runs new : List (List Bytes)) : Type 0 where
+  pub are : AreRuns new
+  pub names : names_in new ≡ set.insert (names_in runs) text
+  pub len : length (joined new) ≡ length (joined runs) + 1
+
+pub with_text : (text : Bytes) (runs new : List (List Bytes)) (place : ℕ) → AreRuns runs
+    → IsGapFor text (joined runs) place → AreFilled new → joined new ≡ insert (joined runs) place text
+    → IsWith text runs new
+with_text text runs new place are gap filled is = record {
+  are = record {
+    filled = filled;
+    ascending = subst (IsStrictlySortedBy path_cmp) (sym is)
+        (ascending_insert (joined runs) place text are.ascending gap.below gap.above);
+  };
+  names = ap (λ ts. set.from_list {R = path_cmp} ts) is ∙ names-insert (joined runs) place text;
+  len = ap length is ∙ length-insert (joined runs) place text gap.in_range;
+}
+
+-- The runs, without the text.
+pub record IsWithout (text : Bytes) (runs new : List (List Bytes)) : Type 0 where
+  pub are : AreRuns new
+  pub names : names_in new ≡ set.remove (names_in runs) text
+  pub was : set.contains (names_in runs) text ≡ true
+  pub len : length (joined new) + 1 ≡ length (joined runs)
+
+pub without_text : (text : Bytes) (runs new : List (List Bytes)) (place : ℕ) → AreRuns runs
+    → IsAt text (joined runs) place → AreFilled new → joined new ≡ remove (joined runs) place
+    → IsWithout text runs new
+without_text text runs new place are at filled is =
+    let left = left_out (joined runs) place text are.ascending at in
+    record {
+      are = record { filled = filled; ascending = subst (IsStrictlySortedBy path_cmp) (sym is) left.ascending };
+      names = ap (λ ts. set.from_list {R = path_cmp} ts) is ∙ left.names;
+      was = left.was;
+      len = ap (λ ts. length ts + 1) is ∙ length-remove (joined runs) place at.in_range;
+    }
 
 pub distinct-none : IsDistinct bytes_eq []
 unfolding IsDistinct

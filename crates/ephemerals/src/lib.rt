@@ -16,7 +16,11 @@
 
 mod number_of_session;
 mod owners;
+mod run;
+mod runs;
 mod text_set;
+mod texts;
 
 pub use owners::Ephemerals;
 pub use text_set::TextSet;
+pub use texts::Texts;

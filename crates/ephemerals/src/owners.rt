@@ -133,7 +133,7 @@ impl Ephemerals {
         let unordered = self.paths_of(session);
         let mut paths = TextSet::new(alloc);
         for path in unordered {
-            paths.insert(String::from_str(alloc, path.as_str())?)?;
+            paths.insert(alloc, path.as_str())?;
         }
         Ok(paths)
     }

@@ -1,27 +1,30 @@
 //! Ordered sets of texts.
 
-ghost use Rattle.std.specs.Prelude.{◌≡◌, ◌∷◌, [], ◌↔◌, OnOk, OnErr, IfOk, IfSome, IfNone, IsTrue, not, map, String, string_bytes, false};
+ghost use Rattle.std.specs.Prelude.{◌≡◌, ◌∷◌, [], ◌↔◌, OnOk, OnErr, IfOk, IfSome, IfNone, IsTrue, not, false};
 ghost use Rattle.std.specs.List.{list_any};
 ghost use Rattle.std.specs.Ordering.{eq_by_cmp};
-ghost use Rattle.std.specs.Map.Iter.{ShowsInOrder, deref};
 ghost use Rattle.std.specs.FinSet as set;
 ghost use Rattle.ephemerals.specs.Orders.{Bytes, path_cmp, sorted_names};
 
+use crate::run::Run;
+use crate::runs::{Place, find, put, take};
+use crate::texts::Texts;
 use std::alloc::{AllocError, Global};
-use std::collections::BTreeSet;
-use std::collections::btree_set::Iter;
 use std::marker::Model;
-use values::NoMemory;
+use values::{NoMemory, Text};
 
 /// A set of texts, ordered by their bytes.
 #[derive(Drop)]
 pub struct TextSet {
-    texts: BTreeSet<String>,
+    // No run is empty, and the texts ascend, also from one run to the next.
+    runs: Vec<Run>,
+    len: usize,
 }
 
 impl Model for TextSet {
+    ghost use Rattle.std.specs.Prelude.{◌≡◌, length};
     ghost use Rattle.ephemerals.specs.Orders.{Names};
-    ghost use Rattle.ephemerals.specs.Inner.NamesView.{names_of};
+    ghost use Rattle.ephemerals.specs.Inner.Runs.{joined, names_in, AreRuns};
     ghost use Rattle.std.specs.FinSet as set;
     ghost use Rattle.std.specs.Coded.{coded_ℕ, coded_list};
 
@@ -29,7 +32,9 @@ impl Model for TextSet {
 
     ghost coded = { set.code (coded_list coded_ℕ) };
 
-    ghost view = { λ s. names_of s.texts.keys };
+    ghost view = { λ s. names_in s.runs.items };
+
+    ghost invariant = { λ s. AreRuns s.runs.items × (s.len ≡ length (joined s.runs.items)) };
 }
 
 impl TextSet {
@@ -38,7 +43,8 @@ impl TextSet {
         ensures { result ≡ set.empty }
     {
         TextSet {
-            texts: BTreeSet::new(alloc),
+            runs: Vec::new(alloc),
+            len: 0,
         }
     }
 
@@ -46,7 +52,7 @@ impl TextSet {
     pub fn len(&self) -> usize
         ensures { result ≡ set.len self.now }
     {
-        self.texts.len()
+        self.len
     }
 
     /// Whether there is no text.
@@ -60,18 +66,28 @@ impl TextSet {
     pub fn contains(&self, text: &str) -> bool
         ensures { result ≡ set.contains self.now text.now }
     {
-        self.texts.contains(text)
+        find(&self.runs, text).is_ok()
     }
 
     /// Adds a text and returns whether it is new. Only a new text allocates; a refused allocation changes nothing.
-    pub fn insert(&mut self, text: String) -> Result<bool, NoMemory>
-        ensures ok { OnOk result (self.new ≡ set.insert self.old (string_bytes text)) }
+    pub fn insert(&mut self, alloc: Global, text: &str) -> Result<bool, NoMemory>
+        ensures ok { OnOk result (self.new ≡ set.insert self.old text.now) }
         ensures added { IfOk result
-            (λ added. added ≡ not (set.contains self.old (string_bytes text))) }
+            (λ added. added ≡ not (set.contains self.old text.now)) }
         ensures err { OnErr result (self.new ≡ self.old) }
-        ensures absent { OnErr result (set.contains self.old (string_bytes text) ≡ false) }
+        ensures absent { OnErr result (set.contains self.old text.now ≡ false) }
     {
-        Ok(self.texts.insert(text)?)
+        match find(&self.runs, text) {
+            Ok(_) => Ok(false),
+            Err(place) => {
+                if self.len == usize::MAX {
+                    return Err(NoMemory);
+                }
+                put(&mut self.runs, alloc, place, text)?;
+                self.len += 1;
+                Ok(true)
+            }
+        }
     }
 
     /// Removes a text and returns whether it was there.
@@ -79,27 +95,36 @@ impl TextSet {
         ensures removed { self.new ≡ set.remove self.old text.now }
         ensures was { result ≡ set.contains self.old text.now }
     {
-        self.texts.remove(text)
+        match find(&self.runs, text) {
+            Ok(place) => {
+                take(&mut self.runs, place);
+                self.len -= 1;
+                true
+            }
+            Err(_) => false,
+        }
     }
 
     /// The texts in ascending order of their bytes.
-    pub fn iter(&self) -> Iter<'_, String>
-        ensures texts { map string_bytes result ≡ sorted_names self.now }
-        ensures members { let texts = map string_bytes result in
-            (q : Bytes) → set.contains self.now q ≡ list_any (eq_by_cmp path_cmp q) texts }
-        ensures runs { ShowsInOrder (deref {X = String Global}) }
+    pub fn iter(&self) -> Texts<'_>
+        ensures texts { result ≡ sorted_names self.now }
+        ensures members { (q : Bytes) → set.contains self.now q ≡ list_any (eq_by_cmp path_cmp q) result }
     {
-        self.texts.iter()
+        Texts::of(&self.runs)
     }
 
     /// Removes the first text in the order of bytes and returns it.
-    pub fn pop_first(&mut self) -> Option<String>
-        ensures first { IfSome result
-            (λ text. sorted_names self.old ≡ string_bytes text ∷ sorted_names self.new) }
+    pub fn pop_first(&mut self) -> Option<Text>
+        ensures first { IfSome result (λ text. sorted_names self.old ≡ text ∷ sorted_names self.new) }
         ensures none { IfNone result (sorted_names self.old ≡ []) }
         ensures kept { IfNone result (self.new ≡ self.old) }
     {
-        self.texts.pop_first()
+        if self.runs.is_empty() {
+            return None;
+        }
+        let text = take(&mut self.runs, Place { run: 0, text: 0 });
+        self.len -= 1;
+        Some(text)
     }
 }
 
@@ -108,7 +133,8 @@ impl Clone for TextSet {
 
     fn clone(&self) -> Result<TextSet, AllocError> {
         Ok(TextSet {
-            texts: self.texts.clone()?,
+            runs: self.runs.clone()?,
+            len: self.len,
         })
     }
 }

@@ -1,15 +1,12 @@
 -- The paths of a set as a list.
-use Rattle.std.proofs.Common.{◌≡◌, List, [], ◌∷◌, Bool, true, false, ◌&&◌, cond, T, refl, sym, ap, ◌∙◌, map, subst, is_some}
-use Rattle.std.specs.declared.cmp.Ordering.{Ordering}
-use Rattle.std.specs.declared.cmp.Ordering.TheVariants.{Less, Equal, Greater}
-use Rattle.std.specs.Ordering.{is_lt}
-use Rattle.std.specs.List.{AllByRecursion}
+use Rattle.std.proofs.Common.{◌≡◌, List, [], ◌∷◌, Bool, true, false, cond, refl, sym, ap, ◌∙◌, map, subst, is_some}
 use Rattle.std.specs.List.Sorted.{IsStrictlySortedBy}
 use Rattle.std.specs.FinMap as finmap
-use Rattle.std.specs.FinMap.Entries.{is_sorted, below_all, is_some-find}
+use Rattle.std.specs.FinMap.Entries.{is_some-find}
 use Rattle.std.specs.FinSet as set
 use mathlib.Core.Bool.{true≢false}
 use Rattle.ephemerals.specs.Orders.{Bytes, path_cmp, sorted_names, sorted_texts}
+use Rattle.ephemerals.proofs.Ascending.{sorted_ascend}
 use Rattle.ephemerals.proofs.Totals.{path_total}
 use Rattle.txn_codec.specs.declared.txn.Txn.{Txn}
 use Rattle.data_tree.specs.Footprint.{has_path, footprint}
@@ -32,41 +29,6 @@ in_ascending texts q =
     ∙ ap is_some (finmap.get-from_entries path_total (marked texts) q)
     ∙ is_some-find path_cmp q (marked texts)
     ∙ ap (λ ts. has_path ts q) (unmarked texts)
-
-first : (a b : Bool) → T (a && b) → T a
-first true b p = tt
-first false b p = p
-
-second : (a b : Bool) → T (a && b) → T b
-second true b p = p
-second false b p = absurd p
-
-less : (o : Ordering) → T (is_lt o) → o ≡ Less
-less Less p = refl
-less Equal p = absurd p
-less Greater p = absurd p
-
-all_above : (k : Bytes) (es : List (Bytes × Unit {0})) → T (below_all path_cmp k es)
-    → AllByRecursion (λ y. path_cmp k y ≡ Less) (map (λ (e : Bytes × Unit {0}). e.0) es)
-all_above k [] h = tt
-all_above k (e ∷ es) h = (
-  less (path_cmp k e.0) (first (is_lt (path_cmp k e.0)) (below_all path_cmp k es) h),
-  all_above k es (second (is_lt (path_cmp k e.0)) (below_all path_cmp k es) h),
-)
-
-keys_ascend : (es : List (Bytes × Unit {0})) → T (is_sorted path_cmp es)
-    → IsStrictlySortedBy path_cmp (map (λ (e : Bytes × Unit {0}). e.0) es)
-unfolding IsStrictlySortedBy
-keys_ascend [] h = tt
-keys_ascend (e ∷ es) h = (
-  all_above e.0 es (first (below_all path_cmp e.0 es) (is_sorted path_cmp es) h),
-  keys_ascend es (second (below_all path_cmp e.0 es) (is_sorted path_cmp es) h),
-)
-
-ascending_ascends : (texts : List Bytes) → IsStrictlySortedBy path_cmp (sorted_texts texts)
-ascending_ascends texts =
-    let entries = finmap.from_entries {R = path_cmp} (marked texts) in
-    keys_ascend (finmap.entries entries) (finmap.entries_sorted entries)
 
 abbrev are_paths : Footprint → Bool
 are_paths Barrier = false
@@ -94,4 +56,4 @@ paths_are_the_cells t paths is path =
 
 pub paths_ascend : PathsAscend
 paths_ascend t paths is =
-    subst (λ ps. IsStrictlySortedBy path_cmp ps) (the_list t paths is) (ascending_ascends (set.items (txn_paths t)))
+    subst (λ ps. IsStrictlySortedBy path_cmp ps) (the_list t paths is) (sorted_ascend (set.items (txn_paths t)))

@@ -20,7 +20,7 @@ fn gathered(alloc: Global, paths: &[Str<'_>]) -> Result<TextSet, NoMemory>
 {
     let mut names = TextSet::new(alloc);
     for path in paths {
-        names.insert(String::from_str(alloc, path.as_str())?)?;
+        names.insert(alloc, path.as_str())?;
     }
     Ok(names)
 }
@@ -51,7 +51,7 @@ fn listed(alloc: Global, paths: TextSet) -> Result<Listed<Text>, NoMemory>
     let mut left = paths;
     let mut list = Vec::new(alloc);
     while let Some(path) = left.pop_first() {
-        list.push(Text::new(alloc, path.as_str())?)?;
+        list.push(path)?;
     }
     Ok(Listed::from_vec(list))
 }

@@ -2,7 +2,7 @@
 
 use crate::words::{operation_of, txn_of};
 use footprint::{Footprint, footprint};
-use paths_and_acls::Path;
+use paths_and_acls::{AclField, Path};
 use std::alloc::Global;
 use std::test::Fail;
 use txn_codec::{Body, SetAcl, Txn};
@@ -64,7 +64,7 @@ fn lent_by_multi(alloc: Global, parts: &[(char, &str)]) -> Result<String, Fail> 
 fn of_set_acl(alloc: Global, path: &str) -> Result<String, Fail> {
     let set_acl = SetAcl {
         path: Path::new(alloc, path)?,
-        acl: None,
+        acl: AclField::null(),
         version: 1,
     };
     shown(alloc, &txn_of(Body::SetAcl(set_acl)))

@@ -1,6 +1,6 @@
 //! Transactions given as signs and paths.
 
-use paths_and_acls::Path;
+use paths_and_acls::{AclField, Path};
 use settings::Dialect;
 use std::alloc::Global;
 use txn_codec::{Body, Check, Create, Delete, Operation, Owner, SetData, Txn, TxnHeader};
@@ -13,7 +13,7 @@ pub fn operation_of(alloc: Global, sign: char, path: &str) -> Result<Operation, 
         '+' => Operation::Create(Create {
             path,
             bytes: None,
-            acl: None,
+            acl: AclField::null(),
             owner: Owner::Nobody,
             asks_stat: false,
             parent_cversion: -1,

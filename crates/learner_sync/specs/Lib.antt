@@ -1,5 +1,6 @@
 pub mod Answers
 pub mod Images
+pub mod Inner
 pub mod Laws
 pub mod Learn
 pub mod Learner

@@ -3,7 +3,7 @@
 ghost use Rattle.std.specs.Prelude.{◌≡◌, ◌∷◌, [], ◌*◌, length, IfOk};
 ghost use Rattle.learner_sync.specs.Answers.{observer_info, ack_epoch, epoch_ack, ping_reply, session_rows};
 
-use crate::act::Act;
+use crate::act::{Act, ActList};
 use crate::learner::Learner;
 use crate::record::LearnerInfo;
 use crate::zxid::first_zxid;
@@ -11,23 +11,23 @@ use jute::{WriteRecord, put_int, put_long};
 use quorum_packet::{PacketKind, QuorumPacket};
 use settings::ServerId;
 use std::alloc::Global;
-use values::{Blob, Listed, NoMemory};
+use values::{Blob, NoMemory};
 
 // The protocol version that a learner names.
 const PROTOCOL_VERSION: i32 = 0x1_0000;
 
 // A list of one act. Fails only if an allocation is refused.
-pub(crate) fn act_list(alloc: Global, act: Act) -> Result<Listed<Act>, NoMemory>
+pub(crate) fn act_list(alloc: Global, act: Act) -> Result<ActList, NoMemory>
     ensures { IfOk result (λ acts. acts ≡ act ∷ []) }
 {
-    Ok(Listed::from_vec(vec![in alloc; act]?))
+    Ok(ActList::from_vec(vec![in alloc; act]?))
 }
 
 // A list of no act. Allocates nothing.
-pub(crate) fn empty_act_list(alloc: Global) -> Listed<Act>
+pub(crate) fn empty_act_list(alloc: Global) -> ActList
     ensures { result ≡ [] }
 {
-    Listed::from_vec(Vec::new(alloc))
+    ActList::from_vec(Vec::new(alloc))
 }
 
 impl Learner {

@@ -3,7 +3,7 @@
 ghost use Rattle.std.specs.Prelude.{◌≡◌};
 ghost use Rattle.learner_sync.specs.Learn.{LearnsItem, leader_info, message_in_hello, truncate_log, await_image, message_in_sync};
 
-use crate::act::Act;
+use crate::act::{Act, ActList};
 use crate::answers::{act_list, empty_act_list};
 use crate::learner::Learner;
 use crate::logged::{keep_up_to, zxid_after};
@@ -11,16 +11,11 @@ use crate::message::Message;
 use crate::phase::Phase;
 use jute::Reader;
 use std::alloc::Global;
-use values::{Fault, Listed, ReadError};
+use values::{Fault, ReadError};
 
 impl Learner {
     // Takes the leader's epoch. The data has to hold a protocol version; any version will do.
-    fn leader_info(
-        &mut self,
-        alloc: Global,
-        epoch: i32,
-        bytes: &[u8],
-    ) -> Result<Listed<Act>, ReadError>
+    fn leader_info(&mut self, alloc: Global, epoch: i32, bytes: &[u8]) -> Result<ActList, ReadError>
         ensures { LearnsItem result (leader_info self.old epoch bytes.now) self.old self.new }
     {
         if epoch < self.accepted_epoch {
@@ -33,7 +28,7 @@ impl Learner {
             let acts = vec![in alloc; Act::Epochs, Act::Send(answer)]?;
             self.phase = Phase::Sync;
             self.accepted_epoch = epoch;
-            return Ok(Listed::from_vec(acts));
+            return Ok(ActList::from_vec(acts));
         }
         let answer = self.epoch_answer(alloc, -1)?;
         let acts = act_list(alloc, Act::Send(answer))?;
@@ -46,7 +41,7 @@ impl Learner {
         &mut self,
         alloc: Global,
         message: Message<'_>,
-    ) -> Result<Listed<Act>, ReadError>
+    ) -> Result<ActList, ReadError>
         ensures { LearnsItem result (message_in_hello self.old message.entry) self.old self.new }
     {
         match message {
@@ -58,7 +53,7 @@ impl Learner {
     }
 
     // Drops the transactions above a zxid from the log.
-    fn truncate(&mut self, alloc: Global, zxid: i64) -> Result<Listed<Act>, ReadError>
+    fn truncate(&mut self, alloc: Global, zxid: i64) -> Result<ActList, ReadError>
         ensures { LearnsItem result (truncate_log self.old zxid) self.old self.new }
     {
         if zxid < self.base_zxid {
@@ -74,7 +69,7 @@ impl Learner {
     }
 
     // Waits for the image that a SNAP packet of this zxid announces.
-    fn await_image(&mut self, alloc: Global, zxid: i64) -> Result<Listed<Act>, ReadError>
+    fn await_image(&mut self, alloc: Global, zxid: i64) -> Result<ActList, ReadError>
         ensures { LearnsItem result (await_image self.old zxid) self.old self.new }
     {
         if zxid < 0 {
@@ -85,11 +80,7 @@ impl Learner {
     }
 
     /// Takes a message that says how the leader brings the learner up to date: DIFF, TRUNC or SNAP.
-    pub(crate) fn sync(
-        &mut self,
-        alloc: Global,
-        message: Message<'_>,
-    ) -> Result<Listed<Act>, ReadError>
+    pub(crate) fn sync(&mut self, alloc: Global, message: Message<'_>) -> Result<ActList, ReadError>
         ensures { LearnsItem result (message_in_sync self.old message.entry) self.old self.new }
     {
         match message {

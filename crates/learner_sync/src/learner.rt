@@ -6,7 +6,7 @@ ghost use Rattle.settings.specs.Settings.{epoch_pair};
 ghost use Rattle.learner_sync.specs.Learner.{new_learner, primed_learner};
 ghost use Rattle.learner_sync.specs.Learn.{start_following, stop_following, checkpoint_learner, whole_log};
 
-use crate::act::Act;
+use crate::act::{Act, ActList};
 use crate::answers::{act_list, empty_act_list};
 use crate::phase::Phase;
 use settings::{Dialect, Epochs, ServerId};
@@ -14,7 +14,7 @@ use std::alloc::Global;
 use std::collections::VecDeque;
 use std::marker::Model;
 use txn_codec::Txn;
-use values::{Listed, NoMemory};
+use values::NoMemory;
 
 /// How far a leader was followed: phase, epochs, last zxid, log and proposals; and the dialect in which leaders speak,
 /// which stays. A learner has no tree.
@@ -108,7 +108,7 @@ impl Learner {
 
     /// A leader has connected. Returns the act to send the packet by which the observer introduces itself, or no act
     /// while the learner has a leader already. A refused allocation leaves the learner as it was.
-    pub fn start(&mut self, alloc: Global, server_id: ServerId) -> Result<Listed<Act>, NoMemory>
+    pub fn start(&mut self, alloc: Global, server_id: ServerId) -> Result<ActList, NoMemory>
         ensures ok { IfOk result (λ acts. start_following self.old server_id
             ≡ record { acts = acts; after = self.new }) }
         ensures err { OnErr result (self.new ≡ self.old) }

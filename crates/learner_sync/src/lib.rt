@@ -30,7 +30,7 @@ mod request;
 mod step;
 mod zxid;
 
-pub use act::Act;
+pub use act::{Act, ActList};
 pub use answers::{ping_answer, session_table};
 pub use learner::Learner;
 pub use phase::Phase;

@@ -2,9 +2,9 @@
 
 ghost use Rattle.std.specs.Prelude.{◌≡◌, int_lt, Ok};
 ghost use Rattle.jute.specs.Reads.{ReadsOwnedWhole};
-ghost use Rattle.learner_sync.specs.Learn.{LearnsItem, zxid_floor, with_applied_zxid, carried_txn, learn_inform, learn_activation, learn_revalidated, learn_proposal, learn_commit, new_leader, up_to_date, message_in_replay, message_in_serving};
+ghost use Rattle.learner_sync.specs.Learn.{LearnsItem, zxid_floor, with_applied_zxid, carried_txn, learn_inform, learn_activation, apply_txn, learn_revalidated, learn_proposal, learn_commit, new_leader, up_to_date, message_in_replay, message_in_serving};
 
-use crate::act::Act;
+use crate::act::{Act, ActList};
 use crate::answers::{act_list, empty_act_list};
 use crate::learner::Learner;
 use crate::message::Message;
@@ -12,7 +12,7 @@ use crate::phase::Phase;
 use jute::Reader;
 use std::alloc::Global;
 use txn_codec::{Txn, TxnHeader, decode_txn_in};
-use values::{Fault, Listed, ReadError};
+use values::{Fault, ReadError};
 
 impl Learner {
     // Whether a transaction with this header is in order.
@@ -47,23 +47,32 @@ impl Learner {
         decode_txn_in(self.dialect, alloc, bytes)
     }
 
-    // Applies a transaction that is proposed and committed in one packet.
-    fn inform(&mut self, alloc: Global, bytes: &[u8]) -> Result<Listed<Act>, ReadError>
-        ensures { LearnsItem result (learn_inform self.old bytes.now) self.old self.new }
+    // Puts a transaction that was committed into the log.
+    fn append(&mut self, txn: Txn) -> Result<ActList, ReadError>
+        ensures { LearnsItem result (apply_txn self.old txn) self.old self.new }
     {
-        let txn = self.carried_txn(alloc, bytes)?;
         if !self.may_apply(&txn.header) {
             return Err(ReadError::Fault(Fault::OutOfOrder));
         }
-        let acts = act_list(alloc, Act::Apply)?;
+        self.log.reserve(1)?;
         let header = txn.header;
-        self.log.push(txn)?;
+        self.log.push_reserved(txn);
         self.note_applied(header);
-        Ok(acts)
+        Ok(ActList::apply())
+    }
+
+    // Applies a transaction that is proposed and committed in one packet.
+    fn inform(&mut self, alloc: Global, bytes: &[u8]) -> Result<ActList, ReadError>
+        ensures { LearnsItem result (learn_inform self.old bytes.now) self.old self.new }
+    {
+        match self.carried_txn(alloc, bytes) {
+            Ok(txn) => self.append(txn),
+            Err(error) => Err(error),
+        }
     }
 
     // Applies a change of the configuration, which comes after the id of a server.
-    fn activate(&mut self, alloc: Global, bytes: &[u8]) -> Result<Listed<Act>, ReadError>
+    fn activate(&mut self, alloc: Global, bytes: &[u8]) -> Result<ActList, ReadError>
         ensures { LearnsItem result (learn_activation self.old bytes.now) self.old self.new }
     {
         let mut reader = Reader::new(bytes);
@@ -72,7 +81,7 @@ impl Learner {
     }
 
     // Keeps a transaction until its commit.
-    fn propose(&mut self, alloc: Global, bytes: &[u8]) -> Result<Listed<Act>, ReadError>
+    fn propose(&mut self, alloc: Global, bytes: &[u8]) -> Result<ActList, ReadError>
         ensures { LearnsItem result (learn_proposal self.old bytes.now) self.old self.new }
     {
         let txn = self.carried_txn(alloc, bytes)?;
@@ -81,7 +90,7 @@ impl Learner {
     }
 
     // Applies the oldest proposal, which has to have this zxid.
-    fn commit(&mut self, alloc: Global, zxid: i64) -> Result<Listed<Act>, ReadError>
+    fn commit(&mut self, zxid: i64) -> Result<ActList, ReadError>
         ensures { LearnsItem result (learn_commit self.old zxid) self.old self.new }
     {
         let Some(oldest) = self.proposals.front() else {
@@ -93,7 +102,6 @@ impl Learner {
         if !self.may_apply(&oldest.header) {
             return Err(ReadError::Fault(Fault::OutOfOrder));
         }
-        let acts = act_list(alloc, Act::Apply)?;
         self.log.reserve(1)?;
         let Some(oldest) = self.proposals.pop_front() else {
             unreachable!()
@@ -101,11 +109,11 @@ impl Learner {
         let header = oldest.header;
         self.log.push_reserved(oldest);
         self.note_applied(header);
-        Ok(acts)
+        Ok(ActList::apply())
     }
 
     // Reads the leader's answer for a session that a client brought.
-    fn revalidated(&self, alloc: Global, bytes: &[u8]) -> Result<Listed<Act>, ReadError>
+    fn revalidated(&self, alloc: Global, bytes: &[u8]) -> Result<ActList, ReadError>
         ensures { LearnsItem result (learn_revalidated self.now bytes.now) self.now self.now }
     {
         let mut reader = Reader::new(bytes);
@@ -115,16 +123,16 @@ impl Learner {
     }
 
     // Takes the leader's epoch as the current one.
-    fn new_leader(&mut self, alloc: Global) -> Result<Listed<Act>, ReadError>
+    fn new_leader(&mut self, alloc: Global) -> Result<ActList, ReadError>
         ensures { LearnsItem result (Ok (new_leader self.old)) self.old self.new }
     {
         let acts = vec![in alloc; Act::Epochs, Act::Send(self.acknowledgement())]?;
         self.current_epoch = self.accepted_epoch;
-        Ok(Listed::from_vec(acts))
+        Ok(ActList::from_vec(acts))
     }
 
     // The learner is up to date: clients are served, and open proposals are forgotten.
-    fn up_to_date(&mut self, alloc: Global) -> Result<Listed<Act>, ReadError>
+    fn up_to_date(&mut self, alloc: Global) -> Result<ActList, ReadError>
         ensures { LearnsItem result (Ok (up_to_date self.old)) self.old self.new }
     {
         let acts = vec![in alloc;
@@ -135,7 +143,7 @@ impl Learner {
         self.phase = Phase::Serving;
         self.current_epoch = self.accepted_epoch;
         self.proposals.clear();
-        Ok(Listed::from_vec(acts))
+        Ok(ActList::from_vec(acts))
     }
 
     /// Takes a message while the learner isn't up to date.
@@ -143,12 +151,12 @@ impl Learner {
         &mut self,
         alloc: Global,
         message: Message<'_>,
-    ) -> Result<Listed<Act>, ReadError>
+    ) -> Result<ActList, ReadError>
         ensures { LearnsItem result (message_in_replay self.old message.entry) self.old self.new }
     {
         match message {
             Message::Proposal(bytes) => self.propose(alloc, bytes.as_slice()),
-            Message::Commit(zxid) => self.commit(alloc, zxid),
+            Message::Commit(zxid) => self.commit(zxid),
             Message::Inform(bytes) => self.inform(alloc, bytes.as_slice()),
             Message::InformAndActivate(bytes) => self.activate(alloc, bytes.as_slice()),
             Message::NewLeader => self.new_leader(alloc),
@@ -169,7 +177,7 @@ impl Learner {
         &mut self,
         alloc: Global,
         message: Message<'_>,
-    ) -> Result<Listed<Act>, ReadError>
+    ) -> Result<ActList, ReadError>
         ensures { LearnsItem result (message_in_serving self.old message.entry) self.old self.new }
     {
         match message {

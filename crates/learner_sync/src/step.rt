@@ -4,7 +4,7 @@ ghost use Rattle.std.specs.Prelude.{◌≡◌, IfOk, Ok};
 ghost use Rattle.quorum_packet.specs.Lending.{owned_item};
 ghost use Rattle.learner_sync.specs.Learn.{LearnsItem, message_in_phase, part_in_phase, load_part, acts_to_drop, learn_item};
 
-use crate::act::Act;
+use crate::act::{Act, ActList};
 use crate::answers::{act_list, empty_act_list};
 use crate::learner::Learner;
 use crate::message::{Message, message_of_packet};
@@ -12,10 +12,10 @@ use crate::phase::Phase;
 use quorum_packet::LentItem;
 use snapshot_codec::ImagePart;
 use std::alloc::Global;
-use values::{Fault, Listed, NoMemory, ReadError};
+use values::{Fault, NoMemory, ReadError};
 
 // Loads a part of an image that wasn't asked for, only to find its faults.
-fn load_to_drop(alloc: Global, part: ImagePart) -> Result<Listed<Act>, NoMemory>
+fn load_to_drop(alloc: Global, part: ImagePart) -> Result<ActList, NoMemory>
     ensures { IfOk result (λ acts. acts ≡ acts_to_drop part) }
 {
     match part {
@@ -26,7 +26,7 @@ fn load_to_drop(alloc: Global, part: ImagePart) -> Result<Listed<Act>, NoMemory>
 
 impl Learner {
     // Loads a part of the image that a SNAP packet of this zxid announced.
-    fn load(&mut self, alloc: Global, part: ImagePart, zxid: i64) -> Result<Listed<Act>, ReadError>
+    fn load(&mut self, alloc: Global, part: ImagePart, zxid: i64) -> Result<ActList, ReadError>
         ensures { LearnsItem result (Ok (load_part part self.old zxid)) self.old self.new }
     {
         if !part.is_end() {
@@ -41,11 +41,7 @@ impl Learner {
         Ok(acts)
     }
 
-    fn step_message(
-        &mut self,
-        alloc: Global,
-        message: Message<'_>,
-    ) -> Result<Listed<Act>, ReadError>
+    fn step_message(&mut self, alloc: Global, message: Message<'_>) -> Result<ActList, ReadError>
         ensures { LearnsItem result (message_in_phase self.old.phase self.old message.entry) self.old self.new }
     {
         match self.phase {
@@ -58,7 +54,7 @@ impl Learner {
         }
     }
 
-    fn step_part(&mut self, alloc: Global, part: ImagePart) -> Result<Listed<Act>, ReadError>
+    fn step_part(&mut self, alloc: Global, part: ImagePart) -> Result<ActList, ReadError>
         ensures { LearnsItem result (part_in_phase self.old.phase self.old part) self.old self.new }
     {
         match self.phase {
@@ -75,7 +71,7 @@ impl Learner {
     /// The faults are those of the learner's rules, `UnexpectedPacket`, `EpochTooSmall`, `CannotTruncate`, `OutOfOrder`
     /// and `CommitMismatch`, and those of the data that a packet carries. A refused item or a refused allocation leaves
     /// the learner as it was.
-    pub fn step(&mut self, alloc: Global, item: LentItem<'_>) -> Result<Listed<Act>, ReadError>
+    pub fn step(&mut self, alloc: Global, item: LentItem<'_>) -> Result<ActList, ReadError>
         ensures { LearnsItem result (learn_item self.old (owned_item item.entry)) self.old self.new }
     {
         match item {

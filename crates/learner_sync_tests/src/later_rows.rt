@@ -6,7 +6,7 @@ use quorum_packet::{Item, PacketFeed, PacketKind};
 use settings::Dialect;
 use std::alloc::Global;
 use std::test::Fail;
-use values::{Listed, ReadError};
+use values::ReadError;
 
 // A row has a name, a packet, and what comes of it in the later dialect and in that of ZooKeeper 3.4. Most transactions
 // are of session 7 at 1000, with the zxid 0x100000001.
@@ -57,7 +57,7 @@ fn packet_of(alloc: Global, words: &str) -> Result<Item, Fail> {
 fn told(
     alloc: Global,
     learner: &Learner,
-    acts: Result<Listed<Act>, ReadError>,
+    acts: Result<Vec<Act>, ReadError>,
 ) -> Result<String, Fail> {
     let acts = match acts {
         Ok(acts) => acts,

@@ -5,7 +5,7 @@ use learner_sync::{Act, Learner};
 use quorum_packet::{Item, LentItem, Packet, PacketKind, QuorumPacket};
 use settings::{Dialect, Epochs, ServerId};
 use std::alloc::Global;
-use values::{Blob, Bytes, Fault, Listed, NoMemory, ReadError};
+use values::{Blob, Bytes, Fault, NoMemory, ReadError};
 
 /// The zxid with this counter in epoch 1.
 pub fn at(counter: u32) -> i64 {
@@ -52,8 +52,8 @@ fn is_packet(act: &Act, kind: i32, zxid: i64, bytes: Option<&[u8]>) -> bool {
 }
 
 /// Whether there are this many acts, and one sends a packet with these fields and no ids.
-pub fn sends(acts: &Listed<Act>, count: usize, kind: i32, zxid: i64, bytes: Option<&[u8]>) -> bool {
-    for act in acts.as_slice() {
+pub fn sends(acts: &[Act], count: usize, kind: i32, zxid: i64, bytes: Option<&[u8]>) -> bool {
+    for act in acts {
         if is_packet(act, kind, zxid, bytes) {
             return acts.len() == count;
         }
@@ -71,11 +71,12 @@ fn lend(packet: &QuorumPacket) -> LentItem<'_> {
 }
 
 /// The acts of the item. It has no contract, so that a test's proof is short.
-pub fn follow(alloc: Global, learner: &mut Learner, item: Item) -> Result<Listed<Act>, ReadError> {
-    match item {
-        Item::Packet(packet) => learner.step(alloc, lend(&packet)),
-        Item::Part(part) => learner.step(alloc, LentItem::Part(part)),
-    }
+pub fn follow(alloc: Global, learner: &mut Learner, item: Item) -> Result<Vec<Act>, ReadError> {
+    let acts = match item {
+        Item::Packet(packet) => learner.step(alloc, lend(&packet))?,
+        Item::Part(part) => learner.step(alloc, LentItem::Part(part))?,
+    };
+    Ok(acts.into_vec(alloc)?)
 }
 
 /// The acts of a leader that connects.
@@ -83,8 +84,8 @@ pub fn come(
     alloc: Global,
     learner: &mut Learner,
     server_id: ServerId,
-) -> Result<Listed<Act>, NoMemory> {
-    learner.start(alloc, server_id)
+) -> Result<Vec<Act>, NoMemory> {
+    learner.start(alloc, server_id)?.into_vec(alloc)
 }
 
 /// The result of an item: a letter for each act, or the fault for which it is refused.

@@ -6,9 +6,9 @@ ghost use Rattle.txn_codec.specs.Spelling.{body_format};
 use anyhow::{Result, ensure};
 use client_records::codes::PING_XID;
 use client_records::{ConnectRequest, PathAndWatch, ReadKind, RequestKind};
-use jute::codes::{ALL, open_list};
+use jute::codes::ALL;
 use jute::{RequestHeader, WriteRecord, put_bytes, put_int, put_string};
-use paths_and_acls::Path;
+use paths_and_acls::{AclField, Path};
 use quorum_packet::{PacketKind, QuorumPacket, write_packet};
 use std::alloc::Global;
 use txn_codec::{Body, Create, Operation, Owner, SetData, Txn, encode_txn};
@@ -78,11 +78,10 @@ pub fn create(alloc: Global, path: Path, content: &[u8]) -> Result<Body>
 {
     ensure!(content.len() <= CONTENT_LIMIT, "a node's data is too long");
     let bytes = Blob::new(alloc, content)?;
-    let acl = open_list(alloc)?;
     Ok(Body::Single(Operation::Create(Create {
         path,
         bytes: Some(bytes),
-        acl: Some(acl),
+        acl: AclField::open(),
         owner: Owner::Nobody,
         asks_stat: false,
         parent_cversion: -1,

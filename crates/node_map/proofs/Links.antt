@@ -1,10 +1,9 @@
 -- What holds of each entry holds of each node of a map, and how nodes are linked.
-use Rattle.std.proofs.Common.{◌≡◌, suc, ◌<◌, List, [], ◌∷◌, Bool, true, false, cond, Option, Some, None, refl, sym, ap, subst, ◌∙◌, ◌||◌, ◌↔◌, map, length, string_bytes, is_some, arith}
+use Rattle.std.proofs.Common.{◌≡◌, suc, ◌<◌, List, [], ◌∷◌, Bool, true, false, cond, Option, Some, None, refl, sym, ap, subst, ◌∙◌, ◌||◌, ◌↔◌, map, length, is_some, arith}
 use mathlib.Core.Bool.{true≢false}
 use Rattle.std.specs.List.{list_any, All, AllByRecursion}
 use Rattle.std.specs.Ordering.{eq_by_cmp, is_eq}
 use Rattle.std.specs.Cmp.{tied_itself}
-use Rattle.std.specs.declared.string.String.{String}
 use Rattle.std.proofs.lemmas.Map.Lookups.{exact_bytes}
 use Rattle.std.proofs.lemmas.Map.Views.{tells_apart}
 use Rattle.std.specs.FinMap as finmap
@@ -34,38 +33,38 @@ all_map P Q f [] h = tt
 all_map P Q f (x ∷ xs) h = (f x h.0, all_map P Q f xs h.1)
 
 -- The texts visited are those of a set.
-module _ {Z : Type 0} (P : Bytes → Type 0) where
-  each_text : (q : Bytes) (keys : List (String Z)) → AllByRecursion (λ (k : String Z). P (string_bytes k)) keys
-      → list_any (eq_by_cmp path_cmp q) (map string_bytes keys) ≡ true → P q
+module _ (P : Bytes → Type 0) where
+  each_text : (q : Bytes) (keys : List Bytes) → AllByRecursion (λ (k : Bytes). P k) keys
+      → list_any (eq_by_cmp path_cmp q) keys ≡ true → P q
   each_text q [] all one = absurd (true≢false (sym one))
-  each_text q (k ∷ ks) all one = by (each_text q ks all.1) (eq_by_cmp path_cmp q (string_bytes k)) refl one
+  each_text q (k ∷ ks) all one = by (each_text q ks all.1) (eq_by_cmp path_cmp q k) refl one
     where
-      by : (list_any (eq_by_cmp path_cmp q) (map string_bytes ks) ≡ true → P q)
-          → (b : Bool) → eq_by_cmp path_cmp q (string_bytes k) ≡ b
-          → (b || list_any (eq_by_cmp path_cmp q) (map string_bytes ks)) ≡ true → P q
-      by rest true e one = subst P (sym (tells_apart exact_bytes q (string_bytes k) e)) all.0
+      by : (list_any (eq_by_cmp path_cmp q) ks ≡ true → P q)
+          → (b : Bool) → eq_by_cmp path_cmp q k ≡ b
+          → (b || list_any (eq_by_cmp path_cmp q) ks) ≡ true → P q
+      by rest true e one = subst P (sym (tells_apart exact_bytes q k e)) all.0
       by rest false e one = rest one
 
-  of_each_text : (keys : List (String Z))
-      → ((q : Bytes) → list_any (eq_by_cmp path_cmp q) (map string_bytes keys) ≡ true → P q)
-      → AllByRecursion (λ (k : String Z). P (string_bytes k)) keys
+  of_each_text : (keys : List Bytes)
+      → ((q : Bytes) → list_any (eq_by_cmp path_cmp q) keys ≡ true → P q)
+      → AllByRecursion (λ (k : Bytes). P k) keys
   of_each_text [] each = tt
   of_each_text (k ∷ ks) each = (
-    each (string_bytes k)
-        (ap (λ r. is_eq r || list_any (eq_by_cmp path_cmp (string_bytes k)) (map string_bytes ks))
-        (tied_itself path_total (string_bytes k))),
+    each k
+        (ap (λ r. is_eq r || list_any (eq_by_cmp path_cmp k) ks)
+        (tied_itself path_total k)),
     of_each_text ks
         (λ q one. each q
-        (ap (λ b. eq_by_cmp path_cmp q (string_bytes k) || b) one ∙ or-true (eq_by_cmp path_cmp q (string_bytes k)))),
+        (ap (λ b. eq_by_cmp path_cmp q k || b) one ∙ or-true (eq_by_cmp path_cmp q k))),
   )
     where
       or-true : (b : Bool) → (b || true) ≡ true
       or-true true = refl
       or-true false = refl
 
-  pub all_texts : (names : Names) (keys : List (String Z))
-      → ((q : Bytes) → set.contains names q ≡ list_any (eq_by_cmp path_cmp q) (map string_bytes keys))
-      → AllByRecursion (λ (k : String Z). P (string_bytes k)) keys ↔ ((q : Bytes) → set.contains names q ≡ true → P q)
+  pub all_texts : (names : Names) (keys : List Bytes)
+      → ((q : Bytes) → set.contains names q ≡ list_any (eq_by_cmp path_cmp q) keys)
+      → AllByRecursion (λ (k : Bytes). P k) keys ↔ ((q : Bytes) → set.contains names q ≡ true → P q)
   all_texts names keys members = (
     (λ all q one. each_text q keys all (sym (members q) ∙ one)),
     (λ each. of_each_text keys (λ q one. each q (members q ∙ one))),

@@ -10,7 +10,7 @@
 //! ```text
 //! let mut nodes = NodeMap::new(alloc);
 //! nodes.insert(alloc, "/", Node::childless(alloc)?)?;
-//! nodes.add_child("/", name, &header, &create)?       // AddedChild::Added: the root's numbers before
+//! nodes.add_child(alloc, "/", "a", &header, &create)?       // AddedChild::Added: the root's numbers before
 //! nodes.insert_new(alloc, "/a", Node::created(alloc, &header, &create)?)?     // true: there was no node at the path
 //! let taken = nodes.take(alloc, &paths)?;             // takes the nodes at the paths out
 //! nodes.append(taken)?;                               // inserts them again

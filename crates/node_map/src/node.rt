@@ -1,6 +1,6 @@
 //! A node of the tree.
 
-ghost use Rattle.std.specs.Prelude.{◌≡◌, OnOk, OnErr, IfOk, not, int_lt, if◌then◌else◌, string_bytes};
+ghost use Rattle.std.specs.Prelude.{◌≡◌, OnOk, OnErr, IfOk, not, int_lt, if◌then◌else◌};
 ghost use Rattle.std.specs.FinSet as set;
 ghost use Rattle.node_map.specs.Children.{with_added_child, stat_after_create, stat_after_delete};
 ghost use Rattle.node_map.specs.Updates.{new_node, owner_of, ttl_mark, mark_of, next_cversion, counts_by, pzxid_by, with_data, with_acl, with_missing_acl, preset_node};
@@ -182,7 +182,7 @@ fn one_text(alloc: Global, text: &str) -> Result<TextSet, NoMemory>
     ensures { IfOk result (λ texts. texts ≡ set.insert set.empty text.now) }
 {
     let mut texts = TextSet::new(alloc);
-    texts.insert(String::from_str(alloc, text)?)?;
+    texts.insert(alloc, text)?;
     Ok(texts)
 }
 
@@ -247,7 +247,7 @@ impl Node {
     {
         Ok(Node {
             bytes: create.bytes.clone()?,
-            acl: AclList::of(&create.acl)?,
+            acl: create.acl.to_list()?,
             stat: first_stat(header, create),
             mark: mark(create.owner),
             children: TextSet::new(alloc),
@@ -257,18 +257,19 @@ impl Node {
     /// Adds a child's name, or raises the node's stat if it has the name already. Returns whether the name is new.
     pub(crate) fn add_child(
         &mut self,
-        name: String,
+        alloc: Global,
+        name: &str,
         header: &TxnHeader,
         create: &Create,
     ) -> Result<bool, NoMemory>
         ensures state { OnOk result
-            (self.new ≡ with_added_child header.now create.now (string_bytes name) self.old) }
+            (self.new ≡ with_added_child header.now create.now name.now self.old) }
         ensures added { IfOk result
-            (λ added. added ≡ not (set.contains self.old.children (string_bytes name))) }
+            (λ added. added ≡ not (set.contains self.old.children name.now)) }
         ensures err { OnErr result (self.new ≡ self.old) }
     {
         let after = stat_after_create(self.stat, header, create);
-        let added = self.children.insert(name)?;
+        let added = self.children.insert(alloc, name)?;
         if added {
             self.stat = stat_that_counts(header.rules, self.stat, after);
             return Ok(true);
@@ -292,7 +293,7 @@ impl Node {
         ensures ok { OnOk result (self.new ≡ with_acl body.now self.old) }
         ensures err { OnErr result (self.new ≡ self.old) }
     {
-        let acl = AclList::of(&body.acl)?;
+        let acl = body.acl.to_list()?;
         self.acl = acl;
         self.stat.aversion = body.version;
         Ok(())

@@ -1,6 +1,6 @@
 //! The nodes by path, modelled as a finite map.
 
-ghost use Rattle.std.specs.Prelude.{◌≡◌, ◌↔◌, ℤ, OnOk, OnErr, IfOk, IsTrue, Option, None, Some, is_some, not, true, String, string_bytes};
+ghost use Rattle.std.specs.Prelude.{◌≡◌, ◌↔◌, ℤ, OnOk, OnErr, IfOk, IsTrue, Option, None, Some, is_some, not, true};
 ghost use Rattle.std.specs.Option.{option_copied, option_copied_mut};
 ghost use Rattle.std.specs.Borrow.{sem};
 ghost use Rattle.std.specs.FinMap as finmap;
@@ -200,17 +200,22 @@ impl NodeMap {
     }
 
     /// Adds a name to the children of the node at the path, if there is one. A refused allocation changes nothing.
-    pub fn add_name(&mut self, path: &str, name: String) -> Result<AddedChild, NoMemory>
+    pub fn add_name(
+        &mut self,
+        alloc: Global,
+        path: &str,
+        name: &str,
+    ) -> Result<AddedChild, NoMemory>
         ensures state { OnOk result
-            (self.new ≡ update_node self.old path.now (with_name (string_bytes name))) }
+            (self.new ≡ update_node self.old path.now (with_name name.now)) }
         ensures outcome { IfOk result
-            (λ is. is ≡ added_child (finmap.get self.old path.now) (string_bytes name)) }
+            (λ is. is ≡ added_child (finmap.get self.old path.now) name.now) }
         ensures err { OnErr result (self.new ≡ self.old) }
     {
         match self.get_mut(path) {
             None => return Ok(AddedChild::NoParent),
             Some(node) => {
-                if node.children.insert(name)? {
+                if node.children.insert(alloc, name)? {
                     return Ok(AddedChild::Added(node.stat));
                 }
                 Ok(AddedChild::Taken)
@@ -233,23 +238,24 @@ impl NodeMap {
     /// Adds a child's name to the node at the path, or raises that node's stat if it has the name.
     pub fn add_child(
         &mut self,
+        alloc: Global,
         path: &str,
-        name: String,
+        name: &str,
         header: &TxnHeader,
         create: &Create,
     ) -> Result<AddedChild, NoMemory>
         ensures state { OnOk result
             (self.new ≡ update_node self.old path.now
-            (with_added_child header.now create.now (string_bytes name))) }
+            (with_added_child header.now create.now name.now)) }
         ensures outcome { IfOk result
-            (λ is. is ≡ added_child (finmap.get self.old path.now) (string_bytes name)) }
+            (λ is. is ≡ added_child (finmap.get self.old path.now) name.now) }
         ensures err { OnErr result (self.new ≡ self.old) }
     {
         match self.get_mut(path) {
             None => return Ok(AddedChild::NoParent),
             Some(node) => {
                 let before = node.stat;
-                if node.add_child(name, header, create)? {
+                if node.add_child(alloc, name, header, create)? {
                     return Ok(AddedChild::Added(before));
                 }
                 Ok(AddedChild::Taken)

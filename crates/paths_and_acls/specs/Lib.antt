@@ -1,3 +1,4 @@
 pub mod Acls
 pub mod Fields
+pub mod Held
 pub mod Paths

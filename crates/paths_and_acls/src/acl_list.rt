@@ -1,6 +1,6 @@
 //! Access control lists.
 
-ghost use Rattle.std.specs.Prelude.{◌≡◌, ◌≢◌, ◌↔◌, ◌==◌, length, IfOk, IfSome, IfNone, IsTrue, codes};
+ghost use Rattle.std.specs.Prelude.{◌≡◌, ◌≢◌, ◌↔◌, ◌==◌, length, IfSome, IfNone, IsTrue, codes};
 ghost use Rattle.jute.specs.Codes.{open_acl};
 ghost use Rattle.paths_and_acls.specs.Acls.{acl_or_open};
 
@@ -8,7 +8,7 @@ use jute::codes::ALL;
 use jute::{Acl, Id};
 use std::alloc::AllocError;
 use std::marker::Model;
-use values::{Listed, NoMemory};
+use values::Listed;
 
 /// A node's access control list; its model is the list of entries. The open list, which nearly every node has, takes no
 /// memory.
@@ -42,7 +42,7 @@ fn is_anyone(id: &Id) -> bool
 }
 
 // Whether the entries are those of the open list.
-fn are_open(entries: &[Acl]) -> bool
+pub(crate) fn are_open(entries: &[Acl]) -> bool
     ensures { IsTrue result ↔ (entries.now ≡ open_acl) }
 {
     match entries {
@@ -64,13 +64,10 @@ impl AclList {
         AclList { entries: None }
     }
 
-    /// The list of these entries; null is the open list. Allocates nothing.
-    pub fn new(acl: Option<Listed<Acl>>) -> AclList
-        ensures { result ≡ acl_or_open acl }
+    /// The list of these entries. Allocates nothing.
+    pub fn from_entries(entries: Listed<Acl>) -> AclList
+        ensures { result ≡ entries }
     {
-        let Some(entries) = acl else {
-            return AclList::open();
-        };
         if are_open(entries.as_slice()) {
             return AclList::open();
         }
@@ -79,19 +76,14 @@ impl AclList {
         }
     }
 
-    /// The list of a copy of the entries; null is the open list. Fails only if an allocation is refused.
-    pub fn of(acl: &Option<Listed<Acl>>) -> Result<AclList, NoMemory>
-        ensures { IfOk result (λ list. list ≡ acl_or_open acl.now) }
+    /// The list of these entries; null is the open list. Allocates nothing.
+    pub fn new(acl: Option<Listed<Acl>>) -> AclList
+        ensures { result ≡ acl_or_open acl }
     {
-        let Some(entries) = acl else {
-            return Ok(AclList::open());
-        };
-        if are_open(entries.as_slice()) {
-            return Ok(AclList::open());
+        match acl {
+            None => AclList::open(),
+            Some(entries) => AclList::from_entries(entries),
         }
-        Ok(AclList {
-            entries: Some(entries.clone()?),
-        })
     }
 
     /// Whether it has no entry, and grants nothing.

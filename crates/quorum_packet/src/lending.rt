@@ -199,10 +199,11 @@ impl<'a> LentItems<'a> {
         ensures writable { IfOk result (λ found. IfSome found CanBeWrittenOwned) }
     {
         loop {
-            match self.step(alloc)? {
-                Step::Nothing => return Ok(None),
-                Step::Hidden => {}
-                Step::Shown(item) => return Ok(Some(item)),
+            match self.step(alloc) {
+                Ok(Step::Nothing) => return Ok(None),
+                Ok(Step::Hidden) => {}
+                Ok(Step::Shown(item)) => return Ok(Some(item)),
+                Err(error) => return Err(error),
             }
         }
     }

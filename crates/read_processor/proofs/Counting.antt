@@ -1,9 +1,8 @@
 -- The length of lists in bytes, counted up to what a frame holds.
-use Rattle.std.proofs.Common.{◌≡◌, ℕ, ◌+◌, ◌≤◌, ◌<◌, List, [], ◌∷◌, length, map, Option, Some, None, String, Global, string_bytes, sym, ap, subst, ◌∙◌, arith}
+use Rattle.std.proofs.Common.{◌≡◌, ℕ, ◌+◌, ◌≤◌, ◌<◌, List, [], ◌∷◌, length, Option, Some, None, sym, ap, subst, ◌∙◌, arith}
 use Rattle.std.specs.List.{flat_map}
 use Rattle.std.proofs.lemmas.List.{length-append}
 use Rattle.std.proofs.lemmas.List.Concat.{flat_map-cons}
-use Rattle.std.proofs.lemmas.List.Folds.{flat_map-map}
 use Rattle.jute.specs.Format.{text_or_empty, with_count, number_bytes}
 use Rattle.client_records.specs.Fields.{names_format}
 use Rattle.read_processor.specs.Limits.{body_limit}
@@ -18,33 +17,31 @@ counted_length n bytes = simp length-append (omega arith)
 pub passed : (result : Option ℕ) (n : ℕ) → result ≡ None → body_limit < n → CountsBytes result n
 passed result n is h = subst (λ (r : Option ℕ). CountsBytes r n) (sym is) h
 
-abbrev pub spelled : String Global → List ℕ
-spelled t = text_or_empty.written (string_bytes t)
+abbrev pub spelled : List ℕ → List ℕ
+spelled t = text_or_empty.written t
 
 -- The bytes of the texts of a set, with their count.
-abbrev pub all_spelled : List (String Global) → List ℕ
-all_spelled all = names_format.written (map string_bytes all)
+abbrev pub all_spelled : List (List ℕ) → List ℕ
+all_spelled all = names_format.written all
 
-one_more : (t : String Global) (left : List (String Global))
+one_more : (t : List ℕ) (left : List (List ℕ))
     → length (flat_map spelled (t ∷ left)) ≡ length (spelled t) + length (flat_map spelled left)
 one_more t left =
     ap (λ (l : List ℕ). length l) (flat_map-cons spelled t left) ∙ length-append (spelled t) (flat_map spelled left)
 
 -- The bytes counted so far and those of the texts left are the bytes of all.
-pub record Left (count : ℕ) (left all : List (String Global)) : Type 0 where
+pub record Left (count : ℕ) (left all : List (List ℕ)) : Type 0 where
   pub sums : count + length (flat_map spelled left) ≡ length (all_spelled all)
   pub within : count ≤ body_limit
 
-pub all_left : (all : List (String Global)) → Left 4 all all
+pub all_left : (all : List (List ℕ)) → Left 4 all all
 all_left all = record {
-  sums =
-      ap (λ (l : List ℕ). 4 + length l) (sym (flat_map-map text_or_empty.written string_bytes all))
-      ∙ sym (counted_length (length (map string_bytes all)) (flat_map text_or_empty.written (map string_bytes all)));
+  sums = sym (counted_length (length all) (flat_map text_or_empty.written all));
   within = omega arith;
 }
 
 -- The next text is counted.
-pub one_less : {count next : ℕ} {t : String Global} {left all : List (String Global)} → Left count (t ∷ left) all
+pub one_less : {count next : ℕ} {t : List ℕ} {left all : List (List ℕ)} → Left count (t ∷ left) all
     → CountsBytes (Some next) (count + length (spelled t)) → Left next left all
 one_less {t = t} {left = left} l n = record {
   sums = omega (arith, l.sums, n.0, one_more t left);
@@ -52,11 +49,11 @@ one_less {t = t} {left = left} l n = record {
 }
 
 -- The next text exceeds the limit.
-pub too_many : {count : ℕ} {t : String Global} {left all : List (String Global)} → Left count (t ∷ left) all
+pub too_many : {count : ℕ} {t : List ℕ} {left all : List (List ℕ)} → Left count (t ∷ left) all
     → CountsBytes None (count + length (spelled t)) → CountsBytes None (length (all_spelled all))
 too_many {t = t} {left = left} l h = omega (arith, l.sums, h, one_more t left)
 
 -- No text is left.
-pub none_left : {count : ℕ} {all : List (String Global)} → Left count [] all
+pub none_left : {count : ℕ} {all : List (List ℕ)} → Left count [] all
     → CountsBytes (Some count) (length (all_spelled all))
 none_left l = (omega (arith, l.sums), omega (arith, l.sums, l.within))

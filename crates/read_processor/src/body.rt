@@ -1,6 +1,7 @@
 //! The body of a reply, after room for a frame's length and a header.
 
-ghost use Rattle.std.specs.Prelude.{◌≡◌, ◌≤◌, ◌<◌, ◌^◌, ◌++◌, [], length, map, drop, IfOk, String, string_bytes};
+ghost use Rattle.std.specs.Prelude.{◌≡◌, ◌≤◌, ◌<◌, ◌^◌, ◌++◌, [], length, drop, IfOk};
+ghost use Rattle.ephemerals.specs.Orders.{sorted_names};
 ghost use Rattle.jute.specs.Format.{int, long};
 ghost use Rattle.jute.specs.Frame.{frame_bytes};
 ghost use Rattle.jute.specs.Records.{reply_header, stat_format};
@@ -10,9 +11,9 @@ ghost use Rattle.read_processor.specs.Reply.{with_header};
 
 use byteorder::{BigEndian, ByteOrder};
 use client_records::put_names;
+use ephemerals::TextSet;
 use jute::{ReplyHeader, Stat, WriteRecord};
 use std::alloc::Global;
-use std::collections::btree_set::Iter;
 use std::marker::Model;
 use values::{Blob, NoMemory};
 
@@ -125,14 +126,10 @@ impl Body {
     }
 
     // The names of a set in its order, with capacity for that many bytes after the room.
-    pub(crate) fn of_names(
-        alloc: Global,
-        size: usize,
-        texts: Iter<'_, String>,
-    ) -> Result<Body, NoMemory>
+    pub(crate) fn of_names(alloc: Global, size: usize, texts: &TextSet) -> Result<Body, NoMemory>
         requires within { size ≤ body_limit }
-        requires whole { length (names_format.written (map string_bytes texts)) ≤ size }
-        ensures { IfOk result (λ body. body ≡ names_format.written (map string_bytes texts.entry)) }
+        requires whole { length (names_format.written (sorted_names texts.now)) ≤ size }
+        ensures { IfOk result (λ body. body ≡ names_format.written (sorted_names texts.now)) }
     {
         let mut bytes = room(alloc, size)?;
         put_names(&mut bytes, texts)?;

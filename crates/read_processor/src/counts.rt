@@ -1,7 +1,8 @@
 //! The length of lists in bytes, counted before they are written. A count stops when it exceeds what a frame holds,
 //! since a tree may hold more than any number counts.
 
-ghost use Rattle.std.specs.Prelude.{◌≤◌, ◌+◌, length, map, Some, String, string_bytes};
+ghost use Rattle.std.specs.Prelude.{◌≤◌, ◌+◌, length, Some};
+ghost use Rattle.ephemerals.specs.Orders.{sorted_names};
 ghost use Rattle.jute.specs.Format.{text_or_empty, vector_of, or_null};
 ghost use Rattle.jute.specs.Owned.{acl_format};
 ghost use Rattle.client_records.specs.Fields.{names_format};
@@ -11,8 +12,8 @@ ghost use Rattle.read_processor.specs.Inner.Counts.{CountsBytes};
 
 use crate::body::BODY_LIMIT;
 use client_records::{ClientInfo, Name};
+use ephemerals::TextSet;
 use jute::Acl;
-use std::collections::btree_set::Iter;
 
 // Adds this many bytes.
 pub(crate) fn with_bytes(count: usize, more: usize) -> Option<usize>
@@ -57,12 +58,12 @@ pub(crate) fn acls_len(entries: &[Acl]) -> Option<usize>
 }
 
 // The length of names in bytes, with their count; None if it exceeds `BODY_LIMIT`.
-pub(crate) fn names_len(texts: Iter<'_, String>) -> Option<usize>
-    ensures { CountsBytes result (length (names_format.written (map string_bytes texts.entry))) }
+pub(crate) fn names_len(texts: &TextSet) -> Option<usize>
+    ensures { CountsBytes result (length (names_format.written (sorted_names texts.now))) }
 {
     let mut count = 4;
-    for text in texts {
-        count = with_text(count, text.as_bytes())?;
+    for text in texts.iter() {
+        count = with_text(count, text.as_str().as_bytes())?;
     }
     Some(count)
 }

@@ -157,10 +157,10 @@ fn get_acl(alloc: Global, node: &Node) -> Result<Option<Body>, NoMemory>
 fn get_children(alloc: Global, node: &Node) -> Result<Option<Body>, NoMemory>
     ensures { IfOk result (λ body. body ≡ fitting_body (get_children_body node.now)) }
 {
-    let Some(size) = names_len(node.children.iter()) else {
+    let Some(size) = names_len(&node.children) else {
         return Ok(None);
     };
-    let body = Body::of_names(alloc, size, node.children.iter())?;
+    let body = Body::of_names(alloc, size, &node.children)?;
     Ok(Some(body))
 }
 
@@ -168,13 +168,13 @@ fn get_children2(alloc: Global, node: &Node) -> Result<Option<Body>, NoMemory>
     ensures { IfOk result (λ body. body ≡ fitting_body (get_children2_body node.now)) }
 {
     let stat = node.shown();
-    let Some(names) = names_len(node.children.iter()) else {
+    let Some(names) = names_len(&node.children) else {
         return Ok(None);
     };
     let Some(size) = with_bytes(names, stat.written_len()) else {
         return Ok(None);
     };
-    let body = Body::of_names(alloc, size, node.children.iter())?;
+    let body = Body::of_names(alloc, size, &node.children)?;
     Ok(Some(body.with_stat(&stat)?))
 }
 

@@ -51,7 +51,7 @@ fn texts_with<'a>(
 {
     let mut found = Vec::new(alloc);
     for text in texts.iter() {
-        if text.as_bytes().starts_with(front) {
+        if text.as_str().as_bytes().starts_with(front) {
             found.push(Name::new(text.as_str()))?;
         }
     }

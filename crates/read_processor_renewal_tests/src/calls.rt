@@ -2,7 +2,7 @@
 
 use client_records::{Name, SetWatches, SetWatches2};
 use data_tree::Tree;
-use paths_and_acls::Path;
+use paths_and_acls::{AclField, Path};
 use read_processor::Watch;
 use settings::Dialect;
 use std::alloc::Global;
@@ -28,7 +28,7 @@ pub fn tree_with_a(alloc: Global, zxid: i64) -> Result<Tree, Fail> {
     let create = Create {
         path: Path::new(alloc, "/a").ok().ok_or("a path")?,
         bytes: None,
-        acl: None,
+        acl: AclField::null(),
         owner: Owner::Nobody,
         asks_stat: false,
         parent_cversion: -1,

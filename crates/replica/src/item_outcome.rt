@@ -1,6 +1,6 @@
 //! What an item of the leader's stream causes.
 
-use data_tree::{Trigger, TxnResults};
+use data_tree::{Triggers, TxnResults};
 use quorum_packet::QuorumPacket;
 use values::Listed;
 
@@ -31,7 +31,7 @@ pub struct ItemOutcome {
     /// Packets to send to the leader, in order.
     pub replies: Listed<QuorumPacket>,
     /// Triggers for the watchers, in order.
-    pub triggers: Listed<Trigger>,
+    pub triggers: Triggers,
     /// What it tells besides, if there is anything.
     pub news: Option<LeaderNews>,
 }

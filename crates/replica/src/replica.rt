@@ -135,7 +135,7 @@ impl Replica {
         learner_sync::law::acts();
         let acts = self.learner.start(alloc, server_id)?;
         let mut replies = Vec::new(alloc);
-        for act in acts.into_vec() {
+        for act in acts.into_vec(alloc)? {
             if let Act::Send(packet) = act {
                 replies.push(packet)?;
             }

@@ -12,8 +12,8 @@ ghost use Rattle.replica.specs.Inner.{with_told, UpdatesLearner, CarriesOutAct, 
 
 use crate::item_outcome::{ItemOutcome, LeaderNews};
 use crate::replica::Replica;
-use data_tree::{Tree, Trigger};
-use learner_sync::Act;
+use data_tree::{Tree, Triggers};
+use learner_sync::{Act, ActList};
 use quorum_packet::{LentItem, QuorumPacket};
 use snapshot_codec::Loader;
 use std::alloc::Global;
@@ -21,11 +21,7 @@ use std::mem;
 use values::{Listed, NoMemory, ReadError};
 
 impl Replica {
-    pub(crate) fn learn(
-        &mut self,
-        alloc: Global,
-        item: LentItem<'_>,
-    ) -> Result<Listed<Act>, ReadError>
+    pub(crate) fn learn(&mut self, alloc: Global, item: LentItem<'_>) -> Result<ActList, ReadError>
         ensures { UpdatesLearner result (learn_item self.old.learner (owned_item item.entry)) self.old self.new }
     {
         self.learner.step(alloc, item)
@@ -35,7 +31,7 @@ impl Replica {
     fn apply_last(
         &mut self,
         alloc: Global,
-        triggers: &mut Listed<Trigger>,
+        triggers: &mut Triggers,
         news: &mut Option<LeaderNews>,
     ) -> Result<(), NoMemory>
         ensures { OnOk result
@@ -89,7 +85,7 @@ impl Replica {
         loader: &mut Loader,
         act: Act,
         replies: &mut Vec<QuorumPacket>,
-        triggers: &mut Listed<Trigger>,
+        triggers: &mut Triggers,
         news: &mut Option<LeaderNews>,
     ) -> Result<(), ReadError>
         ensures { CarriesOutAct result act
@@ -139,16 +135,16 @@ impl Replica {
         &mut self,
         alloc: Global,
         loader: &mut Loader,
-        acts: Listed<Act>,
+        acts: ActList,
     ) -> Result<ItemOutcome, ReadError>
         requires { IsPartAlone acts }
         ensures { TakesItem result (carry_out_all (no_effect loader.old self.old) acts)
             loader.old self.old loader.new self.new }
     {
         let mut replies = Vec::new(alloc);
-        let mut triggers = Listed::from_vec(Vec::new(alloc));
+        let mut triggers = Triggers::from_vec(Vec::new(alloc));
         let mut news = None;
-        for act in acts.into_vec() {
+        for act in acts.into_vec(alloc)? {
             self.carry_out(alloc, loader, act, &mut replies, &mut triggers, &mut news)?;
         }
         Ok(ItemOutcome {
@@ -179,9 +175,9 @@ impl Replica {
         learner_sync::law::acts();
         let acts = self.learn(alloc, item)?;
         // What most items come to is done without going through a list.
-        if let [Act::Apply] = acts.as_slice() {
+        if acts.is_apply() {
             let replies = Listed::from_vec(Vec::new(alloc));
-            let mut triggers = Listed::from_vec(Vec::new(alloc));
+            let mut triggers = Triggers::from_vec(Vec::new(alloc));
             let mut news = None;
             self.apply_last(alloc, &mut triggers, &mut news)?;
             return Ok(ItemOutcome {

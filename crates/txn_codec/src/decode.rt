@@ -14,8 +14,8 @@ use crate::ending::{pass_trailer, read_closing};
 use crate::kind::TxnKind;
 use crate::place::Place;
 use crate::txn::{Body, Check, Create, Delete, Operation, Owner, SetAcl, SetData, Txn, TxnHeader};
-use jute::{ReadRecord, Reader, read_acls, read_blob};
-use paths_and_acls::Path;
+use jute::{ReadRecord, Reader, read_blob};
+use paths_and_acls::{AclField, Path};
 use settings::{Dialect, Reads};
 use std::alloc::Global;
 use values::{Fault, Listed, ReadError};
@@ -181,7 +181,7 @@ fn read_create(
     let mut ahead = reader.ahead();
     let path = read_child_path(alloc, &mut ahead)?;
     let bytes = read_blob(alloc, &mut ahead)?;
-    let acl = read_acls(reads.surrogates, alloc, &mut ahead)?;
+    let acl = AclField::read(reads.surrogates, alloc, &mut ahead)?;
     let (owner, parent_cversion) = read_owner(reads, kind, place, &mut ahead)?;
     *reader = ahead;
     Ok(Create {
@@ -262,7 +262,7 @@ fn read_set_acl(
 {
     let mut ahead = reader.ahead();
     let path = read_path(alloc, &mut ahead)?;
-    let acl = read_acls(surrogates, alloc, &mut ahead)?;
+    let acl = AclField::read(surrogates, alloc, &mut ahead)?;
     let version = ahead.read_int()?;
     *reader = ahead;
     Ok(SetAcl { path, acl, version })

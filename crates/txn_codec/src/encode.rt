@@ -12,10 +12,7 @@ ghost use Rattle.txn_codec.specs.Spelling.{create_format, set_data as set_data_f
 
 use crate::kind::TxnKind;
 use crate::txn::{Body, Check, Create, Operation, Owner, SetAcl, SetData, Txn, TxnHeader};
-use jute::{
-    WriteRecord, blob_len, items_len, put_blob, put_bool, put_int, put_items, put_string,
-    put_vector, vector_len,
-};
+use jute::{WriteRecord, blob_len, items_len, put_blob, put_bool, put_int, put_items, put_string};
 use paths_and_acls::Path;
 use values::{Listed, NoMemory};
 
@@ -79,7 +76,7 @@ fn create_len(create: &Create) -> usize
 {
     create.path.as_str().len()
         + blob_len(&create.bytes)
-        + vector_len(&create.acl)
+        + create.acl.written_len()
         + 4
         + owner_len(create)
 }
@@ -93,7 +90,7 @@ fn put_create(out: &mut Vec<u8>, create: &Create) -> Result<(), NoMemory>
 {
     put_string(out, create.path.as_str())?;
     put_blob(out, &create.bytes)?;
-    put_vector(out, &create.acl)?;
+    create.acl.write(out)?;
     put_owner(out, create)
 }
 
@@ -131,12 +128,12 @@ impl WriteRecord for SetAcl {
 
     #[tactic(auto, unfolding(jute::specs::Format::number_bytes))]
     fn written_len(&self) -> usize {
-        self.path.as_str().len() + vector_len(&self.acl) + 8
+        self.path.as_str().len() + self.acl.written_len() + 8
     }
 
     fn write(&self, out: &mut Vec<u8>) -> Result<(), NoMemory> {
         put_string(out, self.path.as_str())?;
-        put_vector(out, &self.acl)?;
+        self.acl.write(out)?;
         self.version.write(out)
     }
 }

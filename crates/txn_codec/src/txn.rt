@@ -4,8 +4,7 @@ ghost use Rattle.std.specs.Prelude.{◌≡◌};
 ghost use Rattle.txn_codec.specs.Kinds.{create_kind, operation_kind, body_kind};
 
 use crate::kind::TxnKind;
-use jute::Acl;
-use paths_and_acls::Path;
+use paths_and_acls::{AclField, Path};
 use settings::Dialect;
 use std::alloc::AllocError;
 use values::{Blob, Listed};
@@ -43,7 +42,7 @@ pub enum Owner {
 pub struct Create {
     pub path: Path,
     pub bytes: Option<Blob>,
-    pub acl: Option<Listed<Acl>>,
+    pub acl: AclField,
     pub owner: Owner,
     /// The reply shows the node's Stat. It does for a container and for a node with a time to live.
     pub asks_stat: bool,
@@ -75,7 +74,7 @@ pub struct SetData {
 #[derive(Clone, Debug, Drop)]
 pub struct SetAcl {
     pub path: Path,
-    pub acl: Option<Listed<Acl>>,
+    pub acl: AclField,
     /// The node's aversion after the write.
     pub version: i32,
 }

@@ -2,13 +2,12 @@
 
 ghost use Rattle.std.specs.Prelude.{◌<◌, ◌^◌, IfOk, length};
 
-use jute::codes::open_list;
-use jute::{Acl, ReadRecord, Reader, WriteRecord};
-use paths_and_acls::Path;
+use jute::{ReadRecord, Reader, WriteRecord};
+use paths_and_acls::{AclField, Path};
 use std::alloc::Global;
 use std::test::Fail;
 use txn_codec::{Check, Create, Owner, SetAcl, SetData};
-use values::{Blob, Listed, NoMemory, ReadError};
+use values::{Blob, NoMemory, ReadError};
 
 // The version 4 of /a is compared.
 const CHECK: &[u8; 10] = b"\0\0\0\x02/a\0\0\0\x04";
@@ -41,8 +40,8 @@ fn is_x(alloc: Global, bytes: &Option<Blob>) -> Result<bool, NoMemory> {
 }
 
 // Whether it is the open list.
-fn is_open(alloc: Global, acls: &Option<Listed<Acl>>) -> Result<bool, NoMemory> {
-    Ok(*acls == Some(open_list(alloc)?))
+fn is_open(acl: &AclField) -> Result<bool, NoMemory> {
+    Ok(acl.to_list()?.listed().is_none())
 }
 
 fn is_check(alloc: Global, bytes: &[u8]) -> Result<bool, ReadError> {
@@ -87,14 +86,14 @@ fn is_set_acl(alloc: Global, bytes: &[u8]) -> Result<bool, ReadError> {
     let mut reader = Reader::new(bytes);
     let set = SetAcl::read(alloc, &mut reader)?;
     let is_set = set.path.as_str() == "/a" && set.version == 2 && reader.rest().is_empty();
-    Ok(is_set && is_open(alloc, &set.acl)?)
+    Ok(is_set && is_open(&set.acl)?)
 }
 
 #[tactic(auto, unfolding(jute::specs::Owned::acl_in, jute::specs::Owned::id_in))]
 fn set_acl_written(alloc: Global) -> Result<Vec<u8>, Fail> {
     let set = SetAcl {
         path: a_path(alloc)?,
-        acl: Some(open_list(alloc)?),
+        acl: AclField::open(),
         version: 2,
     };
     let mut out = Vec::new(alloc);
@@ -107,7 +106,7 @@ fn is_create(alloc: Global, bytes: &[u8]) -> Result<bool, ReadError> {
     let create = Create::read(alloc, &mut reader)?;
     let is_of_session = create.owner == Owner::Client && create.parent_cversion == 3;
     let is_whole = create.path.as_str() == "/a" && reader.rest().is_empty();
-    let holds = is_x(alloc, &create.bytes)? && is_open(alloc, &create.acl)?;
+    let holds = is_x(alloc, &create.bytes)? && is_open(&create.acl)?;
     Ok(is_of_session && is_whole && holds)
 }
 
@@ -116,7 +115,7 @@ fn create_written(alloc: Global) -> Result<Vec<u8>, Fail> {
     let create = Create {
         path: a_path(alloc)?,
         bytes: Some(Blob::new(alloc, b"x")?),
-        acl: Some(open_list(alloc)?),
+        acl: AclField::open(),
         owner: Owner::Client,
         asks_stat: false,
         parent_cversion: 3,

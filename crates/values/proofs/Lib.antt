@@ -4,5 +4,3 @@ pub mod Gaining
 pub mod Keyed
 -- A key inserted into a set and removed again. Public.
 pub mod SetSteps
--- Bytes that are ordered eight at a time.
-pub mod WordOrder

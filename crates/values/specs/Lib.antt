@@ -3,4 +3,3 @@ pub mod Gains
 pub mod Hex
 pub mod Maybe
 pub mod Stored
-pub mod TextOrder

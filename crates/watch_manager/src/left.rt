@@ -60,7 +60,7 @@ impl<'a> UnusedWatches<'a> {
         if !self.table.is_watched(path) {
             return Ok(());
         }
-        self.used.insert(String::from_str(alloc, path)?)?;
+        self.used.insert(alloc, path)?;
         Ok(())
     }
 }

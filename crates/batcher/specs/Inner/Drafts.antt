@@ -1,7 +1,7 @@
 -- The state of a draft of a batch.
 use Rattle.std.specs.Prelude.{◌≡◌, List, length, map}
 use Rattle.std.specs.List.{zip}
-use Rattle.batcher.specs.Inner.Keys.{get_by_path}
+use Rattle.batcher.specs.Inner.Owners.{get_by_path, AreBeside}
 use Rattle.ephemerals.specs.Orders.{Bytes}
 use Rattle.txn_codec.specs.declared.txn.Txn.{Txn}
 use Rattle.data_tree.specs.Commuting.{GroupedTxn}
@@ -18,5 +18,6 @@ tagged_in draft = zip draft.numbers.items (txns_in draft)
 -- The groups, and the index that finds them, are those of its transactions.
 pub record IsDraft (draft : Draft) : Type 0 where
   pub numbers : length draft.numbers.items ≡ length (txns_in draft)
+  pub beside : AreBeside draft.owners
   pub owners : (path : Bytes) → get_by_path draft.owners path ≡ group_with (tagged_in draft) path
   pub groups : draft.groups.items ≡ txn_groups_of (tagged_in draft)

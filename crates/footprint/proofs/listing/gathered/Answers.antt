@@ -8,4 +8,4 @@ loop-path-preserved c =
     one_more c.args.paths.now c.loop-path.path-index c.path-item.result c.loop-path-test.true c.path-item.is
     c.loop-path.names c.insert.new.self c.loop-path.invariant
     (c.in_ok-insert.ensures.ok
-    ∙ ap (set.insert c.loop-path.names) (c.in_ok-from_str.ensures.ok ∙ c.as_str.ensures))
+    ∙ ap (set.insert c.loop-path.names) c.as_str.ensures)

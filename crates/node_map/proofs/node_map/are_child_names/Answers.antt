@@ -1,4 +1,5 @@
-use Rattle.std.proofs.Common.{◌≡◌, true, String, Global, string_bytes, sym, subst}
+use Rattle.std.proofs.Common.{◌≡◌, true, sym, subst}
+use Rattle.ephemerals.specs.Orders.{Bytes}
 use Rattle.node_map.specs.Agreement.{is_child_name, AreChildNames}
 use Rattle.node_map.proofs.Deciding.{Decides}
 use Rattle.node_map.proofs.Links.{all_texts}
@@ -9,7 +10,7 @@ loop-name-init c = (
   tt,
   tt,
   subst
-      (λ ks. Decides (λ (k : String Global). is_child_name (string_bytes k) ≡ true) (AreChildNames c.args.names.now) ks)
+      (λ ks. Decides (λ (k : Bytes). is_child_name k ≡ true) (AreChildNames c.args.names.now) ks)
       (sym c.into_iter-name-iterator.ensures.into_iter_gives)
       (all_texts (λ name. is_child_name name ≡ true) c.args.names.now c.iter-name-items.result
       c.iter-name-items.ensures.members),

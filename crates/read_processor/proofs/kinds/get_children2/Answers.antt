@@ -20,7 +20,7 @@ pub returns-in_default : goal.returns-in_default
 unfolding get_children2_response
 returns-in_default c =
     let node = c.args.node.now in
-    let long = rw c.iter.ensures.texts at c.in_default.ensures in
+    let long = c.in_default.ensures in
     sym (too_long (children node ++ numbers node) (omega (arith, long, length-append (children node) (numbers node))))
 
 pub written_len-requires-clause-writable : goal.written_len-requires-clause-writable
@@ -33,7 +33,7 @@ pub returns-in_default-with_bytes : goal.returns-in_default-with_bytes
 unfolding get_children2_response
 returns-in_default-with_bytes c =
     let node = c.args.node.now in
-    let front = rw c.iter.ensures.texts at c.in-Some.ensures in
+    let front = c.in-Some.ensures in
     let back = rw c.shown-stat.ensures at c.written_len.ensures in
     let whole = length-append (children node) (numbers node) in
     let far = c.in_default-with_bytes.ensures in
@@ -43,10 +43,10 @@ pub returns : goal.returns
 unfolding get_children2_response
 returns c =
     let node = c.args.node.now in
-    let front = rw c.iter.ensures.texts at c.in-Some.ensures in
+    let front = c.in-Some.ensures in
     let back = rw c.shown-stat.ensures at c.written_len.ensures in
     let whole = length-append (children node) (numbers node) in
-    let named : c.in_ok-body.body ≡ children node = rw c.iter-2.ensures.texts at c.in_ok-body.ensures in
+    let named : c.in_ok-body.body ≡ children node = c.in_ok-body.ensures in
     let is : c.in_ok-with_stat.field-0 ≡ children node ++ numbers node =
     rw (named, c.shown-stat.ensures) at c.in_ok-with_stat.ensures in
     ap (λ (l : List ℕ). Some l) is

@@ -1,4 +1,4 @@
-use Rattle.std.proofs.Common.{◌≡◌, refl, sym, ◌∙◌, arith, length}
+use Rattle.std.proofs.Common.{◌≡◌, refl, sym, ap, ◌∙◌, ◌++◌, ◌∷◌, [], arith, length}
 use Rattle.batcher.proofs.Drafting.{full_takes_none, without_group, past_the_last, into_group}
 use Rattle.batcher.proofs.draft.Draft.take.Goals as goal
 
@@ -15,7 +15,7 @@ returns-in-None-clause-taken c =
       without_group c.args.limits.now c.args.self.now c.requires.draft c.args.txn.now (omega arith)
           (sym c.in_ok-is_barrier.ensures ∙ c.if-branch.false) c.args.paths.now c.requires.paths
           (sym c.in_ok-group_for.ensures.group ∙ c.in-None.is),
-      refl,
+      c.in_ok-group_for.ensures.taken,
     )
 
 pub returns-then-group-groups-clause-taken : goal.returns-then-group-groups-clause-taken
@@ -26,7 +26,7 @@ returns-then-group-groups-clause-taken c =
       past_the_last c.args.limits.now c.args.self.now c.requires.draft c.args.txn.now (omega arith)
           (sym c.in_ok-is_barrier.ensures ∙ c.if-branch.false) c.args.paths.now c.requires.paths c.in-Some.group
           (sym c.in_ok-group_for.ensures.group ∙ c.in-Some.is) (omega arith),
-      refl,
+      c.in_ok-group_for.ensures.taken,
     )
 
 pub returns-clause-taken : goal.returns-clause-taken
@@ -39,6 +39,6 @@ returns-clause-taken c =
         into_group c.args.limits.now c.args.self.now c.requires.draft c.args.txn.now (omega arith)
             (sym c.in_ok-is_barrier.ensures ∙ c.if-branch.false) c.args.paths.now c.requires.paths c.in-Some.group
             (sym c.in_ok-group_for.ensures.group ∙ c.in-Some.is) (omega arith),
-        c.in_ok-add-in-Some.ensures.taken,
+        c.in_ok-add-in-Some.ensures.taken ∙ ap (λ ts. ts ++ (c.in-Some.group, c.args.txn.now) ∷ []) c.in_ok-group_for.ensures.taken,
       ),
     )

@@ -1,4 +1,4 @@
-use Rattle.std.proofs.Common.{arith, ◌≡◌, ap, sym, ◌∙◌, string_bytes}
+use Rattle.std.proofs.Common.{arith, ◌≡◌, ap, sym, ◌∙◌}
 use Rattle.std.specs.FinMap as finmap
 use Rattle.std.proofs.Math.Path.{subst}
 use Rattle.std.proofs.lemmas.Grind.{common_steps}
@@ -19,9 +19,7 @@ use Rattle.data_tree.proofs.tree.Tree.create.Goals as goal
 pub returns-in-Taken : goal.returns-in-Taken
 returns-in-Taken c =
     let parent : c.parent-parent.result.now ≡ parent_of c.args.create.now.path = c.parent-parent.ensures in
-    let name : string_bytes c.in_ok-name.name ≡ name_of c.args.create.now.path =
-    c.in_ok-name.ensures.ok
-    ∙ c.name.ensures in
+    let name : c.name.result.now ≡ name_of c.args.create.now.path = c.name.ensures in
     let before : State =
     record { nodes = c.self.inside.nodes; pairs = c.self.inside.ephemerals; sessions = c.self.inside.timeouts } in
     let front : c.truncate-in-Taken.new.self.items ≡ c.args.triggers.now.items = grind (arith, common_steps) in
@@ -46,15 +44,13 @@ returns-in-Taken c =
 
 pub returns-in-Err : goal.returns-in-Err
 returns-in-Err c =
-    let name : string_bytes c.in_ok-name.name ≡ name_of c.args.create.now.path =
-    c.in_ok-name.ensures.ok
-    ∙ c.name.ensures in
+    let name : c.name.result.now ≡ name_of c.args.create.now.path = c.name.ensures in
     let kept = c.self-in-Added.view_is ∙ c.in-Err.ensures.err in
     let nodes : c.undo_add_child.new.self ≡ c.self.inside.nodes =
     c.undo_add_child.ensures
     ∙ (λ i. update_node ((ap (λ (s : State). s.nodes) kept ∙ c.in_ok-add_child.ensures.state) i)
     c.parent-parent.result.now (without_added_child ((c.name-in-Err.ensures ∙ sym name) i) c.in-Added.stat))
-    ∙ undone_child c.self.inside.nodes c.parent-parent.result.now (string_bytes c.in_ok-name.name) c.args.header.now
+    ∙ undone_child c.self.inside.nodes c.parent-parent.result.now c.name.result.now c.args.header.now
     c.args.create.now c.in-Added.stat
     (sym c.in-Added.is ∙ c.in_ok-add_child.ensures.outcome) in
     (λ i. record { nodes = nodes i; pairs = (kept i).pairs; sessions = (kept i).sessions }) ∙ c.self.view_is

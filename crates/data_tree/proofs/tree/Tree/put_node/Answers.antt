@@ -1,4 +1,4 @@
-use Rattle.std.proofs.Common.{rules, ◌≡◌, true, false, not, sym, ap, ◌∙◌, string_bytes}
+use Rattle.std.proofs.Common.{rules, ◌≡◌, true, false, not, sym, ap, ◌∙◌}
 use Rattle.std.specs.FinMap as finmap
 use Rattle.paths_and_acls.specs.Paths.{is_root, parent_of, name_of}
 use Rattle.node_map.specs.Agreement.{has_node}
@@ -18,7 +18,7 @@ returns-in-Taken-clause-placed c =
     record { nodes = c.self.inside.nodes; pairs = c.self.inside.ephemerals; sessions = c.self.inside.timeouts } in
     let other : is_root c.args.path.now ≡ false = search rules in
     let parent : c.parent.result.now ≡ parent_of c.args.path.now = c.parent.ensures in
-    let name : string_bytes c.in_ok-name.name ≡ name_of c.args.path.now = c.in_ok-name.ensures.ok ∙ c.name.ensures in
+    let name : c.name.result.now ≡ name_of c.args.path.now = c.name.ensures in
     let nodes : c.add_name.new.self ≡ (listing s c.args.path.now).nodes =
     c.in_ok-add_name.ensures.state
     ∙ (λ i. update_node c.self.inside.nodes (parent i) (with_name (name i))) in
@@ -37,7 +37,7 @@ returns-in-Taken-clause-state c =
     record { nodes = c.self.inside.nodes; pairs = c.self.inside.ephemerals; sessions = c.self.inside.timeouts } in
     let other : is_root c.args.path.now ≡ false = search rules in
     let parent : c.parent.result.now ≡ parent_of c.args.path.now = c.parent.ensures in
-    let name : string_bytes c.in_ok-name.name ≡ name_of c.args.path.now = c.in_ok-name.ensures.ok ∙ c.name.ensures in
+    let name : c.name.result.now ≡ name_of c.args.path.now = c.name.ensures in
     let nodes : c.add_name.new.self ≡ (listing s c.args.path.now).nodes =
     c.in_ok-add_name.ensures.state
     ∙ (λ i. update_node c.self.inside.nodes (parent i) (with_name (name i))) in
@@ -56,10 +56,10 @@ returns-in-Taken-clause-state c =
 pub returns-in-Taken-clause-err : goal.returns-in-Taken-clause-err
 returns-in-Taken-clause-err c =
     let parent : c.parent.result.now ≡ parent_of c.args.path.now = c.parent.ensures in
-    let name : string_bytes c.in_ok-name.name ≡ name_of c.args.path.now = c.in_ok-name.ensures.ok ∙ c.name.ensures in
+    let name : c.name.result.now ≡ name_of c.args.path.now = c.name.ensures in
     let nodes : c.add_name.new.self ≡ c.self.inside.nodes =
     c.in_ok-add_name.ensures.state
-    ∙ kept_name c.self.inside.nodes c.parent.result.now (string_bytes c.in_ok-name.name)
+    ∙ kept_name c.self.inside.nodes c.parent.result.now c.name.result.now
     (sym c.in-Taken.is ∙ c.in_ok-add_name.ensures.outcome) in
     where_err c.place_new_node.result
     (λ e. e
@@ -73,7 +73,7 @@ returns-in-Ok-true-clause-placed c =
     record { nodes = c.self.inside.nodes; pairs = c.self.inside.ephemerals; sessions = c.self.inside.timeouts } in
     let other : is_root c.args.path.now ≡ false = search rules in
     let parent : c.parent.result.now ≡ parent_of c.args.path.now = c.parent.ensures in
-    let name : string_bytes c.in_ok-name.name ≡ name_of c.args.path.now = c.in_ok-name.ensures.ok ∙ c.name.ensures in
+    let name : c.name.result.now ≡ name_of c.args.path.now = c.name.ensures in
     let nodes : c.add_name.new.self ≡ (listing s c.args.path.now).nodes =
     c.in_ok-add_name.ensures.state
     ∙ (λ i. update_node c.self.inside.nodes (parent i) (with_name (name i))) in
@@ -93,7 +93,7 @@ returns-in-Ok-true-clause-state c =
     record { nodes = c.self.inside.nodes; pairs = c.self.inside.ephemerals; sessions = c.self.inside.timeouts } in
     let other : is_root c.args.path.now ≡ false = search rules in
     let parent : c.parent.result.now ≡ parent_of c.args.path.now = c.parent.ensures in
-    let name : string_bytes c.in_ok-name.name ≡ name_of c.args.path.now = c.in_ok-name.ensures.ok ∙ c.name.ensures in
+    let name : c.name.result.now ≡ name_of c.args.path.now = c.name.ensures in
     let nodes : c.add_name.new.self ≡ (listing s c.args.path.now).nodes =
     c.in_ok-add_name.ensures.state
     ∙ (λ i. update_node c.self.inside.nodes (parent i) (with_name (name i))) in
@@ -119,7 +119,7 @@ returns-in-Ok-false-clause-placed c =
     record { nodes = c.self.inside.nodes; pairs = c.self.inside.ephemerals; sessions = c.self.inside.timeouts } in
     let other : is_root c.args.path.now ≡ false = search rules in
     let parent : c.parent.result.now ≡ parent_of c.args.path.now = c.parent.ensures in
-    let name : string_bytes c.in_ok-name.name ≡ name_of c.args.path.now = c.in_ok-name.ensures.ok ∙ c.name.ensures in
+    let name : c.name.result.now ≡ name_of c.args.path.now = c.name.ensures in
     let nodes : c.add_name.new.self ≡ (listing s c.args.path.now).nodes =
     c.in_ok-add_name.ensures.state
     ∙ (λ i. update_node c.self.inside.nodes (parent i) (with_name (name i))) in
@@ -141,7 +141,7 @@ returns-in-Ok-false-clause-state c =
     record { nodes = c.add_name.new.self; pairs = c.self.inside.ephemerals; sessions = c.self.inside.timeouts } in
     let other : is_root c.args.path.now ≡ false = search rules in
     let parent : c.parent.result.now ≡ parent_of c.args.path.now = c.parent.ensures in
-    let name : string_bytes c.in_ok-name.name ≡ name_of c.args.path.now = c.in_ok-name.ensures.ok ∙ c.name.ensures in
+    let name : c.name.result.now ≡ name_of c.args.path.now = c.name.ensures in
     let nodes : c.add_name.new.self ≡ (listing s c.args.path.now).nodes =
     c.in_ok-add_name.ensures.state
     ∙ (λ i. update_node c.self.inside.nodes (parent i) (with_name (name i))) in
@@ -160,7 +160,7 @@ returns-in-Ok-false-clause-state c =
     ∙ (λ i. update_node ((ap (λ (t : State). t.nodes) kept ∙ c.in_ok-add_name.ensures.state) i)
     ((c.parent-in-Ok-false.ensures ∙ sym c.parent.ensures) i)
     (without_name ((c.name-in-Ok-false.ensures ∙ sym name) i)))
-    ∙ undone_name c.self.inside.nodes c.parent.result.now (string_bytes c.in_ok-name.name) c.in-Added.field-0
+    ∙ undone_name c.self.inside.nodes c.parent.result.now c.name.result.now c.in-Added.field-0
     (sym c.in-Added.is ∙ c.in_ok-add_name.ensures.outcome) in
     (λ i. record { nodes = taken_out i; pairs = (kept i).pairs; sessions = (kept i).sessions })
     ∙ refused s c.args.path.now c.args.node other
@@ -170,13 +170,13 @@ returns-in-Ok-false-clause-state c =
 
 pub returns-in-Err-clause-err : goal.returns-in-Err-clause-err
 returns-in-Err-clause-err c =
-    let name : string_bytes c.in_ok-name.name ≡ name_of c.args.path.now = c.in_ok-name.ensures.ok ∙ c.name.ensures in
+    let name : c.name.result.now ≡ name_of c.args.path.now = c.name.ensures in
     let kept = c.self-in-Added.view_is ∙ c.in-Err.ensures.err in
     let taken_out : c.remove_name-in-Err.new.self ≡ c.self.inside.nodes =
     c.remove_name-in-Err.ensures
     ∙ (λ i. update_node ((ap (λ (t : State). t.nodes) kept ∙ c.in_ok-add_name.ensures.state) i)
     ((c.parent-in-Err.ensures ∙ sym c.parent.ensures) i)
     (without_name ((c.name-in-Err.ensures ∙ sym name) i)))
-    ∙ undone_name c.self.inside.nodes c.parent.result.now (string_bytes c.in_ok-name.name) c.in-Added.field-0
+    ∙ undone_name c.self.inside.nodes c.parent.result.now c.name.result.now c.in-Added.field-0
     (sym c.in-Added.is ∙ c.in_ok-add_name.ensures.outcome) in
     (λ i. record { nodes = taken_out i; pairs = (kept i).pairs; sessions = (kept i).sessions }) ∙ c.self.view_is

@@ -1,4 +1,4 @@
-use Rattle.std.proofs.Common.{◌≡◌, map, string_bytes}
+use Rattle.std.proofs.Common.{◌≡◌}
 use Rattle.ephemerals.specs.Orders.{sorted_names}
 use Rattle.ephemerals.specs.Inner.Steps.{without_listed_paths}
 use Rattle.ephemerals.proofs.owners.Ephemerals.drop_at.Given as goal
@@ -7,5 +7,5 @@ abbrev pub invariant-loop-path : goal.invariant-loop-path
 invariant-loop-path l =
     (goal.iterator-loop-path).can_next l.path-iterator
     × (goal.iterator-loop-path).is_finite l.path-iterator
-    × (without_listed_paths (map string_bytes l.path-iterator) l.self
+    × (without_listed_paths l.path-iterator l.self
     ≡ without_listed_paths (sorted_names l.paths) l.fn.self)

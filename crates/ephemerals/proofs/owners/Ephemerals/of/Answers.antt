@@ -23,7 +23,7 @@ loop-path-preserved c =
     (subst (λ ps. IsAdding path_total exact_bytes set.empty whole ps c.loop-path.paths)
     (next_element all c.loop-path.path-index c.path-item.result c.loop-path-test.true c.path-item.is) c.loop-path.invariant)
     (c.in_ok-insert.ensures.ok
-    ∙ ap (set.insert c.loop-path.paths) (c.in_ok-from_str.ensures.ok ∙ c.as_str.ensures))
+    ∙ ap (set.insert c.loop-path.paths) c.as_str.ensures)
 
 pub returns : goal.returns
 returns c =

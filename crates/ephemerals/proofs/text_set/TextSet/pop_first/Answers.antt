@@ -1,19 +1,37 @@
-use Rattle.ephemerals.proofs.TextSets.{popped_first, popped_none}
-use Rattle.std.proofs.Common.{subst, IfSome, IfNone, ◌≡◌, ◌∷◌, [], string_bytes}
-use Rattle.ephemerals.specs.Orders.{sorted_names, Names}
-use Rattle.ephemerals.specs.Inner.NamesView.{names_of}
+use Rattle.std.proofs.Common.{◌≡◌, ℕ, suc, ◌+◌, ◌-◌, ◌<◌, ◌≤◌, List, [], ◌∷◌, ◌++◌, length, take, drop, get_or, true, false, not, Ok, IfOk, IfErr, rules, refl, sym, ap, subst, ◌∙◌, arith}
+use Rattle.std.specs.FinSet as set
+use Rattle.std.proofs.lemmas.Map.Lookups.{exact_bytes}
+use Rattle.ephemerals.proofs.Totals.{path_total}
+use Rattle.ephemerals.specs.Orders.{Bytes, Names, path_cmp, sorted_names}
+use Rattle.ephemerals.specs.Inner.Runs.{joined, names_in, texts_before, AreFilled, AreRuns, AreBelow, AreAbove, IsAt, IsGapFor, ends_below}
+use Rattle.ephemerals.specs.Inner.Placed.{texts_before_place}
+use Rattle.ephemerals.proofs.Places.{inserted_again}
+use Rattle.ephemerals.proofs.TextSets.{without_text, in_order, none_left}
 use Rattle.ephemerals.proofs.text_set.TextSet.pop_first.Goals as goal
+
+pub returns-then-is_empty-clause-none : goal.returns-then-is_empty-clause-none
+returns-then-is_empty-clause-none c =
+    let runs = c.self.inside.runs.items in
+    let none : length runs ≡ 0 = search rules in
+    ap (λ (s : Names). sorted_names s) (sym c.self.view_is)
+    ∙ in_order (joined runs) c.self.invariant.0.ascending
+    ∙ none_left runs none
+
+pub invariant_of-self : goal.invariant_of-self
+invariant_of-self c =
+    let runs = c.self.inside.runs.items in
+    let text = c.take-text.result in
+    let left = c.take-text.new.runs.items in
+    let without = without_text text runs left 0 c.self.invariant.0 c.take-text.ensures.text c.take-text.ensures.filled c.take-text.ensures.rest in
+    (without.are, omega (arith, without.len, c.self.invariant.1))
 
 pub returns-clause-first : goal.returns-clause-first
 returns-clause-first c =
-    let P : Names → Type 0 =
-    λ s. IfSome c.pop_first.result
-    (λ text. sorted_names s ≡ string_bytes text ∷ sorted_names (names_of c.pop_first.new.self.keys)) in
-    subst P c.self.view_is
-    (popped_first c.pop_first.result c.self.inside.texts.keys c.pop_first.new.self.keys c.pop_first.ensures.removal
-    c.pop_first.ensures.all_above c.pop_first.ensures.ordered)
-
-pub returns-clause-none : goal.returns-clause-none
-returns-clause-none c =
-    let P : Names → Type 0 = λ s. IfNone c.pop_first.result (sorted_names s ≡ []) in
-    subst P c.self.view_is (popped_none c.pop_first.result c.self.inside.texts.keys c.pop_first.ensures.variant)
+    let runs = c.self.inside.runs.items in
+    let text = c.take-text.result in
+    let left = c.take-text.new.runs.items in
+    let without = without_text text runs left 0 c.self.invariant.0 c.take-text.ensures.text c.take-text.ensures.filled c.take-text.ensures.rest in
+    ap (λ (s : Names). sorted_names s) (sym c.self.view_is)
+    ∙ in_order (joined runs) c.self.invariant.0.ascending
+    ∙ inserted_again (joined runs) 0 text c.take-text.ensures.text
+    ∙ ap (λ (ts : List Bytes). text ∷ ts) (sym c.take-text.ensures.rest ∙ sym (in_order (joined left) without.are.ascending))

@@ -1,4 +1,4 @@
-use Rattle.std.proofs.Common.{◌≡◌, true, ap, sym, ◌∙◌, string_bytes, int_lt, if◌then◌else◌}
+use Rattle.std.proofs.Common.{◌≡◌, true, ap, sym, ◌∙◌, int_lt, if◌then◌else◌}
 use Rattle.std.specs.FinSet as set
 use Rattle.std.proofs.lemmas.Map.Lookups.{exact_bytes}
 use Rattle.node_map.specs.declared.node.Node.{Node}
@@ -12,12 +12,12 @@ use Rattle.node_map.proofs.node.Node.add_child.Goals as goal
 pub returns-clause-state : goal.returns-clause-state
 returns-clause-state c =
     let before : Node = c.args.self.now in
-    let taken : set.contains before.children (string_bytes c.args.name) ≡ true =
-    not-false (set.contains before.children (string_bytes c.args.name))
+    let taken : set.contains before.children c.args.name.now ≡ true =
+    not-false (set.contains before.children c.args.name.now)
     (sym c.in_ok-added.ensures.added ∙ c.if-added.false) in
     let same : c.insert.new.self ≡ before.children =
     c.in_ok-added.ensures.ok
-    ∙ sym (insert-present path_total exact_bytes before.children (string_bytes c.args.name) taken) in
+    ∙ sym (insert-present path_total exact_bytes before.children c.args.name.now taken) in
     (λ i. record before {
       stat =
           (c.higher_stat-self.ensures
@@ -25,4 +25,4 @@ returns-clause-state c =
           c.stat_after_create-after.ensures) i;
       children = same i;
     })
-    ∙ sym (added_child_taken c.args.header.now c.args.create.now (string_bytes c.args.name) before taken)
+    ∙ sym (added_child_taken c.args.header.now c.args.create.now c.args.name.now before taken)

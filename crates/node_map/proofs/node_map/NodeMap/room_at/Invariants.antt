@@ -1,4 +1,3 @@
-use Rattle.std.proofs.Common.{map, string_bytes}
 use Rattle.node_map.proofs.MovedNodes.{HasRoomFor}
 use Rattle.node_map.proofs.node_map.NodeMap.room_at.Given as goal
 
@@ -6,4 +5,4 @@ abbrev pub invariant-loop-path : goal.invariant-loop-path
 invariant-loop-path l =
     (goal.iterator-loop-path).can_next l.path-iterator
     × (goal.iterator-loop-path).is_finite l.path-iterator
-    × HasRoomFor l.paths l.self (map string_bytes l.path-iterator) l.room
+    × HasRoomFor l.paths l.self l.path-iterator l.room

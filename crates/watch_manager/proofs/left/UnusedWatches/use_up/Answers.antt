@@ -1,5 +1,4 @@
 use Rattle.std.proofs.Common.{ap, sym, ◌∙◌}
-use Rattle.std.specs.FinSet as set
 use Rattle.watch_manager.specs.Pairs.{without_watches_on}
 use Rattle.watch_manager.specs.Inner.Telling.{watches_elsewhere}
 use Rattle.watch_manager.proofs.Lefts.{but_on-insert, unwatched_left}
@@ -14,7 +13,6 @@ returns-then-not-is_watched c =
 
 pub returns : goal.returns
 returns c =
-    ap (λ u. watches_elsewhere u c.self.inside.table.now) (c.in_ok-insert.ensures.ok
-    ∙ ap (λ p. set.insert c.self.inside.used p) c.in_ok-from_str.ensures.ok)
+    ap (λ u. watches_elsewhere u c.self.inside.table.now) c.in_ok-insert.ensures.ok
     ∙ but_on-insert c.self.inside.used c.self.inside.table.now c.args.path.now
     ∙ ap (λ s. without_watches_on c.args.path.now s) c.self.view_is

@@ -1,0 +1,2 @@
+-- The model of the type's private field. No caller depends on this.
+pub mod View
