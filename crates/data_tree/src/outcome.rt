@@ -28,7 +28,7 @@ enum StoredTriggers {
 }
 
 /// The triggers of a transaction, in order; its model is the list of them. One alone takes no block of memory.
-#[derive(Debug, Drop)]
+#[derive(Debug)]
 pub struct Triggers {
     stored: StoredTriggers,
 }
@@ -75,6 +75,14 @@ impl Triggers {
         ensures { result ≡ length self.now }
     {
         self.as_slice().len()
+    }
+}
+
+// By hand, so that what drops triggers calls this, and doesn't branch on where they are.
+impl Drop for Triggers {
+    fn drop(self) {
+        let Triggers { stored } = self;
+        drop(stored);
     }
 }
 
