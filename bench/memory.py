@@ -5,16 +5,20 @@
     bench/memory.py PROGRAM --checkpoint 0    without checkpoints, for comparison (--count 2000000 is enough)
     bench/memory.py PROGRAM --nodes 1000000   beside so many nodes, on which the pause of a checkpoint rests
     bench/memory.py PROGRAM --rate 0          as fast as they are taken
+    bench/memory.py PROGRAM --turnover 1000000 --parts 10    nodes that are all created and then all deleted, in turns
 
 It is the leader: it brings the observer up to date, makes the nodes, and sends the transactions, 50,000 a second, many
 in each write: they are written beforehand, so that only their zxids are filled in. (A checkpoint that is due waits
 until ten times what the last one took went by, or twice as much came: so on a busy machine the log may get twice as
 long.) Of ten transactions seven set the data of a node, one creates a node, one deletes it again, and one is a write
-that the leader refuses. After each part a PING is sent, whose answer shows that all of it was applied, and the
-resident set is read. A client reads all the while, one request after the other, and its longest wait is measured. The
-exit status is 0 if the greatest resident set of the last half is less than 2% above the greatest of the half before.
+that the leader refuses. With --turnover so many nodes are created below one of those that stay and then deleted, over
+and over, and no path comes twice. After each part a PING is sent, whose answer shows that all of it was applied, and
+the resident set is read. A client reads all the while, one request after the other, and its longest wait is measured.
+The exit status is 0 if the greatest resident set of the last half is less than 2% above the greatest of the half
+before.
 """
 import argparse
+import itertools
 import os
 import re
 import resource
@@ -78,6 +82,18 @@ def chunks(paths, content, number):
             bodies.append((ERROR, struct.pack(">i", -110)))
         found.append(Chunk(bodies))
     return found
+
+
+def turnover(parent, content, number):
+    """Yields the transactions of writes without end: nodes that are all created and then all deleted, in turns."""
+    turn = 0
+    while True:
+        paths = [b"%s/t%d-%07d" % (parent, turn, at) for at in range(number)]
+        for at in range(0, number, CHUNK):
+            yield Chunk([(generate.CREATE, generate.create(it, content)) for it in paths[at : at + CHUNK]])
+        for at in range(0, number, CHUNK):
+            yield Chunk([(DELETE, generate.text(it)) for it in paths[at : at + CHUNK]])
+        turn += 1
 
 
 class Server:
@@ -210,13 +226,16 @@ def measure(options):
     content = b"x" * options.content
     paths = make(server, options.nodes, content)
     print(f"{options.nodes:,} nodes: {server.resident():,} KiB", flush=True)
-    prepared = chunks(paths, content, 100)
+    if options.turnover:
+        sent = turnover(paths[0], content, options.turnover)
+    else:
+        sent = itertools.cycle(chunks(paths, content, 100))
     waits = Waits(server.port, paths[0])
     waits.start()
     sizes, began, part = [server.resident()], time.perf_counter(), options.count // options.parts
     for number in range(options.parts):
         for at in range(part // CHUNK):
-            server.take(prepared[at % len(prepared)])
+            server.take(next(sent))
             if options.rate:
                 due = began + (number * part + (at + 1) * CHUNK) / options.rate
                 time.sleep(max(0, due - time.perf_counter()))
@@ -251,6 +270,7 @@ def main():
         ("checkpoint", 64, "the program's option"),
         ("rate", 50_000, "how many are sent in a second; 0: as many as are taken"),
         ("parts", 100, "how often the resident set is read"),
+        ("turnover", 0, "how many nodes are created and then deleted, in place of the mix; 0: none"),
     ):
         parser.add_argument(f"--{name}", type=int, default=number, help=f"{what} ({number:,})")
     parser.add_argument("program")
