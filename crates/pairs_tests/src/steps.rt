@@ -75,6 +75,23 @@ fn taken(rt: &impl Abort, alloc: Global) -> Result<(), Fail> {
     Ok(())
 }
 
+// The pairs of one text, in a set that had none.
+fn with_one_text(alloc: Global) -> Result<Pairs, Fail> {
+    let pairs = some_pairs(alloc)?;
+    let mut others = Pairs::new(alloc);
+    others.add_of_text(alloc, "/b", &pairs)?;
+    Ok(others)
+}
+
+// All pairs, in a set that had one.
+fn with_all(alloc: Global) -> Result<Pairs, Fail> {
+    let pairs = some_pairs(alloc)?;
+    let mut others = Pairs::new(alloc);
+    others.insert(alloc, "/c", 9)?;
+    others.add_all(alloc, &pairs)?;
+    Ok(others)
+}
+
 // Texts and numbers that some have and others don't.
 fn beyond(rt: &impl Abort, alloc: Global) -> Result<(), Fail> {
     let (pairs, none) = (some_pairs(alloc)?, Pairs::new(alloc));
@@ -99,6 +116,22 @@ fn removing(rt: HostRuntime) -> Result<(), Fail> {
 #[test]
 fn taking(rt: HostRuntime) -> Result<(), Fail> {
     taken(&rt, rt.alloc())
+}
+
+#[test]
+fn adding_a_text(rt: HostRuntime) -> Result<(), Fail> {
+    let alloc = rt.alloc();
+    let added = with_one_text(alloc)?;
+    assert_eq!(rt; counts(alloc, &added)?.as_str(), "3 1 3");
+    Ok(())
+}
+
+#[test]
+fn adding_all(rt: HostRuntime) -> Result<(), Fail> {
+    let alloc = rt.alloc();
+    let added = with_all(alloc)?;
+    assert_eq!(rt; counts(alloc, &added)?.as_str(), "6 4 4");
+    Ok(())
 }
 
 #[test]
