@@ -30,5 +30,3 @@ mod Errors
 mod Found
 -- Sets of no text and of one.
 mod OneText
--- Different texts are fed to a hasher as different words.
-mod FedApart
