@@ -145,8 +145,14 @@ def rejects_one_more(server):
     assert server.tells(num_alive_connections=2, connection_rejected=1)
 
 
+def is_all_counted(found):
+    """Whether each packet that came was answered, and the answer counted: a client may have it just before."""
+    return found["packets_received"] == found["packets_sent"]
+
+
 def test_figures_of_a_write_that_waits():
     with Metered() as server, server.client() as client:
+        assert wait_until(lambda: is_all_counted(figures(server.metrics)), 5), figures(server.metrics)
         before = figures(server.metrics)["observer_answer_seconds"]
         client.sendall(forwarded.create(5, b"/new"))
         assert server.tells(outstanding_requests=1)

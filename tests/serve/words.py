@@ -37,6 +37,17 @@ def state(server):
     return [int(found[1]), float(found[2]), int(found[3]), *map(int, found.groups()[3:7]), int(found[8], 16), int(found[9])]
 
 
+def state_after(server, before, packets):
+    """The figures of `srvr` once so many packets have come and gone since, this word among those that came. An answer is
+    counted right after it was written, so a client may have it before: each word more is one more of both."""
+    for more in range(50):
+        now = state(server)
+        if (now[3] - before[3], now[4] - before[4]) == (packets + more, packets + more):
+            return now
+        time.sleep(0.1)
+    raise AssertionError((before, now, packets))
+
+
 def figures(server):
     """The figures of `mntr`, by their names without `zk_`."""
     lines = [line.split("\t") for line in server.word(b"mntr").decode().splitlines()]
@@ -63,9 +74,8 @@ def test_what_has_gone_through():
         with server.client() as client:
             client.sendall(PING * 10 + GET)
             assert len(received(client, 10 * PINGED_LEN)) == 10 * PINGED_LEN and got(client)
-            least, average, most, came, went, connections, outstanding, zxid, nodes = state(server)
             # A connect, ten pings, a read, and the two words: this one's answer isn't sent yet when it is made.
-            assert (came - before[3], went - before[4]) == (13, 13), (before, came, went)
+            least, average, most, _, _, connections, outstanding, zxid, nodes = state_after(server, before, 13)
             # The least and the most are whole milliseconds, rounded down.
             assert least <= average < most + 1, (least, average, most)
             # The connection of the word before may not be gone yet.
@@ -186,10 +196,15 @@ def test_counts_begin_anew():
     with Server("--words", "cons,srvr,crst,srst") as server:
         client = server.client()
         assert server.answers(client)
-        assert server.word(b"srst") == b"Server stats reset.\n"
-        # The word that asks for it comes before, its end and this word after.
-        assert state(server)[3:5] == [1, 1], state(server)
-        assert b"recved=2,sent=2)" in server.word(b"cons"), server.word(b"cons")
+
+        def has_begun_anew():
+            assert server.word(b"srst") == b"Server stats reset.\n"
+            # The word that asks for it comes before, its end and this word after. The end of an answer before that may
+            # be counted after it, too.
+            return state(server)[3:5] == [1, 1]
+
+        assert wait_until(has_begun_anew, 5), state(server)
+        assert wait_until(lambda: b"recved=2,sent=2)" in server.word(b"cons"), 5), server.word(b"cons")
         assert server.word(b"crst") == b"Connection stats reset.\n"
         assert b"recved=0,sent=0)" in server.word(b"cons"), server.word(b"cons")
         client.close()
