@@ -125,3 +125,8 @@ module _ {K : Type 0} {R : K → K → Ordering} (o : IsTotalOrder R) (exact : C
   pub adding-untouched : (old whole : set.FinSet R)
       → (set.is_subset old old ≡ true) × (set.is_subset old (set.union old whole) ≡ true)
   adding-untouched old whole = (subset-same old old refl, subset-union old whole)
+
+  pub adding-unchanged : (old whole new : set.FinSet R) → new ≡ old
+      → (set.is_subset old new ≡ true) × (set.is_subset new (set.union old whole) ≡ true)
+  adding-unchanged old whole new same =
+      (subset-same old new (sym same), subset-trans new old (set.union old whole) (subset-same new old same) (subset-union old whole))

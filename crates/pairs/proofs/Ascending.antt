@@ -1,4 +1,4 @@
--- The elements of a set that is listed in order, and numbers that are added one by one.
+-- The elements of a set that is listed in order.
 use Rattle.std.proofs.Common.{◌≡◌, ℕ, List, [], ◌∷◌, Bool, true, false, cond, ◌||◌, Some, is_some, refl, sym, ap, ◌∙◌, map}
 use Rattle.std.specs.declared.cmp.Ordering.{Ordering}
 use Rattle.std.specs.FinMap as finmap
@@ -32,32 +32,6 @@ pub any-sorted : (numbers : Numbers) (n : ℕ) → list_any (eq_by_cmp nat_cmp n
     ≡ set.contains numbers n
 any-sorted numbers n = any-ascending nat_cmp_total (set.items numbers) n ∙ sym (set.contains-items numbers n)
 
--- The set, with the numbers of the list.
-abbrev pub with_numbers : Numbers → List ℕ → Numbers
-with_numbers numbers [] = numbers
-with_numbers numbers (n ∷ ns) = with_numbers (set.insert numbers n) ns
-
-contains-with_numbers : (numbers : Numbers) (ns : List ℕ) (q : ℕ)
-    → set.contains (with_numbers numbers ns) q ≡ (set.contains numbers q || list_any (eq_by_cmp nat_cmp q) ns)
-contains-with_numbers numbers [] q = by (set.contains numbers q)
-  where
-    by : (b : Bool) → b ≡ (b || false)
-    by true = refl
-    by false = refl
-contains-with_numbers numbers (n ∷ ns) q =
-    contains-with_numbers (set.insert numbers n) ns q
-    ∙ ap (λ b. b || list_any (eq_by_cmp nat_cmp q) ns) (set.contains-insert nat_cmp_total numbers n q)
-    ∙ by (eq_by_cmp nat_cmp q n) (set.contains numbers q) (list_any (eq_by_cmp nat_cmp q) ns)
-  where
-    by : (t b c : Bool) → ((t || b) || c) ≡ (b || (t || c))
-    by true true c = refl
-    by true false c = refl
-    by false true c = refl
-    by false false c = refl
-
-pub union-sorted : (numbers others : Numbers)
-    → with_numbers numbers (sorted_numbers others) ≡ set.union numbers others
-union-sorted numbers others = set.same_set nat_cmp_total exact_unsigned _ _ (λ q.
-    contains-with_numbers numbers (sorted_numbers others) q
-    ∙ ap (λ b. set.contains numbers q || b) (any-sorted others q)
-    ∙ sym (set.contains-union nat_cmp_total numbers others q))
+pub listed-sorted : (numbers : Numbers) → set.from_list (sorted_numbers numbers) ≡ numbers
+listed-sorted numbers = set.same_set nat_cmp_total exact_unsigned _ _ (λ q.
+    set.contains-from_list nat_cmp_total (sorted_numbers numbers) q ∙ any-sorted numbers q)

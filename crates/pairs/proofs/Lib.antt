@@ -30,3 +30,5 @@ mod Errors
 mod Found
 -- Sets of no text and of one.
 mod OneText
+-- Different texts are fed to a hasher as different words.
+mod FedApart

@@ -1,6 +1,6 @@
 //! Sets of numbers.
 
-ghost use Rattle.std.specs.Prelude.{◌≡◌, ◌↔◌, ℕ, OnOk, OnErr, IfOk, IsTrue, not};
+ghost use Rattle.std.specs.Prelude.{◌≡◌, ◌↔◌, ℕ, OnOk, OnErr, IfOk, IsTrue, true, not};
 ghost use Rattle.std.specs.Map.Iter.{ShowsInOrder, deref};
 ghost use Rattle.std.specs.FinSet as set;
 ghost use Rattle.pairs.specs.Pairs.{sorted_numbers};
@@ -69,9 +69,11 @@ impl NumberSet {
         Ok(self.numbers.insert(number)?)
     }
 
-    /// Adds each number of the other set. A refused allocation may leave some of them added.
+    /// Adds each number of the other set. A refused allocation takes no number away, and leaves some of the others added.
     pub fn add_all(&mut self, others: &NumberSet) -> Result<(), NoMemory>
-        ensures { OnOk result (self.new ≡ set.union self.old others.now) }
+        ensures ok { OnOk result (self.new ≡ set.union self.old others.now) }
+        ensures err_keeps { OnErr result (set.is_subset self.old self.new ≡ true) }
+        ensures err_adds { OnErr result (set.is_subset self.new (set.union self.old others.now) ≡ true) }
     {
         for number in others.iter() {
             self.insert(*number)?;

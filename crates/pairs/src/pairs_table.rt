@@ -137,9 +137,13 @@ impl Pairs {
         }
     }
 
-    /// Adds the numbers of the text to a set. A refused allocation may leave some of them added.
+    /// Adds the numbers of the text to a set. A refused allocation takes no number away, and leaves some of the text's
+    /// added.
     pub fn add_numbers_of(&self, numbers: &mut NumberSet, text: &str) -> Result<(), NoMemory>
-        ensures { OnOk result (numbers.new ≡ set.union numbers.old (numbers_at text.now self.now)) }
+        ensures ok { OnOk result (numbers.new ≡ set.union numbers.old (numbers_at text.now self.now)) }
+        ensures err_keeps { OnErr result (set.is_subset numbers.old numbers.new ≡ true) }
+        ensures err_adds { let of_text = numbers_at text.now self.now in
+            OnErr result (set.is_subset numbers.new (set.union numbers.old of_text) ≡ true) }
     {
         match self.by_text.of(text) {
             None => return Ok(()),

@@ -1,6 +1,6 @@
 //! The numbers of one text.
 
-ghost use Rattle.std.specs.Prelude.{◌≡◌, ◌↔◌, OnOk, OnErr, IfOk, IsTrue, not};
+ghost use Rattle.std.specs.Prelude.{◌≡◌, ◌↔◌, OnOk, OnErr, IfOk, IsTrue, true, not};
 ghost use Rattle.std.specs.FinSet as set;
 
 use crate::number_set::NumberSet;
@@ -137,9 +137,11 @@ impl Row {
         }
     }
 
-    /// Adds these numbers to a set. A refused allocation may leave some of them added.
+    /// Adds these numbers to a set. A refused allocation takes no number away, and leaves some of these added.
     pub fn add_to(&self, numbers: &mut NumberSet) -> Result<(), NoMemory>
-        ensures { OnOk result (numbers.new ≡ set.union numbers.old self.now) }
+        ensures ok { OnOk result (numbers.new ≡ set.union numbers.old self.now) }
+        ensures err_keeps { OnErr result (set.is_subset numbers.old numbers.new ≡ true) }
+        ensures err_adds { OnErr result (set.is_subset numbers.new (set.union numbers.old self.now) ≡ true) }
     {
         match &self.form {
             RowForm::Empty => return Ok(()),

@@ -15,8 +15,8 @@ returns-then-is_empty c =
 
 pub returns : goal.returns
 returns c =
-    let all = c.in_ok-add_all-2.ensures
-    ∙ ap (λ s. set.union s c.args.lasting.now) (c.in_ok-add_all.ensures
+    let all = c.in_ok-add_all-2.ensures.ok
+    ∙ ap (λ s. set.union s c.args.lasting.now) (c.in_ok-add_all.ensures.ok
     ∙ ap (λ s. set.union s c.args.watchers.now) c.new-all.ensures ∙ union-empty c.args.watchers.now) in
     subst (λ s. OnOk c.tell_each-2.result (c.tell_each-2.new.events.items
     ≡ c.args.events.now.items ++ events_for c.args.kind c.args.path.now (sorted_connections s)))
