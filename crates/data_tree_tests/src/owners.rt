@@ -1,20 +1,17 @@
 //! The owners of paths.
 
+use crate::texts::looped;
 use ephemerals::{Ephemerals, TextSet};
 use std::alloc::Global;
 use std::test::Fail;
 
 // The paths of a session, one after another; a dash if there are none.
 fn paths(alloc: Global, owners: &Ephemerals, session: i64) -> Result<String, Fail> {
-    let mut text = String::new(alloc);
     if !owners.owns_any(session) {
-        text.push_str("-")?;
+        return Ok(String::from_str(alloc, "-")?);
     }
     let paths = owners.of(alloc, session)?;
-    for path in paths.iter() {
-        text.push_str(path.as_str())?;
-    }
-    Ok(text)
+    looped(alloc, &paths)
 }
 
 // The paths of sessions 0, 7 and 9.

@@ -15,7 +15,7 @@ fn insert_all(alloc: Global, set: &mut TextSet, texts: &[&str]) -> Result<String
 }
 
 // The texts one after another, as a loop over them sees them.
-fn looped(alloc: Global, set: &TextSet) -> Result<String, Fail> {
+pub fn looped(alloc: Global, set: &TextSet) -> Result<String, Fail> {
     let mut out = String::new(alloc);
     for text in set.iter() {
         out.push_str(text.as_str())?;

@@ -43,25 +43,37 @@ fn sign_of(trigger: &Trigger) -> (&'static str, &str) {
     }
 }
 
+fn add_error(alloc: Global, text: &mut String, part: &PartResult) -> Result<(), Fail> {
+    let shown = format!(in alloc; " {}", part.err)?;
+    text.push_str(shown.as_str())?;
+    Ok(())
+}
+
 // The errors of the parts.
 fn errors_of(alloc: Global, parts: &[PartResult]) -> Result<String, Fail> {
     let mut text = String::new(alloc);
     for part in parts {
-        text.push_str(format!(in alloc; " {}", part.err)?.as_str())?;
+        add_error(alloc, &mut text, part)?;
     }
     Ok(text)
+}
+
+fn add_stat(alloc: Global, text: &mut String, part: &PartResult) -> Result<(), Fail> {
+    match &part.stat {
+        None => text.push_str(" -")?,
+        Some(stat) => {
+            let shown = format!(in alloc; " {}@{}", stat.version, stat.mzxid)?;
+            text.push_str(shown.as_str())?;
+        }
+    }
+    Ok(())
 }
 
 // The version and the mzxid of each part's Stat, or a dash.
 fn stats_of(alloc: Global, parts: &[PartResult]) -> Result<String, Fail> {
     let mut text = String::new(alloc);
     for part in parts {
-        match &part.stat {
-            None => text.push_str(" -")?,
-            Some(stat) => {
-                text.push_str(format!(in alloc; " {}@{}", stat.version, stat.mzxid)?.as_str())?;
-            }
-        }
+        add_stat(alloc, &mut text, part)?;
     }
     Ok(text)
 }
