@@ -1,0 +1,188 @@
+//! The cells of a base where a tree may differ from it.
+
+ghost use Rattle.std.specs.Prelude.{◌≡◌, true, is_some, IfOk, OnOk, None};
+ghost use Rattle.std.specs.List.{AllByRecursion};
+ghost use Rattle.std.specs.FinSet as set;
+ghost use Rattle.data_tree.specs.Footprint.{footprint, KeepsToCells};
+ghost use Rattle.data_tree.specs.Meaning.{effect_of_txn, state_after, ended_paths};
+ghost use Rattle.based_tree.specs.Inner.{base_of, is_saved, SavesMore, AreSaved, AreSavedEach, IsSavedFrom, deleted_footprint, ended_footprint};
+
+use data_tree::{Cells, HashKey, Timeouts, Tree};
+use ephemerals::TextSet;
+use paths_and_acls::{Path, parent_of};
+use std::alloc::Global;
+use txn_codec::{Body, Operation, Txn};
+use values::{NoMemory, Str};
+
+/// What a base has where a tree may differ from it.
+#[derive(Drop)]
+pub struct SavedCells {
+    // The paths at which it may.
+    pub(crate) paths: TextSet,
+    // The cells of the base at these paths.
+    pub(crate) cells: Cells,
+    // The sessions of the base; none while the tree has the same.
+    pub(crate) sessions: Option<Timeouts>,
+}
+
+// The paths of the session's ephemeral nodes, and those that are listed.
+fn ended_paths(
+    alloc: Global,
+    tree: &Tree,
+    session: i64,
+    listed: &[Path],
+) -> Result<TextSet, NoMemory>
+    ensures { IfOk result (λ paths. paths ≡ ended_paths session listed.now tree.now) }
+{
+    let mut paths = tree.ephemerals().of(alloc, session)?;
+    for path in listed {
+        paths.insert(alloc, path.as_str())?;
+    }
+    Ok(paths)
+}
+
+impl SavedCells {
+    /// Nothing is saved: the tree is the base. Allocates nothing.
+    pub(crate) fn none(alloc: Global, key: HashKey) -> SavedCells
+        ensures paths { result.paths ≡ set.empty }
+        ensures sessions { result.sessions ≡ None }
+    {
+        SavedCells {
+            paths: TextSet::new(alloc),
+            cells: Cells::none(alloc, key),
+            sessions: None,
+        }
+    }
+
+    /// Saves the tree's cell at the path, if none is saved there.
+    pub(crate) fn save(&mut self, alloc: Global, tree: &Tree, path: &str) -> Result<(), NoMemory>
+        ensures more { OnOk result (SavesMore tree.now self.old self.new) }
+        ensures here { OnOk result (is_saved self.new path.now ≡ true) }
+    {
+        if self.paths.contains(path) {
+            return Ok(());
+        }
+        self.paths.insert(alloc, path)?;
+        self.cells.copy_cell(alloc, tree, path)
+    }
+
+    /// Saves the tree's cells at these paths.
+    pub(crate) fn save_all(
+        &mut self,
+        alloc: Global,
+        tree: &Tree,
+        paths: &[Str<'_>],
+    ) -> Result<(), NoMemory>
+        ensures more { OnOk result (SavesMore tree.now self.old self.new) }
+        ensures here { OnOk result (AreSaved paths.now self.new) }
+    {
+        for path in paths {
+            self.save(alloc, tree, path.as_str())?;
+        }
+        Ok(())
+    }
+
+    /// Saves the tree's cells at each path and at its parent.
+    pub(crate) fn save_with_parents(
+        &mut self,
+        alloc: Global,
+        tree: &Tree,
+        paths: &TextSet,
+    ) -> Result<(), NoMemory>
+        ensures more { OnOk result (SavesMore tree.now self.old self.new) }
+        ensures here { OnOk result (AreSaved (deleted_footprint paths.now) self.new) }
+    {
+        for path in paths.iter() {
+            self.save(alloc, tree, path.as_str())?;
+            self.save(alloc, tree, parent_of(path.as_str()))?;
+        }
+        Ok(())
+    }
+
+    /// Saves what the end of the session touches.
+    pub(crate) fn save_ended(
+        &mut self,
+        alloc: Global,
+        tree: &Tree,
+        session: i64,
+        listed: &[Path],
+    ) -> Result<(), NoMemory>
+        ensures more { OnOk result (SavesMore tree.now self.old self.new) }
+        ensures here { OnOk result (AreSaved (ended_footprint session listed.now tree.now) self.new) }
+    {
+        let paths = ended_paths(alloc, tree, session, listed)?;
+        self.save_with_parents(alloc, tree, &paths)
+    }
+
+    /// Saves the tree's sessions, if none are saved. A refused allocation changes nothing.
+    pub(crate) fn save_sessions(&mut self, tree: &Tree) -> Result<(), NoMemory>
+        ensures base { OnOk result (base_of self.new tree.now ≡ base_of self.old tree.now) }
+        ensures saved { OnOk result (is_some self.new.sessions ≡ true) }
+    {
+        if self.sessions.is_some() {
+            return Ok(());
+        }
+        self.sessions = Some(tree.sessions().clone()?);
+        Ok(())
+    }
+
+    /// Saves what the transaction changes in the tree.
+    pub(crate) fn save_for(&mut self, alloc: Global, tree: &Tree, txn: &Txn) -> Result<(), NoMemory>
+        ensures base { OnOk result (base_of self.new tree.now ≡ base_of self.old tree.now) }
+        ensures step { OnOk result
+            (IsSavedFrom self.new tree.now (effect_of_txn tree.now txn.now).state) }
+    {
+        match &txn.body {
+            Body::Single(Operation::SetData(body)) => self.save(alloc, tree, body.path.as_str()),
+            Body::Single(
+                Operation::Create(_)
+                | Operation::Delete(_)
+                | Operation::Check(_)
+                | Operation::Error(_),
+            )
+            | Body::SetAcl(_)
+            | Body::Multi(_) => self.save_footprint(alloc, tree, txn),
+            Body::CreateSession(_) => self.save_sessions(tree),
+            Body::CloseSession(listed) => {
+                self.save_sessions(tree)?;
+                self.save_ended(alloc, tree, txn.header.client_id, listed.as_slice())
+            }
+        }
+    }
+
+    // Saves the cells at the transaction's footprint.
+    fn save_footprint(&mut self, alloc: Global, tree: &Tree, txn: &Txn) -> Result<(), NoMemory>
+        ensures more { OnOk result (SavesMore tree.now self.old self.new) }
+        ensures here { OnOk result (AreSaved (footprint txn.now) self.new) }
+    {
+        let mut paths = Vec::new(alloc);
+        txn.body.borrow_paths(&mut paths)?;
+        self.save_all(alloc, tree, paths.as_slice())
+    }
+
+    // Saves the cells at the footprints of these transactions.
+    fn save_footprints(&mut self, alloc: Global, tree: &Tree, txns: &[Txn]) -> Result<(), NoMemory>
+        ensures more { OnOk result (SavesMore tree.now self.old self.new) }
+        ensures here { OnOk result (AreSavedEach txns.now self.new) }
+    {
+        for txn in txns {
+            self.save_footprint(alloc, tree, txn)?;
+        }
+        Ok(())
+    }
+
+    /// Saves what the transactions change in the tree, none of which ends a session.
+    pub(crate) fn save_for_each(
+        &mut self,
+        alloc: Global,
+        tree: &Tree,
+        txns: &[Txn],
+    ) -> Result<(), NoMemory>
+        ensures base { OnOk result (base_of self.new tree.now ≡ base_of self.old tree.now) }
+        ensures step { AllByRecursion KeepsToCells txns.now
+            → OnOk result (IsSavedFrom self.new tree.now (state_after tree.now txns.now)) }
+    {
+        self.save_sessions(tree)?;
+        self.save_footprints(alloc, tree, txns)
+    }
+}
