@@ -1,21 +1,21 @@
 -- The base of a tree, and what leaves it.
-use Rattle.std.proofs.Common.{◌≡◌, ℕ, List, Bool, true, false, ◌||◌, Some, None, is_some, Option, refl, sym, ap, subst, ◌∙◌}
+use Rattle.std.proofs.Common.{◌≡◌, Bool, true, false, ◌||◌, None, refl, sym, ap, subst, ◌∙◌}
 use Rattle.std.specs.Option.{unwrap_or}
 use Rattle.std.specs.Ordering.{eq_by_cmp, is_eq}
 use Rattle.std.specs.Cmp.{tied_itself}
 use Rattle.std.specs.FinSet as set
 use Rattle.std.proofs.lemmas.Map.Lookups.{exact_bytes}
 use Rattle.std.proofs.lemmas.Map.Views.{tells_apart}
-use mathlib.Core.Bool.{true≢false}
 use Rattle.ephemerals.specs.Orders.{Bytes, Names, path_cmp}
 use Rattle.ephemerals.proofs.Totals.{path_total}
-use Rattle.data_tree.specs.State.{State, SessionTimeouts}
-use Rattle.data_tree.specs.Cells.{cells_at, without_cells, with_cells, CopiesCell}
-use Rattle.data_tree.specs.Footprint.{has_path, IsSameCell}
-use Rattle.data_tree.proofs.SameCells.{same_state, same_cell_sym, same_cell_trans, same_cell_refl}
+use Rattle.data_tree.specs.State.{State}
+use Rattle.data_tree.specs.Cells.{cells_at, without_cells, CopiesCell}
+use Rattle.data_tree.specs.Footprint.{IsSameCell}
+use Rattle.data_tree.proofs.SameCells.{same_state, same_cell_sym, same_cell_trans}
 use Rattle.data_tree.proofs.MovedCells.{taken_cells_move, cells_come_to_empty_cells}
 use Rattle.based_tree.specs.declared.saved.SavedCells.{SavedCells}
-use Rattle.based_tree.specs.Inner.{sessions_of, base_of, is_saved, SavesMore, AreSaved, IsSavedFrom}
+use Rattle.based_tree.specs.Based.{BasedTree, at_base}
+use Rattle.based_tree.specs.Inner.{sessions_of, base_of, is_saved, SavesMore, IsSavedFrom}
 
 -- ---- the cells of the base
 
@@ -59,11 +59,11 @@ saved-inserted : (paths : Names) (p q : Bytes) (b : Bool) → eq_by_cmp path_cmp
 saved-inserted paths p q b is =
     set.contains-insert path_total paths p q ∙ ap (λ x. x || set.contains paths q) is
 
-pub saved-here : (old new : SavedCells) (p : Bytes) → new.paths ≡ set.insert old.paths p → is_saved new p ≡ true
-saved-here old new p inserted =
+pub saved-here : (paths new : Names) (p : Bytes) → new ≡ set.insert paths p → set.contains new p ≡ true
+saved-here paths new p inserted =
     ap (λ (names : Names). set.contains names p) inserted
-    ∙ set.contains-insert path_total old.paths p p
-    ∙ ap (λ r. is_eq r || is_saved old p) (tied_itself path_total p)
+    ∙ set.contains-insert path_total paths p p
+    ∙ ap (λ r. is_eq r || set.contains paths p) (tied_itself path_total p)
 
 module _ (tree : State) (old new : SavedCells) (p : Bytes) (absent : is_saved old p ≡ false)
     (inserted : new.paths ≡ set.insert old.paths p) (copied : CopiesCell p tree old.cells new.cells) where
@@ -80,7 +80,7 @@ module _ (tree : State) (old new : SavedCells) (p : Bytes) (absent : is_saved ol
 
   at_path : IsSameCell (base_of new tree) (base_of old tree) p
   at_path =
-      same_cell_trans (base-saved new tree p (saved-here old new p inserted))
+      same_cell_trans (base-saved new tree p (saved-here old.paths new.paths p inserted))
       (same_cell_trans copied.here (same_cell_sym (base-unsaved old tree p absent)))
 
   each : (q : Bytes) (b : Bool) → eq_by_cmp path_cmp q p ≡ b → IsSameCell (base_of new tree) (base_of old tree) q
@@ -118,3 +118,15 @@ pub base-none : (s : SavedCells) (tree : State) → s.paths ≡ set.empty → s.
 base-none s tree none sessions =
     same_state (base_of s tree) tree (ap (λ o. unwrap_or o tree.sessions) sessions)
     (λ q. base-unsaved s tree q (ap (λ (names : Names). set.contains names q) none ∙ set.contains-empty path_cmp q))
+
+pub based-none : (s : SavedCells) (tree : State) → s.paths ≡ set.empty → s.sessions ≡ None
+    → (let b : BasedTree = record { base = base_of s tree; tree = tree } in b ≡ at_base tree)
+based-none s tree none sessions = ap (λ base. record { base = base; tree = tree }) (base-none s tree none sessions)
+
+-- The tree takes a step that was saved before.
+pub based-step : (old new : SavedCells) (tree after : State) → base_of new tree ≡ base_of old tree
+    → IsSavedFrom new tree after
+    → (let b : BasedTree = record { base = base_of new after; tree = after } in
+    b ≡ record { base = base_of old tree; tree = after })
+based-step old new tree after same step =
+    ap (λ base. record { base = base; tree = after }) (base-stays new tree after step ∙ same)

@@ -1,5 +1,5 @@
 -- What transactions change, and what is saved of it.
-use Rattle.std.proofs.Common.{◌≡◌, ℤ, List, [], ◌∷◌, Bool, true, false, not, ◌||◌, ◌&&◌, Option, Some, None, is_some, refl, sym, ap, subst, ◌∙◌}
+use Rattle.std.proofs.Common.{◌≡◌, ℤ, List, [], ◌∷◌, Bool, true, false, not, ◌||◌, ◌&&◌, Option, Some, None, is_some, Result, Ok, Err, OnOk, refl, sym, ap, subst, ◌∙◌}
 use Rattle.std.specs.List.{AllByRecursion, list_any}
 use Rattle.std.specs.Option.{unwrap_or}
 use Rattle.std.specs.Ordering.{eq_by_cmp, int_eq}
@@ -13,19 +13,22 @@ use Rattle.ephemerals.proofs.Totals.{path_total}
 use Rattle.ephemerals.proofs.Ascending.{any-in_order}
 use Rattle.ephemerals.proofs.SessionPaths.{contains-owned, contains-without}
 use Rattle.paths_and_acls.specs.Paths.{parent_of}
-use Rattle.txn_codec.specs.Row.{footprint_of_parts, session_change}
+use Rattle.txn_codec.specs.Row.{footprint_of_parts, session_change, is_ending, ends_session}
+use Rattle.txn_codec.specs.declared.txn.Body.{Body}
+use Rattle.txn_codec.specs.declared.txn.Body.TheVariants as body
 use Rattle.txn_codec.specs.declared.row.SessionChange.{SessionChange}
-use Rattle.txn_codec.specs.declared.row.SessionChange.TheVariants.{Nothing}
+use Rattle.txn_codec.specs.declared.row.SessionChange.TheVariants.{Nothing, Ends}
 use Rattle.txn_codec.specs.declared.txn.Txn.{Txn}
 use Rattle.txn_codec.specs.declared.txn.TxnHeader.{TxnHeader}
 use Rattle.data_tree.specs.State.{State, SessionTimeouts}
-use Rattle.data_tree.specs.Meaning.{effect_of_txn, state_after, of_close_session, state_without_session, delete_operations, with_names, ended_paths}
+use Rattle.data_tree.specs.Meaning.{effect_of_txn, effect_of_body, state_after, of_close_session, state_without_session, delete_operations, with_names, ended_paths}
 use Rattle.data_tree.specs.Footprint.{has_path, IsSameCell, footprint, KeepsToCells}
 use Rattle.data_tree.specs.Commuting.{with_timeout_of}
 use Rattle.data_tree.proofs.SameCells.{same_cell_trans, same_cell_refl}
 use Rattle.data_tree.proofs.Commute.{transactions_keep_to_their_footprints, parts-confined, mean-sessions}
 use Rattle.based_tree.specs.declared.saved.SavedCells.{SavedCells}
-use Rattle.based_tree.specs.Inner.{sessions_of, is_saved, SavesMore, AreSaved, AreSavedEach, deleted_footprint, ended_footprint, IsSavedFrom}
+use Rattle.based_tree.specs.Inner.{sessions_of, is_saved, SavesMore, AreSaved, AreSavedEach, deleted_footprint, ended_footprint, listed_in, IsSavedFrom}
+use Rattle.based_tree.proofs.Bases.{nothing_more}
 
 -- ---- paths that are saved one after another
 
@@ -113,15 +116,13 @@ sessions_step t s tree keeps some saved = record {
 deletes-touch : (ps : List Bytes) (q : Bytes) → has_path ps q ≡ true
     → has_path (footprint_of_parts (delete_operations ps)) q ≡ true
 deletes-touch [] q at = at
-deletes-touch (p ∷ ps) q at = by (eq_by_cmp path_cmp q p) refl
+deletes-touch (p ∷ ps) q at = by (eq_by_cmp path_cmp q p) at (deletes-touch ps q)
   where
-    by : (b : Bool) → eq_by_cmp path_cmp q p ≡ b
-        → (eq_by_cmp path_cmp q p || (eq_by_cmp path_cmp q (parent_of p) || has_path (footprint_of_parts (delete_operations ps)) q)) ≡ true
-    by true e = or_at_first (eq_by_cmp path_cmp q p) _ e
-    by false e =
-        or_at_second (eq_by_cmp path_cmp q p) _
-        (or_at_second (eq_by_cmp path_cmp q (parent_of p)) _
-        (deletes-touch ps q (sym (ap (λ b. b || has_path ps q) e) ∙ at)))
+    by : (b : Bool) → (b || has_path ps q) ≡ true
+        → (has_path ps q ≡ true → has_path (footprint_of_parts (delete_operations ps)) q ≡ true)
+        → (b || (eq_by_cmp path_cmp q (parent_of p) || has_path (footprint_of_parts (delete_operations ps)) q)) ≡ true
+    by true h rest = refl
+    by false h rest = or_at_second (eq_by_cmp path_cmp q (parent_of p)) _ (rest h)
 
 named-stay : (names : Names) (ps : List Bytes) (q : Bytes) → set.contains names q ≡ true
     → set.contains (with_names names ps) q ≡ true
@@ -137,7 +138,7 @@ and_true false = refl
 -- A path that isn't saved isn't the session's.
 module _ (h : TxnHeader) (listed : List Bytes) (s : SavedCells) (tree : State)
     (saved : AreSaved (ended_footprint h.client_id listed tree) s) where
-  ended : Names
+  abbrev ended : Names
   ended = ended_paths h.client_id listed tree
 
   not_owned : (q : Bytes) → is_saved s q ≡ false → set.contains tree.pairs (h.client_id, q) ≡ false
@@ -197,3 +198,46 @@ pub saved_each : (tree : State) (ts : List Txn) (a b : SavedCells) → SavesMore
 saved_each tree [] a b more saved = tt
 saved_each tree (t ∷ ts) a b more saved =
     (λ q at. more.keeps q (saved.0 q at), saved_each tree ts a b more saved.1)
+
+-- ---- by what a transaction does to its session
+
+-- One path is saved.
+pub one-saved : (tree : State) (p : Bytes) (s : SavedCells) → is_saved s p ≡ true → AreSaved (p ∷ []) s
+one-saved tree p s here =
+    left-last (p ∷ []) s (left-next tree (p ∷ []) p [] s s (left-first (p ∷ []) s) (nothing_more tree s) here)
+
+end_of : (h : TxnHeader) (b : Body) (s : State) → session_change b ≡ Ends
+    → (effect_of_body h b s).state ≡ (of_close_session h (listed_in b) s).state
+end_of h (body.CloseSession listed) s is = refl
+end_of h (body.CreateSession timeout) s is = absurd (true≢false (sym (ap is_ending is)))
+end_of h (body.Single operation) s is = absurd (true≢false (sym (ap is_ending is)))
+end_of h (body.SetAcl b) s is = absurd (true≢false (sym (ap is_ending is)))
+end_of h (body.Multi parts) s is = absurd (true≢false (sym (ap is_ending is)))
+
+pub end_step : (t : Txn) (s : SavedCells) (tree : State) → session_change t.body ≡ Ends → is_some s.sessions ≡ true
+    → AreSaved (ended_footprint t.header.client_id (listed_in t.body) tree) s
+    → IsSavedFrom s tree (effect_of_txn tree t).state
+end_step t s tree is some saved =
+    subst (IsSavedFrom s tree) (sym (end_of t.header t.body tree is)) (ended_step t.header (listed_in t.body) s tree saved some)
+
+-- Unless one of them ends a session, each keeps to cells.
+pub all_keep : (ts : List Txn) → list_any (λ (t : Txn). ends_session t.body) ts ≡ false → AllByRecursion KeepsToCells ts
+all_keep [] none = tt
+all_keep (t ∷ ts) none = (
+  first (ends_session t.body) (list_any (λ (u : Txn). ends_session u.body) ts) none,
+  all_keep ts (rest (ends_session t.body) (list_any (λ (u : Txn). ends_session u.body) ts) none),
+)
+  where
+    first : (a b : Bool) → (a || b) ≡ false → a ≡ false
+    first true b h = h
+    first false b h = refl
+
+    rest : (a b : Bool) → (a || b) ≡ false → b ≡ false
+    rest true b h = absurd (true≢false h)
+    rest false b h = h
+
+-- ---- results
+
+pub on_ok_both : {A E P Q R : Type 0} (r : Result A E) → (P → Q → R) → OnOk r P → OnOk r Q → OnOk r R
+on_ok_both (Ok x) f p q = f p q
+on_ok_both (Err e) f p q = tt

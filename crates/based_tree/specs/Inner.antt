@@ -4,6 +4,8 @@ use Rattle.std.specs.Option.{unwrap_or}
 use Rattle.std.specs.FinSet as set
 use Rattle.ephemerals.specs.Orders.{Bytes, Names, sorted_names}
 use Rattle.txn_codec.specs.declared.txn.Txn.{Txn}
+use Rattle.txn_codec.specs.declared.txn.Body.{Body}
+use Rattle.txn_codec.specs.declared.txn.Body.TheVariants as body
 use Rattle.txn_codec.specs.Row.{footprint_of_parts}
 use Rattle.data_tree.specs.State.{State, SessionTimeouts}
 use Rattle.data_tree.specs.Meaning.{delete_operations, ended_paths}
@@ -45,6 +47,14 @@ deleted_footprint paths = footprint_of_parts (delete_operations (sorted_names pa
 -- The paths that the end of the session touches.
 abbrev pub ended_footprint : ℤ → List Bytes → State → List Bytes
 ended_footprint session listed tree = deleted_footprint (ended_paths session listed tree)
+
+-- The paths that the end of a session lists.
+abbrev pub listed_in : Body → List Bytes
+listed_in (body.CloseSession listed) = listed
+listed_in (body.CreateSession timeout) = []
+listed_in (body.Single operation) = []
+listed_in (body.SetAcl b) = []
+listed_in (body.Multi parts) = []
 
 -- Whatever the step changes was saved before.
 pub record IsSavedFrom (saved : SavedCells) (tree new : State) : Type 0 where

@@ -1,11 +1,15 @@
 //! A tree with its base.
 
 ghost use Rattle.std.specs.Prelude.{◌≡◌, OnOk, IfOk};
+ghost use Rattle.std.specs.List.{list_any};
+ghost use Rattle.std.specs.Option.{unwrap_or};
+ghost use Rattle.txn_codec.specs.Row.{ends_session};
+ghost use Rattle.txn_codec.specs.declared.txn.Txn.{Txn as TheTxn};
 ghost use Rattle.data_tree.specs.Meaning.{effect_of_txn, answer_of, state_after, outcomes_of_txns};
 ghost use Rattle.based_tree.specs.Based.{at_base, AppliesTxns};
 
 use crate::saved::SavedCells;
-use data_tree::{Outcome, Tree};
+use data_tree::{Outcome, Timeouts, Tree};
 use std::alloc::Global;
 use std::marker::Model;
 use txn_codec::Txn;
@@ -34,6 +38,28 @@ impl Drop for BasedTree {
         let BasedTree { tree, saved } = self;
         drop(tree);
         drop(saved);
+    }
+}
+
+// Whether one of the transactions ends a session.
+fn ends_a_session(txns: &[Txn]) -> bool
+    ensures { result ≡ list_any (λ (t : TheTxn). ends_session t.body) txns.now }
+{
+    for txn in txns {
+        if txn.body.ends_session() {
+            return true;
+        }
+    }
+    false
+}
+
+// Replaces the sessions of the tree, if there are others.
+fn set_sessions_if(tree: &mut Tree, sessions: Option<Timeouts>)
+    ensures { tree.new ≡ record tree.old { sessions = unwrap_or sessions tree.old.sessions } }
+{
+    match sessions {
+        None => return,
+        Some(sessions) => tree.set_sessions(sessions),
     }
 }
 
@@ -93,7 +119,7 @@ impl BasedTree {
             (self.new ≡ record self.old { tree = state_after self.old.tree txns.now }) }
         ensures outcomes { IfOk result (λ v. v.items ≡ outcomes_of_txns self.old.tree txns.now) }
     {
-        if txns.iter().any(|txn| txn.body.ends_session()) {
+        if ends_a_session(txns) {
             return self.apply_each(alloc, txns);
         }
         self.saved.save_for_each(alloc, &self.tree, txns)?;
@@ -113,9 +139,7 @@ impl BasedTree {
     {
         self.tree
             .replace_cells(alloc, &self.saved.paths, &mut self.saved.cells)?;
-        if let Some(sessions) = self.saved.sessions.take() {
-            self.tree.set_sessions(sessions);
-        }
+        set_sessions_if(&mut self.tree, self.saved.sessions.take());
         self.rebase(alloc);
         Ok(())
     }

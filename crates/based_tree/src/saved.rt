@@ -5,13 +5,13 @@ ghost use Rattle.std.specs.List.{AllByRecursion};
 ghost use Rattle.std.specs.FinSet as set;
 ghost use Rattle.data_tree.specs.Footprint.{footprint, KeepsToCells};
 ghost use Rattle.data_tree.specs.Meaning.{effect_of_txn, state_after, ended_paths};
-ghost use Rattle.based_tree.specs.Inner.{base_of, is_saved, SavesMore, AreSaved, AreSavedEach, IsSavedFrom, deleted_footprint, ended_footprint};
+ghost use Rattle.based_tree.specs.Inner.{base_of, is_saved, SavesMore, AreSaved, AreSavedEach, IsSavedFrom, deleted_footprint, ended_footprint, listed_in};
 
 use data_tree::{Cells, HashKey, Timeouts, Tree};
 use ephemerals::TextSet;
 use paths_and_acls::{Path, parent_of};
 use std::alloc::Global;
-use txn_codec::{Body, Operation, Txn};
+use txn_codec::{Body, SessionChange, Txn, TxnHeader};
 use values::{NoMemory, Str};
 
 /// What a base has where a tree may differ from it.
@@ -29,16 +29,26 @@ pub struct SavedCells {
 fn ended_paths(
     alloc: Global,
     tree: &Tree,
-    session: i64,
+    header: &TxnHeader,
     listed: &[Path],
 ) -> Result<TextSet, NoMemory>
-    ensures { IfOk result (λ paths. paths ≡ ended_paths session listed.now tree.now) }
+    ensures { IfOk result (λ paths. paths ≡ ended_paths header.now.client_id listed.now tree.now) }
 {
-    let mut paths = tree.ephemerals().of(alloc, session)?;
+    let mut paths = tree.ephemerals().of(alloc, header.client_id)?;
     for path in listed {
         paths.insert(alloc, path.as_str())?;
     }
     Ok(paths)
+}
+
+// The paths that the end of a session lists.
+fn listed_in(body: &Body) -> &[Path]
+    ensures { result.now ≡ listed_in body.now }
+{
+    match body {
+        Body::CloseSession(listed) => listed.as_slice(),
+        Body::CreateSession(_) | Body::Single(_) | Body::SetAcl(_) | Body::Multi(_) => &[],
+    }
 }
 
 impl SavedCells {
@@ -104,13 +114,14 @@ impl SavedCells {
         &mut self,
         alloc: Global,
         tree: &Tree,
-        session: i64,
+        header: &TxnHeader,
         listed: &[Path],
     ) -> Result<(), NoMemory>
         ensures more { OnOk result (SavesMore tree.now self.old self.new) }
-        ensures here { OnOk result (AreSaved (ended_footprint session listed.now tree.now) self.new) }
+        ensures here { OnOk result
+            (AreSaved (ended_footprint header.now.client_id listed.now tree.now) self.new) }
     {
-        let paths = ended_paths(alloc, tree, session, listed)?;
+        let paths = ended_paths(alloc, tree, header, listed)?;
         self.save_with_parents(alloc, tree, &paths)
     }
 
@@ -132,20 +143,15 @@ impl SavedCells {
         ensures step { OnOk result
             (IsSavedFrom self.new tree.now (effect_of_txn tree.now txn.now).state) }
     {
-        match &txn.body {
-            Body::Single(Operation::SetData(body)) => self.save(alloc, tree, body.path.as_str()),
-            Body::Single(
-                Operation::Create(_)
-                | Operation::Delete(_)
-                | Operation::Check(_)
-                | Operation::Error(_),
-            )
-            | Body::SetAcl(_)
-            | Body::Multi(_) => self.save_footprint(alloc, tree, txn),
-            Body::CreateSession(_) => self.save_sessions(tree),
-            Body::CloseSession(listed) => {
+        match txn.body.session_change() {
+            SessionChange::Nothing => self.save_footprint(alloc, tree, txn),
+            SessionChange::Begins(_) => {
                 self.save_sessions(tree)?;
-                self.save_ended(alloc, tree, txn.header.client_id, listed.as_slice())
+                self.save_footprint(alloc, tree, txn)
+            }
+            SessionChange::Ends => {
+                self.save_sessions(tree)?;
+                self.save_ended(alloc, tree, &txn.header, listed_in(&txn.body))
             }
         }
     }

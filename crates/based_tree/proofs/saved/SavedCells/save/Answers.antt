@@ -16,5 +16,5 @@ returns-clause-more c =
 pub returns-clause-here : goal.returns-clause-here
 returns-clause-here c =
     on_ok_weaker c.copy_cell.result
-    (λ copied. saved-here c.args.self.now _ c.args.path.now c.in_ok-insert.ensures.ok)
+    (λ copied. saved-here c.args.self.now.paths c.insert.new.self c.args.path.now c.in_ok-insert.ensures.ok)
     c.copy_cell.ensures

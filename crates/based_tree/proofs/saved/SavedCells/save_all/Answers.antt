@@ -1,4 +1,5 @@
-use Rattle.std.proofs.Common.{◌+◌, drop, subst}
+use Rattle.std.proofs.Common.{◌+◌, drop, sym, ap, subst, ◌∙◌}
+use Rattle.based_tree.specs.Inner.{is_saved}
 use Rattle.std.proofs.lemmas.List.{drop_all}
 use Rattle.pairs.proofs.Adding.{next_element}
 use Rattle.based_tree.proofs.Bases.{nothing_more, saves_then}
@@ -20,7 +21,7 @@ loop-path-preserved c =
           (subst (λ ps. LeftToSave all ps c.loop-path.self)
           (next_element all c.loop-path.path-index c.path-item.result c.loop-path-test.true c.path-item.is)
           c.loop-path.invariant.left)
-          c.in_ok-save.ensures.more c.in_ok-save.ensures.here;
+          c.in_ok-save.ensures.more (ap (is_saved c.save.new.self) (sym c.as_str.ensures) ∙ c.in_ok-save.ensures.here);
     }
 
 pub returns : goal.returns

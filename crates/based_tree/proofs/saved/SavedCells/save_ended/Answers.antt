@@ -1,4 +1,4 @@
-use Rattle.std.proofs.Common.{subst, sym}
+use Rattle.std.proofs.Common.{subst}
 use Rattle.std.proofs.lemmas.Result.{on_ok_weaker}
 use Rattle.based_tree.specs.Inner.{AreSaved, deleted_footprint}
 use Rattle.based_tree.proofs.saved.SavedCells.save_ended.Goals as goal

@@ -1,4 +1,4 @@
-use Rattle.std.proofs.Common.{sym, ap, subst, ◌∙◌, ◌∷◌}
+use Rattle.std.proofs.Common.{◌≡◌, true, sym, ap, subst, ◌∙◌, ◌∷◌}
 use Rattle.paths_and_acls.specs.Paths.{parent_of}
 use Rattle.txn_codec.specs.Row.{footprint_of_parts}
 use Rattle.data_tree.specs.Meaning.{delete_operations}
@@ -26,19 +26,19 @@ loop-path-preserved c =
     let rest = footprint_of_parts (delete_operations c.next.new.self) in
     let here : is_saved c.save.new.self path ≡ true =
     ap (is_saved c.save.new.self) (sym c.as_str.ensures) ∙ c.in_ok-save.ensures.here in
-    let parent : is_saved c.save-2.new.self (parent_of path) ≡ true =
-    ap (is_saved c.save-2.new.self) (sym (c.parent_of.ensures ∙ ap parent_of c.as_str-2.ensures))
+    let parent : is_saved c.save-in-loop-path.new.self (parent_of path) ≡ true =
+    ap (is_saved c.save-in-loop-path.new.self) (sym (c.parent_of.ensures ∙ ap parent_of c.as_str-in-loop-path.ensures))
     ∙ c.in_ok-save-2.ensures.here in (
       tt,
       tt,
-      saves_then tree c.args.self.now c.save.new.self c.save-2.new.self
-          (saves_then tree c.args.self.now c.loop-path.self c.save.new.self c.loop-path.invariant.2.0
+      saves_then tree c.args.self.now c.save.new.self c.save-in-loop-path.new.self
+          (saves_then tree c.args.self.now c.loop-path.self c.save.new.self c.loop-path.invariant.2
           c.in_ok-save.ensures.more)
           c.in_ok-save-2.ensures.more,
-      left-next tree all (parent_of path) rest c.save.new.self c.save-2.new.self
+      left-next tree all (parent_of path) rest c.save.new.self c.save-in-loop-path.new.self
           (left-next tree all path (parent_of path ∷ rest) c.loop-path.self c.save.new.self
           (subst (λ ts. LeftToSave all (footprint_of_parts (delete_operations ts)) c.loop-path.self)
-          c.in-Some.ensures.steps c.loop-path.invariant.2.1)
+          c.in-Some.ensures.steps c.loop-path.invariant.3)
           c.in_ok-save.ensures.more here)
           c.in_ok-save-2.ensures.more parent,
     )
@@ -47,8 +47,8 @@ pub returns : goal.returns
 returns c =
     let all = deleted_footprint c.args.paths.now in
     record {
-      more = c.loop-path.invariant.2.0;
+      more = c.loop-path.invariant.2;
       here = left-last all c.loop-path.self
           (subst (λ ts. LeftToSave all (footprint_of_parts (delete_operations ts)) c.loop-path.self)
-          c.in-None.ensures.steps.0 c.loop-path.invariant.2.1);
+          c.in-None.ensures.steps.0 c.loop-path.invariant.3);
     }

@@ -1,4 +1,3 @@
-use Rattle.ephemerals.specs.Orders.{sorted_names}
 use Rattle.txn_codec.specs.Row.{footprint_of_parts}
 use Rattle.data_tree.specs.Meaning.{delete_operations}
 use Rattle.based_tree.specs.Inner.{SavesMore, deleted_footprint}
