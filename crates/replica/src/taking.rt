@@ -53,8 +53,7 @@ impl Replica {
 
     // The loaded image replaces the tree and is the new base.
     fn load_image(&mut self, alloc: Global, loader: &mut Loader)
-        ensures replica {
-            self.new ≡ record self.old { base = loader.old.made.state; tree = loader.old.made.state } }
+        ensures replica { self.new ≡ record self.old { base = loader.old.made.state; tree = loader.old.made.state } }
         ensures loader { loader.new ≡ nothing_loaded self.old.learner.dialect }
     {
         let next = Loader::with_key(self.learner.dialect(), alloc, self.tree().hash_key());
