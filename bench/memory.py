@@ -3,19 +3,17 @@
 
     bench/memory.py PROGRAM                   as bench/memory.py crates/replay_runner/out/replay_runner
     bench/memory.py PROGRAM --checkpoint 0    without checkpoints, for comparison (--count 2000000 is enough)
-    bench/memory.py PROGRAM --nodes 1000000   beside so many nodes, on which the pause of a checkpoint rests
+    bench/memory.py PROGRAM --nodes 1000000   beside so many nodes
     bench/memory.py PROGRAM --rate 0          as fast as they are taken
     bench/memory.py PROGRAM --turnover 1000000 --parts 10    nodes that are all created and then all deleted, in turns
 
 It is the leader: it brings the observer up to date, makes the nodes, and sends the transactions, 50,000 a second, many
-in each write: they are written beforehand, so that only their zxids are filled in. (A checkpoint that is due waits
-until ten times what the last one took went by, or twice as much came: so on a busy machine the log may get twice as
-long.) Of ten transactions seven set the data of a node, one creates a node, one deletes it again, and one is a write
-that the leader refuses. With --turnover so many nodes are created below one of those that stay and then deleted, over
-and over, and no path comes twice. After each part a PING is sent, whose answer shows that all of it was applied, and
-the resident set is read. A client reads all the while, one request after the other, and its longest wait is measured.
-The exit status is 0 if the greatest resident set of the last half is less than 2% above the greatest of the half
-before.
+in each write: they are written beforehand, so that only their zxids are filled in. Of ten transactions seven set the
+data of a node, one creates a node, one deletes it again, and one is a write that the leader refuses. With --turnover so
+many nodes are created below one of those that stay and then deleted, over and over, and no path comes twice. After each
+part a PING is sent, whose answer shows that all of it was applied, and the resident set is read. A client reads all the
+while, one request after the other, and its longest wait is measured. The exit status is 0 if the greatest resident set
+of the last half is less than 2% above the greatest of the half before.
 """
 import argparse
 import itertools

@@ -2,18 +2,21 @@
 use Rattle.std.proofs.Common.{◌≡◌, Bool, true, false, cond, not, ◌||◌, ◌&&◌, Option, Some, None, refl, sym, ap, ◌∙◌}
 use Rattle.std.specs.Option.{option_or}
 use Rattle.std.proofs.Math.Bool.{and-false, or-false}
+use Rattle.std.specs.Ordering.{is_eq}
+use Rattle.std.specs.Cmp.{tied_itself}
 use Rattle.std.specs.FinMap as finmap
 use Rattle.std.specs.FinSet as set
 use Rattle.ephemerals.specs.Orders.{Bytes, OwnerPairs}
-use Rattle.ephemerals.proofs.Totals.{pair_total}
+use Rattle.ephemerals.specs.Pairs.{CopiesPath}
+use Rattle.ephemerals.proofs.Totals.{path_total, pair_total}
 use Rattle.ephemerals.proofs.Steps.{contains-pairs_at, contains-without_paths}
 use Rattle.node_map.specs.declared.node.Node.{Node}
 use Rattle.node_map.specs.Nodes.{Nodes}
-use Rattle.node_map.specs.Updates.{IsBetween}
-use Rattle.node_map.proofs.MovedNodes.{get-kept, get-with}
+use Rattle.node_map.specs.Updates.{with_node_at, IsBetween}
+use Rattle.node_map.proofs.MovedNodes.{get-kept, get-with, get-node_at}
 use Rattle.data_tree.specs.State.{State}
 use Rattle.data_tree.specs.Footprint.{IsSameCell}
-use Rattle.data_tree.specs.Cells.{cells_at, without_cells, with_cells, HasPartOfCells, TakenCellsMove, CellsComeToEmptyCells, TakenAndPutBackIsTheState}
+use Rattle.data_tree.specs.Cells.{cells_at, without_cells, with_cells, HasPartOfCells, CopiesCell, TakenCellsMove, CellsComeToEmptyCells, TakenAndPutBackIsTheState}
 use Rattle.data_tree.proofs.SameCells.{same_state, same_cell_trans}
 
 or_none : (o : Option Node) → option_or o None ≡ o
@@ -99,4 +102,21 @@ part_put cells old nodes pairs is between = record {
   adds_pairs = set.contains-is_subset pair_total pairs (with_cells cells old).pairs (λ q has.
       ap (λ s. set.contains s q) (sym is) ∙ has);
   sessions = refl;
+}
+
+-- The node at a path was copied, and its pairs.
+pub cell_copied : (p : Bytes) (from old : State) (nodes : Nodes) (pairs : OwnerPairs)
+    → nodes ≡ with_node_at p (finmap.get from.nodes p) old.nodes → CopiesPath p from.pairs old.pairs pairs
+    → CopiesCell p from old (record { nodes = nodes; pairs = pairs; sessions = old.sessions })
+cell_copied p from old nodes pairs is copied = record {
+  here = record {
+    node = ap (λ m. finmap.get m p) is
+        ∙ get-node_at p (finmap.get from.nodes p) old.nodes p true (ap is_eq (tied_itself path_total p));
+    owners = copied.here;
+  };
+  elsewhere =
+      λ q out. record {
+        node = ap (λ m. finmap.get m q) is ∙ get-node_at p (finmap.get from.nodes p) old.nodes q false out;
+        owners = λ w. copied.elsewhere w q out;
+      };
 }

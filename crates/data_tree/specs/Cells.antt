@@ -1,8 +1,9 @@
 -- Cells that are taken out of a state and put back, and the effects of transactions on them.
 use Rattle.std.specs.Prelude.{◌≡◌, ℤ, List, [], ◌∷◌, not, true, false, None}
+use Rattle.std.specs.Ordering.{eq_by_cmp}
 use Rattle.std.specs.FinMap as finmap
 use Rattle.std.specs.FinSet as set
-use Rattle.ephemerals.specs.Orders.{Bytes, Names}
+use Rattle.ephemerals.specs.Orders.{Bytes, Names, path_cmp}
 use Rattle.ephemerals.specs.Pairs.{pairs_at, without_paths}
 use Rattle.txn_codec.specs.declared.txn.Txn.{Txn}
 use Rattle.node_map.specs.Updates.{with_entries, IsBetween}
@@ -41,6 +42,11 @@ pub record HasPartOfCells (cells old new : State) : Type 0 where
   pub keeps_pairs : set.is_subset old.pairs new.pairs ≡ true
   pub adds_pairs : set.is_subset new.pairs (with_cells cells old).pairs ≡ true
   pub sessions : new.sessions ≡ old.sessions
+
+-- The cell at the path is that of the other state; all others are as they were.
+pub record CopiesCell (path : Bytes) (from old new : State) : Type 0 where
+  pub here : IsSameCell new from path
+  pub elsewhere : (q : Bytes) → eq_by_cmp path_cmp q path ≡ false → IsSameCell new old q
 
 -- The effect of the transaction, without setting a session's timeout; timeouts are set on the whole state.
 abbrev pub effect_in_cells : State → Txn → TxnEffect

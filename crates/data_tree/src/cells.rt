@@ -1,13 +1,15 @@
 //! Cells that are taken out of a tree, so that groups of transactions can be applied separately.
 
 ghost use Rattle.std.specs.Prelude.{◌≡◌, [], pos, OnOk, OnErr, IfOk};
-ghost use Rattle.data_tree.specs.Cells.{cells_at, without_cells, with_cells, effect_in_cells, HasPartOfCells};
+ghost use Rattle.data_tree.specs.Cells.{cells_at, without_cells, with_cells, effect_in_cells, HasPartOfCells, CopiesCell};
+ghost use Rattle.data_tree.specs.Making.{empty_state};
 ghost use Rattle.data_tree.specs.Meaning.{answer_of};
 ghost use Rattle.data_tree.specs.Refused.{IsLeftByRefused};
 
 use crate::outcome::{Outcome, Triggers};
 use crate::tree::Tree;
 use ephemerals::TextSet;
+use node_map::HashKey;
 use std::alloc::Global;
 use std::marker::Model;
 use txn_codec::{Body, Txn};
@@ -57,9 +59,42 @@ impl Tree {
     {
         self.put_tree(alloc, cells.tree)
     }
+
+    /// Replaces the cells at these paths by those that the others have there, which become empty. After a refused
+    /// allocation the caller drops the tree and the others.
+    pub fn replace_cells(
+        &mut self,
+        alloc: Global,
+        paths: &TextSet,
+        others: &mut Cells,
+    ) -> Result<(), NoMemory>
+        ensures { OnOk result
+            (self.new ≡ with_cells (cells_at paths.now others.old) (without_cells paths.now self.old)) }
+    {
+        let cells = others.tree.take_tree(alloc, paths)?;
+        // What is replaced is dropped first.
+        drop(self.take_tree(alloc, paths)?);
+        self.put_tree(alloc, cells)
+    }
 }
 
 impl Cells {
+    /// Empty cells, which find their nodes by this key. Allocates nothing.
+    pub fn none(alloc: Global, key: HashKey) -> Cells
+        ensures { result ≡ empty_state }
+    {
+        Cells {
+            tree: Tree::empty_with_key(alloc, key),
+        }
+    }
+
+    /// Replaces the cell at the path by a copy of the tree's. After a refused allocation a part of that cell is missing.
+    pub fn copy_cell(&mut self, alloc: Global, tree: &Tree, path: &str) -> Result<(), NoMemory>
+        ensures { OnOk result (CopiesCell path.now tree.now self.old self.new) }
+    {
+        self.tree.copy_cell(alloc, tree, path)
+    }
+
     /// Applies a transaction to the cells. If they include its footprint, it leaves the same cells and has the same
     /// outcome as in the whole tree, whatever the other cells are. A session's timeout isn't set.
     ///

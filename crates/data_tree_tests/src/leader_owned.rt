@@ -1,11 +1,9 @@
 //! Nodes that the leader deletes, and the other transactions that ZooKeeper 3.4 doesn't have.
 
-use crate::transactions::{fresh, text_of};
+use crate::transactions::{answers, fresh};
 use data_tree::Tree;
 use settings::Dialect;
-use std::alloc::Global;
 use std::test::Fail;
-use txn_codec::decode_txn_in;
 
 // Session 9 creates the container /c.
 const CONTAINER: &[u8; 50] =
@@ -29,22 +27,6 @@ const RECONFIG: &[u8; 46] =
 const CHECK: &[u8; 42] =
     b"\0\0\0\0\0\0\0\x07\0\0\0\x02\0\0\0\0\0\0\0\x07\0\0\0\0\0\0\x03\xe8\0\0\0\x0d\0\0\0\x02/t\0\0\0\x01";
 
-// The outcome of the transaction that the bytes spell.
-fn answer(alloc: Global, tree: &mut Tree, bytes: &[u8]) -> Result<String, Fail> {
-    let txn = decode_txn_in(Dialect::Zk38, alloc, bytes)?;
-    text_of(alloc, &tree.apply(alloc, &txn)?)
-}
-
-// The outcomes of the transactions, one after the other.
-fn answers(alloc: Global, tree: &mut Tree, texts: &[&[u8]]) -> Result<String, Fail> {
-    let mut all = String::new(alloc);
-    for bytes in texts {
-        all.push_str(answer(alloc, tree, bytes)?.as_str())?;
-        all.push_str("; ")?;
-    }
-    Ok(all)
-}
-
 // The owner that is shown of a node.
 fn shown_owner(tree: &Tree, path: &str) -> Option<i64> {
     let stat = tree.stat(path)?;
@@ -63,7 +45,10 @@ fn leader_owned_nodes_stay_when_their_session_ends(rt: HostRuntime) -> Result<()
     let mut tree = fresh(alloc)?;
     let texts: [&[u8]; 4] = [CONTAINER, WITH_TTL, CREATE2, CLOSE];
     let wanted = "0 +/c ~/; 0 +/t ~/; 0 +/e ~/; 0 -/e ~/; ";
-    assert_eq!(rt; answers(alloc, &mut tree, &texts)?.as_str(), wanted);
+    assert_eq!(rt;
+        answers(alloc, &mut tree, Dialect::Zk38, &texts)?.as_str(),
+        wanted
+    );
     assert_eq!(rt; shown_owner(&tree, "/c"), Some(0));
     assert_eq!(rt; shown_owner(&tree, "/t"), Some(0));
     assert_eq!(rt; mark(&tree, "/c"), Some(i64::MIN));
@@ -77,7 +62,10 @@ fn leader_deletes_them(rt: HostRuntime) -> Result<(), Fail> {
     let mut tree = fresh(alloc)?;
     let texts: [&[u8]; 5] = [CONTAINER, WITH_TTL, DELETE_CONTAINER, RECONFIG, CHECK];
     let wanted = "0 +/c ~/; 0 +/t ~/; 0 -/c ~/; 0 =/t; 0; ";
-    assert_eq!(rt; answers(alloc, &mut tree, &texts)?.as_str(), wanted);
+    assert_eq!(rt;
+        answers(alloc, &mut tree, Dialect::Zk38, &texts)?.as_str(),
+        wanted
+    );
     assert!(rt; tree.node("/c").is_none());
     Ok(())
 }

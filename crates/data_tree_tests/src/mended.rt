@@ -1,7 +1,7 @@
 //! Trees of images that were written while the leader went on, and what the rules of each dialect make of them.
 
 use crate::path_of;
-use crate::transactions::text_of;
+use crate::transactions::apply;
 use data_tree::{Node, Tree};
 use ephemerals::TextSet;
 use jute::StatPersisted;
@@ -93,29 +93,50 @@ fn has_list(tree: &Tree, path: &str) -> bool {
     }
 }
 
-// The outcome, and then the stored cversion and the pzxid of the root, and whether /a has a list.
-fn told_in(alloc: Global, tree: &mut Tree, txn: &Txn) -> Result<String, Fail> {
-    load(alloc, tree)?;
-    let outcome = text_of(alloc, &tree.apply(alloc, txn)?)?;
+// Appends the stored cversion and the pzxid of the root, and whether /a has a list.
+fn add_root(alloc: Global, tree: &Tree, text: &mut String) -> Result<(), Fail> {
     let root = tree.node("/").ok_or("no root")?;
-    Ok(format!(in alloc;
-        "{outcome}: {} {} {}",
+    let shown = format!(in alloc;
+        ": {} {} {}",
         root.stat.cversion,
         root.stat.pzxid,
         has_list(tree, "/a")
-    )?)
+    )?;
+    text.push_str(shown.as_str())?;
+    Ok(())
 }
 
-fn told(alloc: Global, rules: Dialect, zxid: i64, body: Body) -> Result<String, Fail> {
+// Applies the transaction to such a tree, and appends the outcome and what the root has then.
+fn apply_in(alloc: Global, tree: &mut Tree, txn: &Txn, text: &mut String) -> Result<(), Fail> {
+    load(alloc, tree)?;
+    apply(alloc, tree, txn, text)?;
+    add_root(alloc, tree, text)
+}
+
+// Appends what the dialect makes of the transaction.
+fn add_told(
+    alloc: Global,
+    rules: Dialect,
+    zxid: i64,
+    body: &Body,
+    text: &mut String,
+) -> Result<(), Fail> {
+    let txn = txn_of(rules, zxid, body.clone()?);
     let mut tree = Tree::empty(alloc);
-    told_in(alloc, &mut tree, &txn_of(rules, zxid, body))
+    apply_in(alloc, &mut tree, &txn, text)
+}
+
+fn add_both(alloc: Global, zxid: i64, body: &Body, text: &mut String) -> Result<(), Fail> {
+    add_told(alloc, Dialect::Zk34, zxid, body, text)?;
+    text.push_str(" | ")?;
+    add_told(alloc, Dialect::Zk38, zxid, body, text)
 }
 
 // What both dialects make of the transaction, the earlier one first.
 fn both(alloc: Global, zxid: i64, body: &Body) -> Result<String, Fail> {
-    let earlier = told(alloc, Dialect::Zk34, zxid, body.clone()?)?;
-    let later = told(alloc, Dialect::Zk38, zxid, body.clone()?)?;
-    Ok(format!(in alloc; "{earlier} | {later}")?)
+    let mut text = String::new(alloc);
+    add_both(alloc, zxid, body, &mut text)?;
+    Ok(text)
 }
 
 #[test]

@@ -1,27 +1,37 @@
 //! The owners of paths.
 
-use crate::texts::looped;
+use crate::texts::add_each;
 use ephemerals::{Ephemerals, TextSet};
 use std::alloc::Global;
 use std::test::Fail;
 
-// The paths of a session, one after another; a dash if there are none.
-fn paths(alloc: Global, owners: &Ephemerals, session: i64) -> Result<String, Fail> {
-    if !owners.owns_any(session) {
-        return Ok(String::from_str(alloc, "-")?);
+// Appends the paths of a session, one after another; a dash if there are none.
+fn add_paths(
+    alloc: Global,
+    owners: &Ephemerals,
+    session: i64,
+    text: &mut String,
+) -> Result<(), Fail> {
+    if owners.owns_any(session) {
+        add_each(text, &owners.of(alloc, session)?)?;
+    } else {
+        text.push_str("-")?;
     }
-    let paths = owners.of(alloc, session)?;
-    looped(alloc, &paths)
+    text.push_str(";")?;
+    Ok(())
 }
 
 // The paths of sessions 0, 7 and 9.
 fn text_of(alloc: Global, owners: &Ephemerals) -> Result<String, Fail> {
     let mut text = String::new(alloc);
-    for session in [0, 7, 9] {
-        text.push_str(paths(alloc, owners, session)?.as_str())?;
-        text.push_str(";")?;
-    }
+    add_text_of(alloc, owners, &mut text)?;
     Ok(text)
+}
+
+fn add_text_of(alloc: Global, owners: &Ephemerals, text: &mut String) -> Result<(), Fail> {
+    add_paths(alloc, owners, 0, text)?;
+    add_paths(alloc, owners, 7, text)?;
+    add_paths(alloc, owners, 9, text)
 }
 
 // Adds pairs, and returns for each whether it was new.
@@ -50,28 +60,42 @@ fn moved(alloc: Global, owners: &Ephemerals) -> Result<String, Fail> {
     text_of(alloc, &copy)
 }
 
-// The pairs at /a, owned by session 9 and then by session 7, and the other pairs without them and with them again.
-fn taken(alloc: Global, owners: &mut Ephemerals) -> Result<String, Fail> {
-    owners.add(alloc, 7, "/a")?;
+fn set_of(alloc: Global, path: &str) -> Result<TextSet, Fail> {
     let mut paths = TextSet::new(alloc);
-    paths.insert(alloc, "/a")?;
-    let found = owners.at(alloc, &paths)?;
-    owners.drop_at(&paths);
-    let left = text_of(alloc, owners)?;
+    paths.insert(alloc, path)?;
+    Ok(paths)
+}
+
+// Takes the pairs at these paths, and appends them and the others.
+fn take(
+    alloc: Global,
+    owners: &mut Ephemerals,
+    paths: &TextSet,
+    text: &mut String,
+) -> Result<Ephemerals, Fail> {
+    let found = owners.at(alloc, paths)?;
+    owners.drop_at(paths);
+    add_text_of(alloc, &found, text)?;
+    add_text_of(alloc, owners, text)?;
+    Ok(found)
+}
+
+// Appends the pairs at /a, owned by session 9 and then by session 7, and the other pairs without them and with them
+// again.
+fn take_and_add(alloc: Global, owners: &mut Ephemerals, text: &mut String) -> Result<(), Fail> {
+    owners.add(alloc, 7, "/a")?;
+    let found = take(alloc, owners, &set_of(alloc, "/a")?, text)?;
     owners.add_all(alloc, &found)?;
-    Ok(format!(in alloc;
-        "{} {left} {}",
-        text_of(alloc, &found)?,
-        text_of(alloc, owners)?
-    )?)
+    add_text_of(alloc, owners, text)
 }
 
 #[test]
 fn pairs_move_by_their_paths(rt: HostRuntime) -> Result<(), Fail> {
     let mut owners = Ephemerals::new(rt.alloc());
     fill(rt.alloc(), &mut owners)?;
-    let text = taken(rt.alloc(), &mut owners)?;
-    assert_eq!(rt; text.as_str(), "-;/a;/a; -;-;/b; -;/a;/a/b;");
+    let mut text = String::new(rt.alloc());
+    take_and_add(rt.alloc(), &mut owners, &mut text)?;
+    assert_eq!(rt; text.as_str(), "-;/a;/a;-;-;/b;-;/a;/a/b;");
     assert_eq!(rt; owners.count(), 3);
     Ok(())
 }

@@ -14,12 +14,17 @@ fn insert_all(alloc: Global, set: &mut TextSet, texts: &[&str]) -> Result<String
     Ok(signs)
 }
 
-// The texts one after another, as a loop over them sees them.
-pub fn looped(alloc: Global, set: &TextSet) -> Result<String, Fail> {
-    let mut out = String::new(alloc);
+/// Appends the texts one after another, as a loop over them sees them.
+pub fn add_each(out: &mut String, set: &TextSet) -> Result<(), Fail> {
     for text in set.iter() {
         out.push_str(text.as_str())?;
     }
+    Ok(())
+}
+
+fn looped(alloc: Global, set: &TextSet) -> Result<String, Fail> {
+    let mut out = String::new(alloc);
+    add_each(&mut out, set)?;
     Ok(out)
 }
 

@@ -1,9 +1,10 @@
 //! The outcomes of transactions, one after the other.
 
 use data_tree::{Outcome, PartResult, Tree, Trigger};
+use settings::Dialect;
 use std::alloc::Global;
 use std::test::Fail;
-use txn_codec::{Txn, decode_txn};
+use txn_codec::{Txn, decode_txn, decode_txn_in};
 
 // Session 9 creates the ephemeral /e.
 const CREATE_E: &[u8; 51] =
@@ -49,72 +50,79 @@ fn add_error(alloc: Global, text: &mut String, part: &PartResult) -> Result<(), 
     Ok(())
 }
 
-// The errors of the parts.
-fn errors_of(alloc: Global, parts: &[PartResult]) -> Result<String, Fail> {
-    let mut text = String::new(alloc);
+// Appends the errors of the parts.
+fn add_errors(alloc: Global, text: &mut String, parts: &[PartResult]) -> Result<(), Fail> {
     for part in parts {
-        add_error(alloc, &mut text, part)?;
-    }
-    Ok(text)
-}
-
-fn add_stat(alloc: Global, text: &mut String, part: &PartResult) -> Result<(), Fail> {
-    match &part.stat {
-        None => text.push_str(" -")?,
-        Some(stat) => {
-            let shown = format!(in alloc; " {}@{}", stat.version, stat.mzxid)?;
-            text.push_str(shown.as_str())?;
-        }
+        add_error(alloc, text, part)?;
     }
     Ok(())
 }
 
-// The version and the mzxid of each part's Stat, or a dash.
-fn stats_of(alloc: Global, parts: &[PartResult]) -> Result<String, Fail> {
-    let mut text = String::new(alloc);
-    for part in parts {
-        add_stat(alloc, &mut text, part)?;
-    }
-    Ok(text)
-}
-
-// The triggers, as signs and paths.
-fn signs_of(alloc: Global, triggers: &[Trigger]) -> Result<String, Fail> {
-    let mut text = String::new(alloc);
+// Appends the triggers, as signs and paths.
+fn add_signs(text: &mut String, triggers: &[Trigger]) -> Result<(), Fail> {
     for trigger in triggers {
         let (sign, path) = sign_of(trigger);
         text.push_str(sign)?;
         text.push_str(path)?;
     }
-    Ok(text)
+    Ok(())
 }
 
-/// The error, the parts' errors, and the triggers.
-pub fn text_of(alloc: Global, outcome: &Outcome) -> Result<String, Fail> {
-    let errors = errors_of(alloc, outcome.results.parts.as_slice())?;
-    let signs = signs_of(alloc, outcome.triggers.as_slice())?;
-    Ok(format!(in alloc; "{}{errors}{signs}", outcome.results.err)?)
+/// Appends a number.
+pub fn add_number(alloc: Global, text: &mut String, number: i32) -> Result<(), Fail> {
+    let shown = format!(in alloc; "{number}")?;
+    text.push_str(shown.as_str())?;
+    Ok(())
 }
 
-// The transaction that the bytes spell.
-fn txn_of(alloc: Global, bytes: &[u8]) -> Result<Txn, Fail> {
-    Ok(decode_txn(alloc, bytes)?)
+/// Appends the error, the parts' errors, and the triggers.
+pub fn add_outcome(alloc: Global, text: &mut String, outcome: &Outcome) -> Result<(), Fail> {
+    add_number(alloc, text, outcome.results.err)?;
+    add_errors(alloc, text, outcome.results.parts.as_slice())?;
+    add_signs(text, outcome.triggers.as_slice())
 }
 
-// The outcome of the transaction that the bytes spell.
-fn answer(alloc: Global, tree: &mut Tree, bytes: &[u8]) -> Result<String, Fail> {
-    let txn = txn_of(alloc, bytes)?;
-    text_of(alloc, &tree.apply(alloc, &txn)?)
+/// Applies the transaction and appends its outcome.
+pub fn apply(alloc: Global, tree: &mut Tree, txn: &Txn, text: &mut String) -> Result<(), Fail> {
+    add_outcome(alloc, text, &tree.apply(alloc, txn)?)
 }
 
-// The outcomes of the transactions, one after the other.
-fn answers(alloc: Global, tree: &mut Tree, texts: &[&[u8]]) -> Result<String, Fail> {
-    let mut all = String::new(alloc);
+// Applies the transaction that the bytes spell, and appends its outcome.
+fn apply_bytes(
+    alloc: Global,
+    tree: &mut Tree,
+    rules: Dialect,
+    bytes: &[u8],
+    text: &mut String,
+) -> Result<(), Fail> {
+    apply(alloc, tree, &decode_txn_in(rules, alloc, bytes)?, text)
+}
+
+// Applies these transactions, one after the other, and appends their outcomes.
+fn apply_all(
+    alloc: Global,
+    tree: &mut Tree,
+    rules: Dialect,
+    texts: &[&[u8]],
+    text: &mut String,
+) -> Result<(), Fail> {
     for bytes in texts {
-        all.push_str(answer(alloc, tree, bytes)?.as_str())?;
-        all.push_str("; ")?;
+        apply_bytes(alloc, tree, rules, bytes, text)?;
+        text.push_str("; ")?;
     }
-    Ok(all)
+    Ok(())
+}
+
+/// Applies the transactions that these bytes spell in the dialect, and returns their outcomes.
+pub fn answers(
+    alloc: Global,
+    tree: &mut Tree,
+    rules: Dialect,
+    texts: &[&[u8]],
+) -> Result<String, Fail> {
+    let mut text = String::new(alloc);
+    apply_all(alloc, tree, rules, texts, &mut text)?;
+    Ok(text)
 }
 
 // The cversion of the Stat, the number of children, the pzxid and the aversion of a node.
@@ -135,7 +143,7 @@ fn answers_and_node(
     path: &str,
 ) -> Result<(String, Option<(i32, i32, i64, i32)>), Fail> {
     let mut tree = fresh(alloc)?;
-    let all = answers(alloc, &mut tree, texts)?;
+    let all = answers(alloc, &mut tree, Dialect::Zk34, texts)?;
     Ok((all, numbers(&tree, path)))
 }
 
@@ -159,21 +167,36 @@ fn the_others_are_answered(rt: HostRuntime) -> Result<(), Fail> {
     Ok(())
 }
 
-// The Stats of the parts of a multi that sets data of /e and then deletes it, and whether /e is still there.
-fn set_and_deleted(alloc: Global) -> Result<(String, bool), Fail> {
-    let mut tree = fresh(alloc)?;
-    answer(alloc, &mut tree, CREATE_E)?;
-    let txn = txn_of(alloc, SET_AND_DELETE)?;
-    let outcome = tree.apply(alloc, &txn)?;
-    let stats = stats_of(alloc, outcome.results.parts.as_slice())?;
-    Ok((stats, tree.node("/e").is_some()))
+// The version and the mzxid of a part's Stat.
+fn stat_numbers(part: &PartResult) -> Option<(i32, i64)> {
+    match &part.stat {
+        None => None,
+        Some(stat) => Some((stat.version, stat.mzxid)),
+    }
+}
+
+// The Stats of the parts of a multi that sets data of /e and then deletes it.
+fn stats_of_parts(parts: &[PartResult]) -> Option<(Option<(i32, i64)>, Option<(i32, i64)>)> {
+    let [set, delete] = parts else {
+        return None;
+    };
+    Some((stat_numbers(set), stat_numbers(delete)))
+}
+
+// Whether the first part has the Stat of its node and the second none.
+fn has_one_stat(alloc: Global, tree: &mut Tree, txn: &Txn) -> Result<bool, Fail> {
+    let outcome = tree.apply(alloc, txn)?;
+    let stats = stats_of_parts(outcome.results.parts.as_slice());
+    Ok(stats == Some((Some((1, 2)), None)))
 }
 
 /// A part's Stat is that of its node right after the part, although the next part deletes the node.
 #[test]
 fn parts_have_their_stats(rt: HostRuntime) -> Result<(), Fail> {
-    let (stats, is_there) = set_and_deleted(rt.alloc())?;
-    assert_eq!(rt; stats.as_str(), " 1@2 -");
-    assert!(rt; !is_there);
+    let alloc = rt.alloc();
+    let mut tree = fresh(alloc)?;
+    assert!(rt; answers(alloc, &mut tree, Dialect::Zk34, &[CREATE_E])?.len() > 0);
+    assert!(rt; has_one_stat(alloc, &mut tree, &decode_txn(alloc, SET_AND_DELETE)?)?);
+    assert!(rt; tree.node("/e").is_none());
     Ok(())
 }

@@ -2,11 +2,11 @@
 use Rattle.std.proofs.Common.{◌≡◌, ℤ, List, [], ◌∷◌, Bool, true, false, not, ◌||◌, ◌&&◌, refl, sym, ap, ◌∙◌}
 use Rattle.std.proofs.Math.Bool.{and-false, or-false}
 use Rattle.std.specs.List.{list_any}
-use Rattle.std.specs.Ordering.{eq_by_cmp}
-use Rattle.std.specs.Cmp.{eq_by_cmp_equiv}
+use Rattle.std.specs.Ordering.{eq_by_cmp, is_eq}
+use Rattle.std.specs.Cmp.{eq_by_cmp_equiv, tied_itself}
 use Rattle.std.specs.FinSet as set
 use Rattle.ephemerals.specs.Orders.{Bytes, Names, OwnerPairs, path_cmp, pair_cmp, sorted_names}
-use Rattle.ephemerals.specs.Pairs.{pairs_at, without_paths}
+use Rattle.ephemerals.specs.Pairs.{pairs_at, without_paths, CopiesPath}
 use Rattle.ephemerals.specs.Inner.Steps.{pairs_on, without_path, without_listed_paths, with_pairs_from}
 use Rattle.ephemerals.proofs.Totals.{path_total, pair_total, pair_exact}
 use Rattle.ephemerals.proofs.Ascending.{any-in_order}
@@ -27,6 +27,37 @@ pub contains-without_path : (p : Bytes) (pairs : OwnerPairs) (v : ℤ) (q : Byte
 contains-without_path p pairs v q =
     set.contains-retain pairs (λ (r : ℤ × Bytes). not (eq_by_cmp path_cmp p r.1)) (v, q)
     (λ x tie. ap (λ (r : ℤ × Bytes). not (eq_by_cmp path_cmp p r.1)) (sym (pair_exact (v, q) x tie)))
+
+contains-copied : (p : Bytes) (others old : OwnerPairs) (v : ℤ) (q : Bytes) (b : Bool) → eq_by_cmp path_cmp p q ≡ b
+    → set.contains (set.union (without_path p old) (pairs_on p others)) (v, q)
+    ≡ ((set.contains old (v, q) && not b) || (set.contains others (v, q) && b))
+contains-copied p others old v q b is =
+    set.contains-union pair_total (without_path p old) (pairs_on p others) (v, q)
+    ∙ (λ i. contains-without_path p old v q i || contains-pairs_on p others v q i)
+    ∙ ap (λ x. (set.contains old (v, q) && not x) || (set.contains others (v, q) && x)) is
+
+pub path_copied : (p : Bytes) (others old : OwnerPairs)
+    → CopiesPath p others old (set.union (without_path p old) (pairs_on p others))
+path_copied p others old = record {
+  here =
+      λ v. contains-copied p others old v p true (ap is_eq (tied_itself path_total p))
+      ∙ theirs (set.contains old (v, p)) (set.contains others (v, p));
+  elsewhere =
+      λ v q out. contains-copied p others old v q false ((eq_by_cmp_equiv path_total).symm p q ∙ out)
+      ∙ own (set.contains old (v, q)) (set.contains others (v, q));
+}
+  where
+    theirs : (a b : Bool) → ((a && not true) || (b && true)) ≡ b
+    theirs true true = refl
+    theirs true false = refl
+    theirs false true = refl
+    theirs false false = refl
+
+    own : (a b : Bool) → ((a && not false) || (b && false)) ≡ a
+    own true true = refl
+    own true false = refl
+    own false true = refl
+    own false false = refl
 
 -- ---- all pairs at some paths
 

@@ -1,9 +1,9 @@
 -- The pairs of a session and a path that it owns. Session 0 owns none.
-use Rattle.std.specs.Prelude.{ℤ, pos, not, map, if◌then◌else◌}
+use Rattle.std.specs.Prelude.{◌≡◌, ℤ, pos, not, false, map, if◌then◌else◌}
 use Rattle.std.specs.List.{filter}
-use Rattle.std.specs.Ordering.{int_eq}
+use Rattle.std.specs.Ordering.{int_eq, eq_by_cmp}
 use Rattle.std.specs.FinSet as set
-use Rattle.ephemerals.specs.Orders.{Bytes, Names, OwnerPairs}
+use Rattle.ephemerals.specs.Orders.{Bytes, Names, OwnerPairs, path_cmp}
 
 abbrev pub with_pair : OwnerPairs → ℤ → Bytes → OwnerPairs
 with_pair pairs session path = if int_eq session (pos 0) then pairs else set.insert pairs (session, path)
@@ -27,3 +27,9 @@ pairs_at paths pairs = set.retain pairs (λ (p : ℤ × Bytes). set.contains pat
 
 abbrev pub without_paths : Names → OwnerPairs → OwnerPairs
 without_paths paths pairs = set.retain pairs (λ (p : ℤ × Bytes). not (set.contains paths p.1))
+
+-- At the path the pairs are those of the others; elsewhere they are as they were.
+pub record CopiesPath (path : Bytes) (others old new : OwnerPairs) : Type 0 where
+  pub here : (session : ℤ) → set.contains new (session, path) ≡ set.contains others (session, path)
+  pub elsewhere : (session : ℤ) (q : Bytes) → eq_by_cmp path_cmp q path ≡ false
+      → set.contains new (session, q) ≡ set.contains old (session, q)

@@ -6,7 +6,7 @@ ghost use Rattle.std.specs.Ordering.{int_eq};
 ghost use Rattle.std.specs.Str.{bytes_eq};
 ghost use Rattle.std.specs.FinSet as set;
 ghost use Rattle.ephemerals.specs.Pairs.{with_pair, without_pair, with_other_owner, paths_of_session, without_session};
-ghost use Rattle.ephemerals.specs.Pairs.{pairs_at, without_paths};
+ghost use Rattle.ephemerals.specs.Pairs.{pairs_at, without_paths, CopiesPath};
 ghost use Rattle.ephemerals.specs.Inner.Steps.{without_path, pairs_on};
 
 use crate::number_of_session::number_of_session;
@@ -130,12 +130,7 @@ impl Ephemerals {
     pub fn of(&self, alloc: Global, session: i64) -> Result<TextSet, NoMemory>
         ensures { IfOk result (λ paths. paths ≡ paths_of_session session self.now) }
     {
-        let unordered = self.paths_of(session);
-        let mut paths = TextSet::new(alloc);
-        for path in unordered {
-            paths.insert(alloc, path.as_str())?;
-        }
-        Ok(paths)
+        TextSet::from_keys(alloc, self.paths_of(session))
     }
 
     /// Removes all paths of a session and returns them. A refused allocation changes nothing.
@@ -172,6 +167,20 @@ impl Ephemerals {
         ensures { self.new ≡ without_path path.now self.old }
     {
         self.pairs.drop_text(path)
+    }
+
+    /// Replaces the pairs at the path by copies of those that the others have there. After a refused allocation some of
+    /// these are missing.
+    pub fn copy_path(
+        &mut self,
+        alloc: Global,
+        path: &str,
+        others: &Ephemerals,
+    ) -> Result<(), NoMemory>
+        ensures { OnOk result (CopiesPath path.now others.now self.old self.new) }
+    {
+        self.drop_on(path);
+        self.add_on(alloc, path, others)
     }
 
     /// Removes the pairs at these paths. Allocates nothing.

@@ -9,6 +9,7 @@ ghost use Rattle.ephemerals.specs.Orders.{Bytes, path_cmp, sorted_names};
 use crate::run::Run;
 use crate::runs::{Place, find, put, take};
 use crate::texts::Texts;
+use pairs::TextKey;
 use std::alloc::{AllocError, Global};
 use std::marker::Model;
 use values::{NoMemory, Text};
@@ -46,6 +47,17 @@ impl TextSet {
             runs: Vec::new(alloc),
             len: 0,
         }
+    }
+
+    /// The set of these texts, which may be in any order. Fails only if an allocation is refused.
+    pub fn from_keys(alloc: Global, keys: &[TextKey]) -> Result<TextSet, NoMemory>
+        ensures { IfOk result (λ texts. texts ≡ set.from_list keys.now) }
+    {
+        let mut texts = TextSet::new(alloc);
+        for key in keys {
+            texts.insert(alloc, key.as_str())?;
+        }
+        Ok(texts)
     }
 
     /// The number of texts.

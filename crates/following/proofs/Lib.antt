@@ -6,5 +6,5 @@ pub mod Pausing
 pub mod Refusing
 -- The second look, and limits.
 pub mod Waiting
--- Checkpoints, again and at most.
+-- Checkpoints: none before its time.
 pub mod Planning

@@ -2,7 +2,7 @@
 
 ghost use Rattle.following.specs.Searches.{EachRoundTriesEach, LostIsTriedLast, PausesAreBounded, RoundsInVainPause, RoundsInVainGrow, PausesAreWorked, ServedGoesOn, JitterIsATenth, HopelessAfterFive, ServedBeginsAnew};
 ghost use Rattle.following.specs.Waits.{NoneIsGivenUpAtOnce, GivenUpAtSecondLook, SilentIsGivenUp, HeardIsKept, NoneIsServedPastItsSession, HeartbeatsAreEnough};
-ghost use Rattle.following.specs.Plans.{NoneIsDueAgainAtOnce, NoneIsDueAtNone, DueIsShort, OverdueIsDue, OneSlowIsForgiven};
+ghost use Rattle.following.specs.Plans.{NoneIsDueBefore, NoneIsDueAtNone};
 
 /// As many tries as there are servers try each of them once; and a server that was lost is the last of the round that
 /// follows.
@@ -45,13 +45,9 @@ pub fn limits()
     ensures heartbeats { HeartbeatsAreEnough }
 {}
 
-/// No checkpoint is due where none is wanted. Until the leader has sent twice as many bytes as make one due, none is due
-/// within ten pauses after the last one, nor where the engine would pause for longer than 2,500 ms at the pace of the
-/// quicker of the last two, so that one slow checkpoint puts none off. From then on one is due.
+/// After a checkpoint none is due until the leader has sent more than makes one due; and none is due where none is
+/// wanted.
 pub fn due_checkpoints()
-    ensures again { NoneIsDueAgainAtOnce }
+    ensures before { NoneIsDueBefore }
     ensures none { NoneIsDueAtNone }
-    ensures short { DueIsShort }
-    ensures overdue { OverdueIsDue }
-    ensures forgiven { OneSlowIsForgiven }
 {}

@@ -70,37 +70,25 @@ fn limits(alloc: Global) -> Result<String, Fail> {
     Ok(text)
 }
 
-// Of a tree of a million nodes, for which 256 MB are to come, and no more than 512: before any, and after a quick one.
+// After 64 MiB, after one byte more, and after a checkpoint and then 64 MiB in two pieces.
 fn checkpoints(alloc: Global) -> Result<String, Fail> {
     let mut plan = Checkpoints::new(64);
-    plan.received(256_000_000);
-    let small = plan.judge(1000, 1_000_000);
+    plan.received(67_108_864);
+    let before = plan.is_due();
     plan.received(1);
-    let first = plan.judge(1000, 1_000_000);
-    plan.taken(1000, 530, 1_000_000);
-    plan.received(512_000_000);
-    let soon = plan.judge(6299, 1_000_000);
-    let again = plan.judge(6300, 1_000_000);
-    plan.received(1);
-    let overdue = plan.judge(1001, 1_000_000);
-    Ok(format!(in alloc; "{small:?} {first:?} {soon:?} {again:?} {overdue:?}")?)
+    let due = plan.is_due();
+    plan.taken();
+    plan.received(60_000_000);
+    plan.received(7_108_864);
+    let again = plan.is_due();
+    Ok(format!(in alloc; "{before} {due} {again}")?)
 }
 
-// After a quick one and a slow one, and after two slow ones: of the same tree, and of one that grew tenfold.
-fn slow_checkpoints(alloc: Global) -> Result<String, Fail> {
-    let mut plan = Checkpoints::new(64);
-    plan.taken(1000, 530, 1_000_000);
-    plan.taken(6300, 4600, 1_000_000);
-    plan.received(300_000_000);
-    let forgiven = plan.judge(52_300, 1_000_000);
-    plan.received(2_700_000_000);
-    let larger = plan.judge(52_300, 10_000_000);
-    plan.taken(52_300, 4700, 1_000_000);
-    plan.received(512_000_000);
-    let long = plan.judge(99_300, 1_000_000);
-    plan.received(1);
-    let overdue = plan.judge(99_300, 1_000_000);
-    Ok(format!(in alloc; "{forgiven:?} {larger:?} {long:?} {overdue:?}")?)
+// Where none is wanted.
+fn no_checkpoints() -> bool {
+    let mut plan = Checkpoints::new(0);
+    plan.received(u64::MAX);
+    plan.is_due()
 }
 
 // Of a leader that just ended, of an old one, and of one that cut too far.
@@ -142,17 +130,8 @@ fn limits_of_silence(rt: HostRuntime) -> Result<(), Fail> {
 #[test]
 fn checkpoints_by_bytes(rt: HostRuntime) -> Result<(), Fail> {
     let text = checkpoints(rt.alloc())?;
-    assert_eq!(rt; text.as_str(), "NotYet Now NotYet Now Now");
-    Ok(())
-}
-
-#[test]
-fn checkpoints_that_were_slow(rt: HostRuntime) -> Result<(), Fail> {
-    let text = slow_checkpoints(rt.alloc())?;
-    assert_eq!(rt;
-        text.as_str(),
-        "Now TooLong { expected: 5300 } TooLong { expected: 4600 } Now"
-    );
+    assert_eq!(rt; text.as_str(), "false true false");
+    assert!(rt; !no_checkpoints());
     Ok(())
 }
 

@@ -14,7 +14,7 @@ use Rattle.ephemerals.proofs.Totals.{path_total}
 use Rattle.ephemerals.proofs.Ascending.{any-in_order}
 use Rattle.node_map.specs.Nodes.{Nodes}
 use Rattle.node_map.specs.Agreement.{has_node}
-use Rattle.node_map.specs.Updates.{update_found, with_entries, IsBetween}
+use Rattle.node_map.specs.Updates.{update_found, with_entries, with_node_at, IsBetween}
 use Rattle.node_map.specs.Inner.Moving.{IsRoomFor, with_replaced_node, without_nodes, with_moved_nodes}
 use Rattle.node_map.specs.declared.node.Node.{Node}
 use Rattle.pairs.proofs.Hashed.{map_of}
@@ -103,6 +103,13 @@ get-filled p (Some node) room q =
         ∙ ap (put_over (Some node)) (sym some)
     by (Some n) e false t =
         finmap.get-insert path_total room p node q ∙ ap (λ b. cond b (Some node) (finmap.get room q)) t
+
+pub get-node_at : (p : Bytes) (o : Option Node) (nodes : Nodes) (q : Bytes) (b : Bool) → eq_by_cmp path_cmp q p ≡ b
+    → finmap.get (with_node_at p o nodes) q ≡ cond b o (finmap.get nodes q)
+get-node_at p None nodes q b t =
+    finmap.get-remove path_total nodes p q ∙ ap (λ x. cond x None (finmap.get nodes q)) t
+get-node_at p (Some node) nodes q b t =
+    finmap.get-insert path_total nodes p node q ∙ ap (λ x. cond x (Some node) (finmap.get nodes q)) t
 
 get-moved : (ps : List Bytes) (nodes room : Nodes) (q : Bytes) → finmap.get (with_moved_nodes ps nodes room) q
     ≡ cond (list_any (eq_by_cmp path_cmp q) ps) (put_over (finmap.get nodes q) (finmap.get room q)) (finmap.get room q)

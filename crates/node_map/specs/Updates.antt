@@ -123,6 +123,11 @@ abbrev pub with_entries : Nodes → List (Bytes × Node) → Nodes
 with_entries nodes [] = nodes
 with_entries nodes (e ∷ es) = finmap.insert (with_entries nodes es) e.0 e.1
 
+-- The nodes with this one at the path, or with none there.
+abbrev pub with_node_at : Bytes → Option Node → Nodes → Nodes
+with_node_at path None nodes = finmap.remove nodes path
+with_node_at path (Some node) nodes = finmap.insert nodes path node
+
 -- At each path the nodes are as before the change, or as after it.
 abbrev pub IsBetween : Nodes → Nodes → Nodes → Type 0
 IsBetween before after nodes =

@@ -12,7 +12,7 @@ ghost use Rattle.ephemerals.specs.Orders.{Bytes, path_cmp};
 ghost use Rattle.std.specs.Map.Iter.{ShowsInOrder, deref_pair};
 ghost use Rattle.node_map.specs.declared.node.Node.{Node as TheNode};
 ghost use Rattle.node_map.specs.Inner.NodeMapLends.{LendsNode};
-ghost use Rattle.node_map.specs.Updates.{with_entries, IsBetween, update_node, with_data, with_acl, with_missing_acl, with_name};
+ghost use Rattle.node_map.specs.Updates.{with_entries, IsBetween, update_node, with_data, with_acl, with_missing_acl, with_name, with_node_at};
 ghost use Rattle.node_map.specs.Children.{with_added_child, added_child, without_added_child, without_child, without_missing_child, without_name, with_new_node, HasItsChildren};
 ghost use Rattle.node_map.specs.Agreement.{has_node, has_parent, AreLinked, AreNamed, AreChildNames, AreOwned, is_child_name, is_listed_at};
 
@@ -164,6 +164,22 @@ impl NodeMap {
         ensures removed { self.new ≡ finmap.remove self.old path.now }
     {
         self.map.swap_remove(KeyQuery(path))
+    }
+
+    /// Replaces the node at the path by a copy of the others' there; there is none afterwards if they have none. A
+    /// refused allocation changes nothing.
+    pub fn copy_node(&mut self, alloc: Global, others: &NodeMap, path: &str) -> Result<(), NoMemory>
+        ensures ok { OnOk result
+            (self.new ≡ with_node_at path.now (finmap.get others.now path.now) self.old) }
+        ensures err { OnErr result (self.new ≡ self.old) }
+    {
+        match others.get(path) {
+            None => {
+                self.remove(path);
+                Ok(())
+            }
+            Some(node) => self.insert(alloc, path, node.clone()?),
+        }
     }
 
     pub(crate) fn get_mut(&mut self, path: &str) -> Option<&mut Node>

@@ -69,7 +69,7 @@ pub(crate) fn settle_txns<D: Fn(&mut Tree, &[Txn]) -> Result<Vec<Outcome>, NoMem
         (λ w. apply_in_turn w (drop done w.replica.learner.log))
         stage.new }
 {
-    let outcomes = stage.world.replica.apply_gathered(done, doer)?;
+    let outcomes = stage.world.replica.apply_gathered(alloc, done, doer)?;
     tell_each(
         alloc,
         &mut stage.world.clients,
@@ -127,7 +127,7 @@ fn settle_and_answer<D: Fn(&mut Tree, &[Txn]) -> Result<Vec<Outcome>, NoMemory>>
         (λ w. settle_and_answer w place (drop done w.replica.learner.log))
         stage.new }
 {
-    let applied = stage.world.replica.apply_gathered(done, doer)?;
+    let applied = stage.world.replica.apply_gathered(alloc, done, doer)?;
     tell_and_answer(alloc, stage, place, due, applied.as_slice())
 }
 

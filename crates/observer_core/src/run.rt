@@ -53,7 +53,10 @@ fn happen_alone<D: Fn(&mut Tree, &[Txn]) -> Result<Vec<Outcome>, NoMemory>>(
             Ok(())
         }
         Event::Expire(session) => expire_session(session, &mut machine.stage),
-        Event::Checkpoint => machine.stage.world.replica.checkpoint(alloc),
+        Event::Checkpoint => {
+            machine.stage.world.replica.checkpoint(alloc);
+            Ok(())
+        }
     }
 }
 

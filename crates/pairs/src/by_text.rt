@@ -1,6 +1,6 @@
 //! The pairs by text: for each text its numbers.
 
-ghost use Rattle.std.specs.Prelude.{◌≡◌, ℕ, List, OnOk, OnErr, IfOk, IfSome, IfNone, not};
+ghost use Rattle.std.specs.Prelude.{◌≡◌, ℕ, List, OnOk, OnErr, IfOk, IfSome, IfNone, is_some, not};
 ghost use Rattle.std.specs.Ordering.{nat_cmp};
 ghost use Rattle.std.specs.FinSet as set;
 ghost use Rattle.pairs.specs.Pairs.{text_cmp, numbers_at, without_text, keys_in, keys_beyond};
@@ -149,6 +149,7 @@ impl ByText {
 
     /// Removes all pairs of a text and returns its numbers; None if it has none.
     pub fn take(&mut self, text: &str) -> Option<Row>
+        ensures some { is_some result ≡ set.contains (keys_in text_cmp self.old) text.now }
         ensures row { IfSome result (λ row. row ≡ numbers_at text.now self.old) }
         ensures none { IfNone result (numbers_at text.now self.old ≡ set.empty) }
         ensures rest { self.new ≡ without_text text.now self.old }

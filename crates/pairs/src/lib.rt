@@ -18,7 +18,7 @@ mod by_number;
 mod by_text;
 mod hash_key;
 mod hashed_texts;
-mod law;
+pub mod law;
 mod number_set;
 mod pairs_table;
 mod row;
@@ -26,7 +26,7 @@ mod text_key;
 mod text_table;
 
 pub use hash_key::HashKey;
-pub use law::{texts_are_fed_apart, worked_rows};
+pub use hashed_texts::HashedTexts;
 pub use number_set::NumberSet;
 pub use pairs_table::Pairs;
 pub use text_key::{KeyQuery, TextKey};

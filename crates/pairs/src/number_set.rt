@@ -69,7 +69,8 @@ impl NumberSet {
         Ok(self.numbers.insert(number)?)
     }
 
-    /// Adds each number of the other set. A refused allocation takes no number away, and leaves some of the others added.
+    /// Adds each number of the other set. A refused allocation takes no number away, and may leave some
+    /// of the others added.
     pub fn add_all(&mut self, others: &NumberSet) -> Result<(), NoMemory>
         ensures ok { OnOk result (self.new ≡ set.union self.old others.now) }
         ensures err_keeps { OnErr result (set.is_subset self.old self.new ≡ true) }

@@ -137,8 +137,8 @@ impl Pairs {
         }
     }
 
-    /// Adds the numbers of the text to a set. A refused allocation takes no number away, and leaves some of the text's
-    /// added.
+    /// Adds the numbers of the text to a set. A refused allocation takes no number away, and may leave some
+    /// of the text's added.
     pub fn add_numbers_of(&self, numbers: &mut NumberSet, text: &str) -> Result<(), NoMemory>
         ensures ok { OnOk result (numbers.new ≡ set.union numbers.old (numbers_at text.now self.now)) }
         ensures err_keeps { OnErr result (set.is_subset numbers.old numbers.new ≡ true) }

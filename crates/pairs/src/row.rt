@@ -137,7 +137,8 @@ impl Row {
         }
     }
 
-    /// Adds these numbers to a set. A refused allocation takes no number away, and leaves some of these added.
+    /// Adds these numbers to a set. A refused allocation takes no number away, and may leave some of these
+    /// added.
     pub fn add_to(&self, numbers: &mut NumberSet) -> Result<(), NoMemory>
         ensures ok { OnOk result (numbers.new ≡ set.union numbers.old self.now) }
         ensures err_keeps { OnErr result (set.is_subset numbers.old numbers.new ≡ true) }

@@ -3,4 +3,6 @@
 #![tactic(auto)]
 
 #[cfg(test)]
+mod hashed;
+#[cfg(test)]
 mod steps;

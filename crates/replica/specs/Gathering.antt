@@ -1,14 +1,10 @@
 -- Transactions that are gathered: the log has them, and they are applied to the tree later.
-use Rattle.std.specs.Prelude.{◌≡◌, Bool, true, false, List, [], ◌∷◌, ◌++◌, Option, Some, None, Result, Ok, Err, OnOk, IfOk, Vec}
-use Rattle.std.specs.declared.alloc.Global.{Global}
-use Rattle.std.specs.Borrow.{Bor, MutBor}
+use Rattle.std.specs.Prelude.{◌≡◌, Bool, true, false, List, [], ◌∷◌, ◌++◌, Option, Some, None, Result, Ok, Err}
 use Rattle.values.specs.declared.fault.NoMemory.{NoMemory}
 use Rattle.values.specs.declared.fault.ReadError.{ReadError}
 use Rattle.values.specs.declared.fault.ReadError.TheVariants as errors
 use Rattle.txn_codec.specs.declared.txn.Txn.{Txn}
 use Rattle.data_tree.specs.State.{State}
-use Rattle.data_tree.specs.Meaning.{state_after, outcomes_of_txns}
-use Rattle.data_tree.specs.declared.outcome.Outcome.{Outcome}
 use Rattle.snapshot_codec.specs.Made.{Loading}
 use Rattle.quorum_packet.specs.Kinds.{kind_of}
 use Rattle.quorum_packet.specs.declared.item.Item.{Item}
@@ -17,6 +13,7 @@ use Rattle.quorum_packet.specs.declared.kind.PacketKind.{PacketKind}
 use Rattle.quorum_packet.specs.declared.kind.PacketKind.TheVariants as kinds
 use Rattle.learner_sync.specs.Learner.{Learner}
 use Rattle.learner_sync.specs.Learn.{LearnerStep, learn_item}
+pub use Rattle.based_tree.specs.Based.{AppliesTxns}
 use Rattle.replica.specs.Replica.{Replica}
 use Rattle.replica.specs.Taking.{no_effect, apply_to_tree, take_item}
 
@@ -56,15 +53,3 @@ Gathers (Ok u) i old new = IsGathered old i new.learner × (new ≡ record old {
 Gathers (Err (errors.Fault e)) i old new =
     ((loading : Loading) (tree : State) → take_item loading (record old { tree = tree }) i ≡ Err e) × (new ≡ old)
 Gathers (Err errors.NoMemory) i old new = new ≡ old
-
--- The contract of a closure that applies transactions to a tree, one after the other: it may be called with every tree
--- and every list.
-pub record AppliesTxns (pre : MutBor State → Bor (List Txn) → Type 0)
-    (post : MutBor State → Bor (List Txn) → Result (Vec Outcome Global) NoMemory → MutBor State → Type 0) : Type 0 where
-  pub may : (tree : MutBor State) (txns : Bor (List Txn)) → pre tree txns
-  pub tree : (tree : MutBor State) (txns : Bor (List Txn)) (r : Result (Vec Outcome Global) NoMemory)
-      (left : MutBor State)
-      → post tree txns r left → OnOk r (left.now ≡ state_after tree.now txns.now)
-  pub outcomes : (tree : MutBor State) (txns : Bor (List Txn)) (r : Result (Vec Outcome Global) NoMemory)
-      (left : MutBor State)
-      → post tree txns r left → IfOk r (λ v. v.items ≡ outcomes_of_txns tree.now txns.now)

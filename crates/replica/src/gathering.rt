@@ -44,9 +44,11 @@ impl Replica {
     /// Applies the log's transactions after the first `done` by the closure, and returns their outcomes. Each outcome
     /// has what taking the transaction's item would have brought: its triggers, and the results of `LeaderNews::Applied`.
     ///
-    /// Fails if the closure does. Then the tree is what the closure left, and the caller drops the replica.
+    /// Fails if the closure does, or if an allocation is refused. Then the tree and the base are unspecified, and the
+    /// caller drops the replica.
     pub fn apply_gathered<D: Fn(&mut Tree, &[Txn]) -> Result<Vec<Outcome>, NoMemory>>(
         &mut self,
+        alloc: Global,
         done: usize,
         doer: &D,
     ) -> Result<Vec<Outcome>, NoMemory>
@@ -56,8 +58,9 @@ impl Replica {
             (self.new ≡ record self.old { tree = state_after self.old.tree (drop done self.old.learner.log) }) }
         ensures outcomes { IfOk result (λ v. v.items
             ≡ outcomes_of_txns self.old.tree (drop done self.old.learner.log)) }
-        ensures err { OnErr result (self.new ≡ record self.old { tree = self.new.tree }) }
+        ensures err { OnErr result (self.new.learner ≡ self.old.learner) }
     {
-        doer(&mut self.tree, &self.learner.since_base()[done..])
+        self.based
+            .apply_all(alloc, &self.learner.since_base()[done..], doer)
     }
 }

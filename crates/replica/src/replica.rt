@@ -3,11 +3,10 @@
 ghost use Rattle.std.specs.Prelude.{◌≡◌, ◌⊎◌, IfOk, OnOk, OnErr};
 ghost use Rattle.std.specs.List.{AllByRecursion};
 ghost use Rattle.quorum_packet.specs.Packet.{packet_format};
-ghost use Rattle.data_tree.specs.Meaning.{fresh_state};
-ghost use Rattle.data_tree.specs.Making.{empty_state};
-ghost use Rattle.replica.specs.Replica.{replica_at, new_replica, primed_replica};
+ghost use Rattle.replica.specs.Replica.{new_replica, primed_replica};
 ghost use Rattle.replica.specs.Taking.{follow_leader, without_leader, checkpoint_replica, is_serving};
 
+use based_tree::BasedTree;
 use data_tree::{HashKey, Tree};
 use learner_sync::{Act, Learner, Phase};
 use quorum_packet::QuorumPacket;
@@ -19,8 +18,7 @@ use values::{Listed, NoMemory};
 /// A tree that follows a leader, with the base that its log starts from.
 pub struct Replica {
     pub(crate) learner: Learner,
-    pub(crate) base: Tree,
-    pub(crate) tree: Tree,
+    pub(crate) based: BasedTree,
 }
 
 impl Model for Replica {
@@ -32,19 +30,14 @@ impl Model for Replica {
 
     ghost coded = { replica_code of_learner.the_row.coded of_tree.the_row.coded };
 
-    ghost view = { λ r. record { learner = r.learner; base = r.base; tree = r.tree } };
+    ghost view = { λ r. record { learner = r.learner; base = r.based.base; tree = r.based.tree } };
 }
 
 impl Drop for Replica {
     fn drop(self) {
-        let Replica {
-            learner,
-            base,
-            tree,
-        } = self;
+        let Replica { learner, based } = self;
         drop(learner);
-        drop(base);
-        drop(tree);
+        drop(based);
     }
 }
 
@@ -59,7 +52,11 @@ impl Replica {
     ) -> Result<Replica, NoMemory>
         ensures { IfOk result (λ r. r ≡ new_replica dialect epochs) }
     {
-        Replica::fresh(alloc, key, Learner::new(alloc, dialect, epochs))
+        let tree = Tree::fresh_with_key(alloc, key)?;
+        Ok(Replica {
+            learner: Learner::new(alloc, dialect, epochs),
+            based: BasedTree::new(alloc, tree),
+        })
     }
 
     /// A replica that serves in epoch 1, and whose tree has one session with this timeout in milliseconds. Its leaders
@@ -73,20 +70,11 @@ impl Replica {
     ) -> Result<Replica, NoMemory>
         ensures { IfOk result (λ r. r ≡ primed_replica dialect session time_out) }
     {
-        let mut replica = Replica::fresh(alloc, key, Learner::primed(alloc, dialect))?;
-        replica.base.put_session(session, time_out)?;
-        replica.tree.put_session(session, time_out)?;
-        Ok(replica)
-    }
-
-    // The tree and the base before any transaction.
-    fn fresh(alloc: Global, key: HashKey, learner: Learner) -> Result<Replica, NoMemory>
-        ensures { IfOk result (λ r. r ≡ replica_at learner fresh_state) }
-    {
+        let mut tree = Tree::fresh_with_key(alloc, key)?;
+        tree.put_session(session, time_out)?;
         Ok(Replica {
-            learner,
-            base: Tree::fresh_with_key(alloc, key)?,
-            tree: Tree::fresh_with_key(alloc, key)?,
+            learner: Learner::primed(alloc, dialect),
+            based: BasedTree::new(alloc, tree),
         })
     }
 
@@ -101,7 +89,7 @@ impl Replica {
     pub fn tree(&self) -> &Tree
         ensures { result.now ≡ self.now.tree }
     {
-        &self.tree
+        self.based.tree()
     }
 
     /// Whether clients are served.
@@ -150,19 +138,15 @@ impl Replica {
         self.learner.end();
     }
 
-    /// Makes the tree the new base and empties the log, while clients are served; otherwise does nothing. Fails only if
-    /// an allocation is refused: then the base is empty, so that the caller drops the replica.
-    pub fn checkpoint(&mut self, alloc: Global) -> Result<(), NoMemory>
-        ensures ok { OnOk result (self.new ≡ checkpoint_replica self.old) }
-        ensures err { OnErr result (self.new ≡ record self.old { base = empty_state }) }
+    /// Makes the tree the new base and empties the log, while clients are served; otherwise does nothing. Allocates
+    /// nothing.
+    pub fn checkpoint(&mut self, alloc: Global)
+        ensures { self.new ≡ checkpoint_replica self.old }
     {
         if !self.is_serving() {
-            return Ok(());
+            return;
         }
-        // The old base is dropped before the new one is made, so that the two never take memory together.
-        self.base = Tree::empty(alloc);
-        self.base = self.tree.copy()?;
+        self.based.rebase(alloc);
         self.learner.checkpoint();
-        Ok(())
     }
 }

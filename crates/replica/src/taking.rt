@@ -12,13 +12,25 @@ ghost use Rattle.replica.specs.Inner.{with_told, UpdatesLearner, CarriesOutAct, 
 
 use crate::item_outcome::{ItemOutcome, LeaderNews};
 use crate::replica::Replica;
-use data_tree::{Tree, Triggers};
+use based_tree::BasedTree;
+use data_tree::Triggers;
 use learner_sync::{Act, ActList};
 use quorum_packet::{LentItem, QuorumPacket};
 use snapshot_codec::Loader;
 use std::alloc::Global;
 use std::mem;
+use txn_codec::Txn;
 use values::{Listed, NoMemory, ReadError};
+
+// Applies the transactions to the tree, one after the other.
+fn apply_each(alloc: Global, based: &mut BasedTree, txns: &[Txn]) -> Result<(), NoMemory>
+    ensures { OnOk result (based.new ≡ record based.old { tree = state_after based.old.tree txns.now }) }
+{
+    for txn in txns {
+        based.apply(alloc, txn)?;
+    }
+    Ok(())
+}
 
 impl Replica {
     pub(crate) fn learn(&mut self, alloc: Global, item: LentItem<'_>) -> Result<ActList, ReadError>
@@ -43,7 +55,7 @@ impl Replica {
             return Ok(());
         };
         let place = log.len() - 1;
-        let outcome = self.tree.apply(alloc, txn)?;
+        let outcome = self.based.apply(alloc, txn)?;
         let results = outcome.results;
         *news = Some(LeaderNews::Applied { place, results });
         *triggers = outcome.triggers;
@@ -51,32 +63,21 @@ impl Replica {
     }
 
     // The loaded image replaces the tree and is the new base.
-    fn load_image(&mut self, alloc: Global, loader: &mut Loader) -> Result<(), NoMemory>
-        ensures replica { OnOk result
-            (self.new ≡ record self.old { base = loader.old.made.state; tree = loader.old.made.state }) }
-        ensures loader { OnOk result (loader.new ≡ nothing_loaded self.old.learner.dialect) }
+    fn load_image(&mut self, alloc: Global, loader: &mut Loader)
+        ensures replica { self.new ≡ record self.old { base = loader.old.made.state; tree = loader.old.made.state } }
+        ensures loader { loader.new ≡ nothing_loaded self.old.learner.dialect }
     {
-        let next = Loader::with_key(self.learner.dialect(), alloc, self.tree.hash_key());
+        let next = Loader::with_key(self.learner.dialect(), alloc, self.tree().hash_key());
         let loaded = mem::replace(loader, next);
-        // Tree and base are dropped before the new base is made, so that no more than two trees take memory.
-        self.base = Tree::empty(alloc);
-        self.tree = loaded.finish();
-        self.base = self.tree.copy()?;
-        Ok(())
+        self.based = BasedTree::new(alloc, loaded.finish());
     }
 
     // Rebuilds the tree from the base and the log.
     fn rebuild(&mut self, alloc: Global) -> Result<(), NoMemory>
         ensures { OnOk result (self.new ≡ record self.old { tree = state_after self.old.base self.old.learner.log }) }
     {
-        // The old tree is dropped first, so that no more than two take memory.
-        self.tree = Tree::empty(alloc);
-        let mut tree = self.base.copy()?;
-        for txn in self.learner.since_base() {
-            tree.apply(alloc, txn)?;
-        }
-        self.tree = tree;
-        Ok(())
+        self.based.go_back(alloc)?;
+        apply_each(alloc, &mut self.based, self.learner.since_base())
     }
 
     fn carry_out(
@@ -120,9 +121,12 @@ impl Replica {
             }
             Act::Apply => return Ok(self.apply_last(alloc, triggers, news)?),
             Act::LoadPart(part) => return loader.part(alloc, part),
-            Act::LoadImage => return Ok(self.load_image(alloc, loader)?),
+            Act::LoadImage => {
+                self.load_image(alloc, loader);
+                return Ok(());
+            }
             Act::DropImage => {
-                *loader = Loader::with_key(self.learner.dialect(), alloc, self.tree.hash_key());
+                *loader = Loader::with_key(self.learner.dialect(), alloc, self.tree().hash_key());
                 return Ok(());
             }
             Act::Truncate(_) => return Ok(self.rebuild(alloc)?),

@@ -202,7 +202,7 @@ fn happen(
             return Ok(0);
         }
         Event::Checkpoint => {
-            replica.checkpoint(alloc)?;
+            replica.checkpoint(alloc);
             return Ok(0);
         }
         Event::Greets => greeting(alloc)?,

@@ -78,7 +78,7 @@ fn apply_all(alloc: Global, replica: &mut Replica) -> Result<Vec<Outcome>, NoMem
         ensures tree { OnOk result (tree.new ≡ state_after tree.old txns.now) }
         ensures outcomes { IfOk result (λ v. v.items ≡ outcomes_of_txns tree.old txns.now) }
     { apply_two(alloc, tree, txns) };
-    replica.apply_gathered(0, &doer)
+    replica.apply_gathered(alloc, 0, &doer)
 }
 
 fn view(alloc: Global, replica: &mut Replica) -> Result<GatheredView, NoMemory> {

@@ -1,7 +1,7 @@
 //! When the log of transactions is emptied.
 
 use crate::hub::Hub;
-use following::Due;
+use following::Checkpoints;
 use intake::{Desk, Message, Port};
 use learner_sync::Phase;
 use log::Log;
@@ -13,23 +13,20 @@ const BETWEEN_LOOKS: u64 = 1000;
 /// Asks the engine for a checkpoint when the leader has sent much since the last one.
 #[derive(Drop)]
 pub struct LogKeeper {
-    pub(crate) checkpoints: following::Checkpoints,
+    pub(crate) checkpoints: Checkpoints,
     // The port that checkpoints are asked for by. It is opened for the first one.
     port: Option<Port>,
     // A checkpoint was asked for and hasn't been made: the transactions that were in the log then.
     asked: Option<usize>,
-    // It was logged that the next checkpoint is put off.
-    is_put_off: bool,
 }
 
 impl LogKeeper {
     /// `least` is the least number of mebibytes between two checkpoints; 0: there are none.
     pub fn new(least: u64) -> LogKeeper {
         LogKeeper {
-            checkpoints: following::Checkpoints::new(least),
+            checkpoints: Checkpoints::new(least),
             port: None,
             asked: None,
-            is_put_off: false,
         }
     }
 
@@ -50,10 +47,6 @@ impl LogKeeper {
 }
 
 impl<L: Log, W: Write + Drop> Hub<L, W> {
-    fn nodes(&self) -> u64 {
-        self.desk.engine().tree().paths() as u64
-    }
-
     // Notes a checkpoint, if the last turn made one. The turn began and ended at these times.
     pub(crate) fn note_checkpoint(&mut self, began: u64, now: u64) {
         let mut messages = self.desk.fresh().iter();
@@ -68,9 +61,8 @@ impl<L: Log, W: Write + Drop> Hub<L, W> {
         }
         let zxid = learner.last_zxid();
         let pause = now.saturating_sub(began);
-        let nodes = self.nodes();
-        self.log_keeper.checkpoints.taken(now, pause, nodes);
-        self.log_keeper.is_put_off = false;
+        let nodes = self.desk.engine().tree().paths();
+        self.log_keeper.checkpoints.taken();
         self.journal.checkpoint(zxid, pause, nodes, entries);
     }
 
@@ -81,24 +73,9 @@ impl<L: Log, W: Write + Drop> Hub<L, W> {
         if self.log_keeper.asked.is_some() || phase != Phase::Serving {
             return BETWEEN_LOOKS;
         }
-        let now = self.clock.last();
-        let nodes = self.nodes();
-        match self.log_keeper.checkpoints.judge(now, nodes) {
-            Due::NotYet => BETWEEN_LOOKS,
-            Due::TooLong { expected } => {
-                if !self.log_keeper.is_put_off {
-                    self.journal.checkpoint_put_off(expected, nodes);
-                }
-                self.log_keeper.is_put_off = true;
-                BETWEEN_LOOKS
-            }
-            Due::Now => {
-                if self.log_keeper.ask(&mut self.desk) {
-                    0
-                } else {
-                    BETWEEN_LOOKS
-                }
-            }
+        if self.log_keeper.checkpoints.is_due() && self.log_keeper.ask(&mut self.desk) {
+            return 0;
         }
+        BETWEEN_LOOKS
     }
 }

@@ -170,15 +170,9 @@ impl<L: Log> Journal<L> {
 
     /// A checkpoint was made: at this zxid, in so many milliseconds, of a tree with so many nodes; the log had so many
     /// transactions.
-    pub fn checkpoint(&self, zxid: i64, pause: u64, nodes: u64, entries: usize) {
+    pub fn checkpoint(&self, zxid: i64, pause: u64, nodes: usize, entries: usize) {
         info!(self.log; target: "log",
             "checkpoint at {zxid:#x} in {pause} ms, {nodes} nodes, log of {entries} transactions dropped");
-    }
-
-    /// A checkpoint is put off, since it would take so many milliseconds.
-    pub fn checkpoint_put_off(&self, expected: u64, nodes: u64) {
-        warn!(self.log; target: "log",
-            "checkpoint put off: some {expected} ms for {nodes} nodes; it comes when the log is twice as long");
     }
 
     /// A turn took long.

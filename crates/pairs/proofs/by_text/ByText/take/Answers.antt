@@ -1,14 +1,23 @@
-use Rattle.std.proofs.Common.{sym, ap, subst, ◌∙◌}
+use Rattle.std.proofs.Common.{is_some, sym, ap, subst, ◌∙◌}
 use Rattle.std.specs.Cmp.{nat_cmp_total}
 use Rattle.std.proofs.lemmas.Map.Lookups.{exact_unsigned, exact_bytes}
-use Rattle.pairs.specs.Pairs.{without_text}
+use Rattle.std.specs.FinSet as set
+use Rattle.pairs.specs.Pairs.{text_cmp, keys_in, without_text}
 use Rattle.pairs.specs.Inner.Stored.{HaveValues}
 use Rattle.pairs.proofs.Totals.{text_total}
 use Rattle.pairs.proofs.Grouped.{taken}
-use Rattle.pairs.proofs.Keys.{have-remove}
+use Rattle.pairs.proofs.Keys.{contains-stored, have-remove}
 use Rattle.pairs.proofs.Found.{if_some, if_none}
 use Rattle.pairs.proofs.Hashed.{map_of, get-hashed, map_of-remove}
 use Rattle.pairs.proofs.by_text.ByText.take.Goals as goal
+
+pub returns-clause-some : goal.returns-clause-some
+returns-clause-some c =
+    ap (λ found. is_some found)
+    (c.swap_remove.ensures.value ∙ sym (get-hashed c.self.inside.map.entries c.args.text.now))
+    ∙ sym (contains-stored text_total nat_cmp_total exact_bytes exact_unsigned (map_of c.self.inside.map.entries)
+    c.self.invariant c.args.text.now)
+    ∙ ap (λ s. set.contains (keys_in text_cmp s) c.args.text.now) c.self.view_is
 
 pub returns-clause-row : goal.returns-clause-row
 returns-clause-row c =
