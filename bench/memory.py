@@ -10,10 +10,11 @@
 It is the leader: it brings the observer up to date, makes the nodes, and sends the transactions, 50,000 a second, many
 in each write: they are written beforehand, so that only their zxids are filled in. Of ten transactions seven set the
 data of a node, one creates a node, one deletes it again, and one is a write that the leader refuses. With --turnover so
-many nodes are created below one of those that stay and then deleted, over and over, and no path comes twice. After each
-part a PING is sent, whose answer shows that all of it was applied, and the resident set is read. A client reads all the
-while, one request after the other, and its longest wait is measured. The exit status is 0 if the greatest resident set
-of the last half is less than 2% above the greatest of the half before.
+many nodes are created below one of those that stay and then deleted, over and over, and no path comes twice. The
+resident set is read many times in each part, and the greatest counts, so that it doesn't matter when checkpoints come;
+a part has to be longer than what lies between two. After each part a PING is sent, whose answer shows that all of it
+was applied. A client reads all the while, one request after the other, and its longest wait is measured. The exit
+status is 0 if the greatest resident set of the last half is less than 2% above the greatest of the half before.
 """
 import argparse
 import itertools
@@ -36,8 +37,8 @@ from serve import DIFF, LEADERINFO, NEWLEADER, PING, REQUEST, UPTODATE, packet  
 EPOCH = generate.EPOCH << 32
 DELETE, ERROR, CREATE_SESSION, CLOSE_SESSION = 2, -1, -10, -11
 PARENTS = 100
-# The transactions of a write to the socket.
-CHUNK = 1000
+# The transactions of a write to the socket, and the writes from one reading of the resident set to the next.
+CHUNK, READING = 1000, 10
 GROWTH = 1.02
 CHECKPOINT = re.compile(r"checkpoint at 0x[0-9a-f]+ in (\d+) ms, (\d+) nodes, log of (\d+) transactions")
 # Where the zxids of an INFORM stand: in the packet, and in its transaction.
@@ -232,13 +233,16 @@ def measure(options):
     waits.start()
     sizes, began, part = [server.resident()], time.perf_counter(), options.count // options.parts
     for number in range(options.parts):
+        seen = []
         for at in range(part // CHUNK):
             server.take(next(sent))
+            if at % READING == 0:
+                seen.append(server.resident())
             if options.rate:
                 due = began + (number * part + (at + 1) * CHUNK) / options.rate
                 time.sleep(max(0, due - time.perf_counter()))
         server.settles()
-        sizes.append(server.resident())
+        sizes.append(max([*seen, server.resident()]))
         if options.parts <= 20 or (number + 1) % (options.parts // 20) == 0:
             print(f"      {(number + 1) * part:,} transactions: {sizes[-1]:,} KiB", flush=True)
     seconds = time.perf_counter() - began
@@ -267,7 +271,7 @@ def main():
         ("content", 16, "the bytes of data of each transaction"),
         ("checkpoint", 64, "the program's option"),
         ("rate", 50_000, "how many are sent in a second; 0: as many as are taken"),
-        ("parts", 100, "how often the resident set is read"),
+        ("parts", 10, "into how many parts they are divided"),
         ("turnover", 0, "how many nodes are created and then deleted, in place of the mix; 0: none"),
     ):
         parser.add_argument(f"--{name}", type=int, default=number, help=f"{what} ({number:,})")

@@ -4,7 +4,7 @@ import time
 
 from kazoo.client import KazooClient
 
-from lab import word, zxid_of
+from lab import until, word, zxid_of
 from raw import Raw
 
 
@@ -34,7 +34,8 @@ def srvr(bench):
     for _ in range(100):
         bench.observer.reaches(zxid_of(bench.leader.client))
         ours, theirs = state(bench.observer.client), state(bench.leader.client)
-        if ours["Zxid"] == theirs["Zxid"]:
+        # The connection that asked before may be open for a moment more.
+        if ours["Zxid"] == theirs["Zxid"] and ours["Connections"] == "1":
             break
         time.sleep(0.1)
     # A leader tells of its proposals, too.
@@ -68,8 +69,9 @@ def watches(bench):
     paths = {one.session: "\t/nowhere\n\t/words\n", two.session: "\t/words\n"}
     listed = "".join(f"0x{session:x}\n{paths[session]}" for session in (first, second))
     assert word(port, "wchc") == listed, word(port, "wchc")
-    figures = mntr(port)
-    assert figures["zk_num_alive_connections"] == "3" and figures["zk_watch_count"] == "4", figures
+    # The connection that asked before may be open for a moment more.
+    until("three connections are left", lambda: mntr(port)["zk_num_alive_connections"] == "3")
+    assert mntr(port)["zk_watch_count"] == "4", mntr(port)
     one.leave()
     two.leave()
     assert word(port, "wchs") == "0 connections watching 0 paths\nTotal watches:0\n"
