@@ -47,8 +47,8 @@ fn set_data(alloc: Global, path: &str) -> Result<Txn, Fail> {
     Ok(txn_of(7, Body::Single(Operation::SetData(set_data))))
 }
 
-// A set of texts.
-fn texts(alloc: Global, texts: &[&str]) -> Result<TextSet, Fail> {
+/// A set of texts.
+pub fn texts(alloc: Global, texts: &[&str]) -> Result<TextSet, Fail> {
     let mut set = TextSet::new(alloc);
     for text in texts {
         set.insert(alloc, text)?;

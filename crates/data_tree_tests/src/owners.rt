@@ -1,5 +1,6 @@
 //! The owners of paths.
 
+use crate::cells::texts;
 use crate::texts::add_each;
 use ephemerals::{Ephemerals, TextSet};
 use std::alloc::Global;
@@ -60,12 +61,6 @@ fn moved(alloc: Global, owners: &Ephemerals) -> Result<String, Fail> {
     text_of(alloc, &copy)
 }
 
-fn set_of(alloc: Global, path: &str) -> Result<TextSet, Fail> {
-    let mut paths = TextSet::new(alloc);
-    paths.insert(alloc, path)?;
-    Ok(paths)
-}
-
 // Takes the pairs at these paths, and appends them and the others.
 fn take(
     alloc: Global,
@@ -84,7 +79,7 @@ fn take(
 // again.
 fn take_and_add(alloc: Global, owners: &mut Ephemerals, text: &mut String) -> Result<(), Fail> {
     owners.add(alloc, 7, "/a")?;
-    let found = take(alloc, owners, &set_of(alloc, "/a")?, text)?;
+    let found = take(alloc, owners, &texts(alloc, &["/a"])?, text)?;
     owners.add_all(alloc, &found)?;
     add_text_of(alloc, owners, text)
 }
