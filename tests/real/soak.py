@@ -199,8 +199,8 @@ def replays(bench, connections):
 
 
 def soak(bench):
-    """So many changes of the leader under load, spread over the minutes: with three or more each leader serves for more than
-    ten seconds, after which the next one is looked for at once."""
+    """So many changes of the leader under load, spread over the minutes."""
+    # With three minutes each leader serves for over ten seconds, and then the next one is looked for at once.
     observer = bench.observer
     made(bench, "/soak")
     made(bench, "/soak-number")
