@@ -43,6 +43,10 @@ pub record HasPartOfCells (cells old new : State) : Type 0 where
   pub adds_pairs : set.is_subset new.pairs (with_cells cells old).pairs ≡ true
   pub sessions : new.sessions ≡ old.sessions
 
+-- The state without the node at the path; the sessions that list the path stay.
+abbrev pub without_node : Bytes → State → State
+without_node path s = record s { nodes = finmap.remove s.nodes path }
+
 -- The cell at the path is that of the other state; all others are as they were.
 pub record CopiesCell (path : Bytes) (from old new : State) : Type 0 where
   pub here : IsSameCell new from path

@@ -1,7 +1,7 @@
 //! Cells that are taken out of a tree, so that groups of transactions can be applied separately.
 
 ghost use Rattle.std.specs.Prelude.{◌≡◌, [], pos, OnOk, OnErr, IfOk};
-ghost use Rattle.data_tree.specs.Cells.{cells_at, without_cells, with_cells, effect_in_cells, HasPartOfCells, CopiesCell};
+ghost use Rattle.data_tree.specs.Cells.{cells_at, without_cells, with_cells, effect_in_cells, HasPartOfCells, CopiesCell, without_node};
 ghost use Rattle.data_tree.specs.Making.{empty_state};
 ghost use Rattle.data_tree.specs.Meaning.{answer_of};
 ghost use Rattle.data_tree.specs.Refused.{IsLeftByRefused};
@@ -93,6 +93,15 @@ impl Cells {
         ensures { OnOk result (CopiesCell path.now tree.now self.old self.new) }
     {
         self.tree.copy_cell(alloc, tree, path)
+    }
+
+    /// Replaces the cell at the path by a copy of the tree's without its node. After a refused allocation a part of that
+    /// cell is missing.
+    pub fn copy_owners(&mut self, alloc: Global, tree: &Tree, path: &str) -> Result<(), NoMemory>
+        ensures { OnOk result
+            (CopiesCell path.now (without_node path.now tree.now) self.old self.new) }
+    {
+        self.tree.copy_owners(alloc, tree, path)
     }
 
     /// Applies a transaction to the cells. If they include its footprint, it leaves the same cells and has the same

@@ -18,7 +18,7 @@ ghost use Rattle.data_tree.specs.Inner.Mending.{with_mended, with_missing};
 ghost use Rattle.data_tree.specs.Whole.{IsWhole};
 ghost use Rattle.txn_codec.specs.Row.{has_error};
 ghost use Rattle.data_tree.specs.Meaning.{of_operation, of_set_acl, of_create_session, of_close_session, of_parts, stat_after, of_multi, with_names, delete_of, delete_operations, effect_of_txn, answer_of, fresh_state};
-ghost use Rattle.data_tree.specs.Cells.{cells_at, without_cells, with_cells, HasPartOfCells, CopiesCell};
+ghost use Rattle.data_tree.specs.Cells.{cells_at, without_cells, with_cells, HasPartOfCells, CopiesCell, without_node};
 ghost use Rattle.data_tree.specs.Refused.{IsAfterFront};
 ghost use Rattle.data_tree.specs.Refused.{IsPartlyDone, IsLeftByRefused};
 ghost use Rattle.data_tree.specs.Inner.Doing.{DoesEffect};
@@ -556,6 +556,20 @@ impl Tree {
         ensures { OnOk result (CopiesCell path.now from.now self.old self.new) }
     {
         self.nodes.copy_node(alloc, &from.nodes, path)?;
+        self.ephemerals.copy_path(alloc, path, &from.ephemerals)
+    }
+
+    // Replaces the cell at the path by a copy of the other tree's without its node.
+    pub(crate) fn copy_owners(
+        &mut self,
+        alloc: Global,
+        from: &Tree,
+        path: &str,
+    ) -> Result<(), NoMemory>
+        ensures { OnOk result
+            (CopiesCell path.now (without_node path.now from.now) self.old self.new) }
+    {
+        self.nodes.remove(path);
         self.ephemerals.copy_path(alloc, path, &from.ephemerals)
     }
 
