@@ -1,39 +1,86 @@
 -- The base of a tree, and what leaves it.
-use Rattle.std.proofs.Common.{◌≡◌, Bool, true, false, ◌||◌, None, refl, sym, ap, subst, ◌∙◌}
+use Rattle.std.proofs.Common.{◌≡◌, ℤ, Bool, true, false, cond, ◌||◌, Option, Some, None, refl, sym, ap, subst, ◌∙◌}
 use Rattle.std.specs.Option.{unwrap_or}
 use Rattle.std.specs.Ordering.{eq_by_cmp, is_eq}
 use Rattle.std.specs.Cmp.{tied_itself}
+use Rattle.std.specs.FinMap as finmap
 use Rattle.std.specs.FinSet as set
 use Rattle.std.proofs.lemmas.Map.Lookups.{exact_bytes}
 use Rattle.std.proofs.lemmas.Map.Views.{tells_apart}
 use Rattle.ephemerals.specs.Orders.{Bytes, Names, path_cmp}
 use Rattle.ephemerals.proofs.Totals.{path_total}
+use Rattle.node_map.specs.declared.node.Node.{Node}
 use Rattle.data_tree.specs.State.{State}
-use Rattle.data_tree.specs.Cells.{cells_at, without_cells, CopiesCell}
+use Rattle.data_tree.specs.Cells.{cells_at, without_cells, with_cells, CopiesCell, without_node}
 use Rattle.data_tree.specs.Footprint.{IsSameCell}
 use Rattle.data_tree.proofs.SameCells.{same_state, same_cell_sym, same_cell_trans}
 use Rattle.data_tree.proofs.MovedCells.{taken_cells_move, cells_come_to_empty_cells}
 use Rattle.based_tree.specs.declared.saved.SavedCells.{SavedCells}
 use Rattle.based_tree.specs.Based.{BasedTree, at_base}
-use Rattle.based_tree.specs.Inner.{sessions_of, base_of, is_saved, SavesMore, IsSavedFrom}
+use Rattle.based_tree.specs.Inner.{sessions_of, is_one_newer, unless_newer, has_newer, without_newer, HasNoNewer, HasNoOtherNewer, base_of, is_saved, SavesMore, IsSavedFrom}
+use Rattle.based_tree.proofs.LaterNodes.{get-older, unless-not, unless-newer}
 
 -- ---- the cells of the base
 
+put-saved : (s : SavedCells) (rest : State) (q : Bytes) → is_saved s q ≡ true
+    → IsSameCell (with_cells (cells_at s.paths s.cells) (without_cells s.paths rest)) s.cells q
+put-saved s rest q here =
+    same_cell_trans
+    ((cells_come_to_empty_cells (cells_at s.paths s.cells) (without_cells s.paths rest)).put q
+    ((taken_cells_move s.paths rest).gone q here))
+    ((taken_cells_move s.paths s.cells).taken q here)
+
+put-unsaved : (s : SavedCells) (rest : State) (q : Bytes) → is_saved s q ≡ false
+    → IsSameCell (with_cells (cells_at s.paths s.cells) (without_cells s.paths rest)) rest q
+put-unsaved s rest q out =
+    same_cell_trans
+    ((cells_come_to_empty_cells (cells_at s.paths s.cells) (without_cells s.paths rest)).left q
+    ((taken_cells_move s.paths s.cells).nothing q out))
+    ((taken_cells_move s.paths rest).left q out)
+
 pub base-saved : (s : SavedCells) (tree : State) (q : Bytes) → is_saved s q ≡ true → IsSameCell (base_of s tree) s.cells q
 base-saved s tree q here =
-    let e = same_cell_trans
-    ((cells_come_to_empty_cells (cells_at s.paths s.cells) (without_cells s.paths tree)).put q
-    ((taken_cells_move s.paths tree).gone q here))
-    ((taken_cells_move s.paths s.cells).taken q here) in
-    record { node = e.node; owners = e.owners }
+    let e = put-saved s (without_newer s.newest tree) q here in record { node = e.node; owners = e.owners }
 
-pub base-unsaved : (s : SavedCells) (tree : State) (q : Bytes) → is_saved s q ≡ false → IsSameCell (base_of s tree) tree q
+pub base-unsaved : (s : SavedCells) (tree : State) (q : Bytes) → is_saved s q ≡ false
+    → IsSameCell (base_of s tree) (without_newer s.newest tree) q
 base-unsaved s tree q out =
-    let e = same_cell_trans
-    ((cells_come_to_empty_cells (cells_at s.paths s.cells) (without_cells s.paths tree)).left q
-    ((taken_cells_move s.paths s.cells).nothing q out))
-    ((taken_cells_move s.paths tree).left q out) in
-    record { node = e.node; owners = e.owners }
+    let e = put-unsaved s (without_newer s.newest tree) q out in record { node = e.node; owners = e.owners }
+
+-- A cell without a newer node.
+pub cell-older : (z : ℤ) (tree : State) (q : Bytes) → has_newer z tree q ≡ false → IsSameCell (without_newer z tree) tree q
+cell-older z tree q not = record {
+  node = get-older z tree q ∙ unless-not z (finmap.get tree.nodes q) not;
+  owners = λ w. refl;
+}
+
+cell-newer : (z : ℤ) (tree : State) (q : Bytes) → has_newer z tree q ≡ true
+    → IsSameCell (without_node q tree) (without_newer z tree) q
+cell-newer z tree q newer = record {
+  node = finmap.get-remove path_total tree.nodes q q
+      ∙ ap (λ r. cond (is_eq r) None (finmap.get tree.nodes q)) (tied_itself path_total q)
+      ∙ sym (get-older z tree q ∙ by (finmap.get tree.nodes q) newer);
+  owners = λ w. refl;
+}
+  where
+    by : (o : Option Node) → is_one_newer z o ≡ true → unless_newer z o ≡ None
+    by None e = refl
+    by (Some n) e = unless-newer z n e
+
+copied_from : (p : Bytes) (a b old new : State) → IsSameCell a b p → CopiesCell p a old new → CopiesCell p b old new
+copied_from p a b old new same copied =
+    record { here = same_cell_trans copied.here same; elsewhere = copied.elsewhere }
+
+-- What the base has at a path that isn't saved was copied.
+pub copied-newer : (z : ℤ) (tree : State) (p : Bytes) (old new : State) → has_newer z tree p ≡ true
+    → CopiesCell p (without_node p tree) old new → CopiesCell p (without_newer z tree) old new
+copied-newer z tree p old new newer =
+    copied_from p (without_node p tree) (without_newer z tree) old new (cell-newer z tree p newer)
+
+pub copied-older : (z : ℤ) (tree : State) (p : Bytes) (old new : State) → has_newer z tree p ≡ false
+    → CopiesCell p tree old new → CopiesCell p (without_newer z tree) old new
+copied-older z tree p old new older =
+    copied_from p tree (without_newer z tree) old new (same_cell_sym (cell-older z tree p older))
 
 -- ---- a base stays
 
@@ -66,7 +113,12 @@ saved-here paths new p inserted =
     ∙ ap (λ r. is_eq r || set.contains paths p) (tied_itself path_total p)
 
 module _ (tree : State) (old new : SavedCells) (p : Bytes) (absent : is_saved old p ≡ false)
-    (inserted : new.paths ≡ set.insert old.paths p) (copied : CopiesCell p tree old.cells new.cells) where
+    (inserted : new.paths ≡ set.insert old.paths p) (newest : new.newest ≡ old.newest)
+    (copied : CopiesCell p (without_newer old.newest tree) old.cells new.cells) where
+  unsaved : (q : Bytes) → is_saved new q ≡ false → IsSameCell (base_of new tree) (without_newer old.newest tree) q
+  unsaved q out =
+      subst (λ z. IsSameCell (base_of new tree) (without_newer z tree) q) newest (base-unsaved new tree q out)
+
   has : (q : Bytes) (b : Bool) → eq_by_cmp path_cmp q p ≡ b → is_saved new q ≡ (b || is_saved old q)
   has q b is = ap (λ s. set.contains s q) inserted ∙ saved-inserted old.paths p q b is
 
@@ -76,7 +128,7 @@ module _ (tree : State) (old new : SavedCells) (p : Bytes) (absent : is_saved ol
       same_cell_trans (base-saved new tree q (has q false apart ∙ here))
       (same_cell_trans (copied.elsewhere q apart) (same_cell_sym (base-saved old tree q here)))
   other q false out apart =
-      same_cell_trans (base-unsaved new tree q (has q false apart ∙ out)) (same_cell_sym (base-unsaved old tree q out))
+      same_cell_trans (unsaved q (has q false apart ∙ out)) (same_cell_sym (base-unsaved old tree q out))
 
   at_path : IsSameCell (base_of new tree) (base_of old tree) p
   at_path =
@@ -93,6 +145,7 @@ module _ (tree : State) (old new : SavedCells) (p : Bytes) (absent : is_saved ol
     base = same_base old new tree tree (ap (λ o. unwrap_or o tree.sessions) sessions)
         (λ q. each q (eq_by_cmp path_cmp q p) refl);
     sessions = sessions;
+    newest = newest;
     keeps = λ q here. keeps q (eq_by_cmp path_cmp q p) refl here;
   }
     where
@@ -103,25 +156,51 @@ module _ (tree : State) (old new : SavedCells) (p : Bytes) (absent : is_saved ol
 -- ---- what is saved piece by piece
 
 pub nothing_more : (tree : State) (s : SavedCells) → SavesMore tree s s
-nothing_more tree s = record { base = refl; sessions = refl; keeps = λ q here. here }
+nothing_more tree s = record { base = refl; sessions = refl; newest = refl; keeps = λ q here. here }
 
 pub saves_then : (tree : State) (a b c : SavedCells) → SavesMore tree a b → SavesMore tree b c → SavesMore tree a c
 saves_then tree a b c first next = record {
   base = next.base ∙ first.base;
   sessions = next.sessions ∙ first.sessions;
+  newest = next.newest ∙ first.newest;
   keeps = λ q here. next.keeps q (first.keeps q here);
 }
 
 -- ---- nothing is saved
 
-pub base-none : (s : SavedCells) (tree : State) → s.paths ≡ set.empty → s.sessions ≡ None → base_of s tree ≡ tree
-base-none s tree none sessions =
+pub base-none : (s : SavedCells) (tree : State) → s.paths ≡ set.empty → s.sessions ≡ None → HasNoNewer s.newest tree
+    → base_of s tree ≡ tree
+base-none s tree none sessions older =
     same_state (base_of s tree) tree (ap (λ o. unwrap_or o tree.sessions) sessions)
-    (λ q. base-unsaved s tree q (ap (λ (names : Names). set.contains names q) none ∙ set.contains-empty path_cmp q))
+    (λ q. same_cell_trans
+    (base-unsaved s tree q (ap (λ (names : Names). set.contains names q) none ∙ set.contains-empty path_cmp q))
+    (cell-older s.newest tree q (older q)))
 
-pub based-none : (s : SavedCells) (tree : State) → s.paths ≡ set.empty → s.sessions ≡ None
+pub based-none : (s : SavedCells) (tree : State) → s.paths ≡ set.empty → s.sessions ≡ None → HasNoNewer s.newest tree
     → (let b : BasedTree = record { base = base_of s tree; tree = tree } in b ≡ at_base tree)
-based-none s tree none sessions = ap (λ base. record { base = base; tree = tree }) (base-none s tree none sessions)
+based-none s tree none sessions older =
+    ap (λ base. record { base = base; tree = tree }) (base-none s tree none sessions older)
+
+-- ---- all newer nodes are at saved paths
+
+pub base-whole : (s : SavedCells) (tree : State) → HasNoOtherNewer s tree
+    → base_of s tree ≡ record (with_cells (cells_at s.paths s.cells) (without_cells s.paths tree)) {
+      sessions = sessions_of s tree;
+    }
+base-whole s tree older = same_state _ _ refl (λ q. each q (is_saved s q) refl)
+  where
+    whole : State
+    whole = with_cells (cells_at s.paths s.cells) (without_cells s.paths tree)
+
+    each : (q : Bytes) (b : Bool) → is_saved s q ≡ b
+        → IsSameCell (base_of s tree) (record whole { sessions = sessions_of s tree }) q
+    each q true here =
+        let e = same_cell_trans (base-saved s tree q here) (same_cell_sym (put-saved s tree q here)) in
+        record { node = e.node; owners = e.owners }
+    each q false out =
+        let e = same_cell_trans (base-unsaved s tree q out)
+        (same_cell_trans (cell-older s.newest tree q (older q out)) (same_cell_sym (put-unsaved s tree q out))) in
+        record { node = e.node; owners = e.owners }
 
 -- The tree takes a step that was saved before.
 pub based-step : (old new : SavedCells) (tree after : State) → base_of new tree ≡ base_of old tree

@@ -1,13 +1,14 @@
 -- What transactions change, and what is saved of it.
-use Rattle.std.proofs.Common.{◌≡◌, ℤ, List, [], ◌∷◌, Bool, true, false, not, ◌||◌, ◌&&◌, Option, Some, None, is_some, Result, Ok, Err, OnOk, refl, sym, ap, subst, ◌∙◌}
+use Rattle.std.proofs.Common.{◌≡◌, ℤ, List, [], ◌∷◌, Bool, true, false, not, ◌||◌, ◌&&◌, int_lt, Option, Some, None, is_some, Result, Ok, Err, OnOk, refl, sym, ap, subst, ◌∙◌}
 use Rattle.std.specs.List.{AllByRecursion, list_any}
 use Rattle.std.specs.Option.{unwrap_or}
 use Rattle.std.specs.Ordering.{eq_by_cmp, int_eq}
+use Rattle.std.specs.FinMap as finmap
 use Rattle.std.specs.FinSet as set
 use Rattle.std.proofs.lemmas.Map.Lookups.{exact_bytes, exact_signed}
 use Rattle.std.proofs.lemmas.Map.Views.{tells_apart}
 use mathlib.Core.Bool.{true≢false}
-use Rattle.ephemerals.specs.Orders.{Bytes, Names, path_cmp, sorted_names}
+use Rattle.ephemerals.specs.Orders.{Bytes, Names, OwnerPairs, path_cmp, sorted_names}
 use Rattle.ephemerals.specs.Pairs.{paths_of_session}
 use Rattle.ephemerals.proofs.Totals.{path_total}
 use Rattle.ephemerals.proofs.Ascending.{any-in_order}
@@ -27,7 +28,8 @@ use Rattle.data_tree.specs.Commuting.{with_timeout_of}
 use Rattle.data_tree.proofs.SameCells.{same_cell_trans, same_cell_refl}
 use Rattle.data_tree.proofs.Commute.{transactions_keep_to_their_footprints, parts-confined, mean-sessions}
 use Rattle.based_tree.specs.declared.saved.SavedCells.{SavedCells}
-use Rattle.based_tree.specs.Inner.{sessions_of, is_saved, SavesMore, AreSaved, AreSavedEach, deleted_footprint, ended_footprint, listed_in, IsSavedFrom}
+use Rattle.based_tree.specs.Inner.{sessions_of, is_saved, unless_newer, without_newer, SavesMore, AreSaved, IsReadyAt, IsReady, AreReady, IsReadyFor, IsReadyForEach, is_quiet, deleted_footprint, ended_footprint, listed_in, IsSavedFrom}
+use Rattle.based_tree.proofs.LaterNodes.{get-older, older-same, stays, pairs-stay}
 use Rattle.based_tree.proofs.Bases.{nothing_more}
 
 -- ---- paths that are saved one after another
@@ -90,24 +92,48 @@ outside ps s saved q out = by (has_path ps q) refl
     by true e = absurd (true≢false (sym (saved q e) ∙ out))
     by false e = e
 
-cells_step : (t : Txn) (s : SavedCells) (tree : State) → KeepsToCells t → AreSaved (footprint t) s → (q : Bytes)
-    → is_saved s q ≡ false → IsSameCell (effect_of_txn tree t).state tree q
-cells_step t s tree keeps saved q out =
-    (transactions_keep_to_their_footprints t keeps).state.frame tree q (outside (footprint t) s saved q out)
+-- What a later transaction leaves in a cell that isn't saved, where the base has no node.
+quiet_step : (z : ℤ) (h : TxnHeader) (b : Body) (tree : State) (q : Bytes) → is_quiet b ≡ true → int_lt z h.zxid ≡ true
+    → unless_newer z (finmap.get tree.nodes q) ≡ None
+    → IsSameCell (without_newer z (effect_of_body h b tree).state) (without_newer z tree) q
+quiet_step z h (body.Single o) tree q quiet later absent = record {
+  node = get-older z (effect_of_body h (body.Single o) tree).state q
+      ∙ stays z h o tree q quiet later absent
+      ∙ sym absent
+      ∙ sym (get-older z tree q);
+  owners = λ w. ap (λ (pairs : OwnerPairs). set.contains pairs (w, q)) (pairs-stay h o tree quiet);
+}
+quiet_step z h (body.SetAcl b) tree q quiet later absent = absurd (true≢false (sym quiet))
+quiet_step z h (body.Multi parts) tree q quiet later absent = absurd (true≢false (sym quiet))
+quiet_step z h (body.CreateSession timeout) tree q quiet later absent = absurd (true≢false (sym quiet))
+quiet_step z h (body.CloseSession listed) tree q quiet later absent = absurd (true≢false (sym quiet))
+
+cells_step : (t : Txn) (s : SavedCells) (tree : State) → KeepsToCells t → IsReadyFor t s tree → (q : Bytes)
+    → is_saved s q ≡ false
+    → IsSameCell (without_newer s.newest (effect_of_txn tree t).state) (without_newer s.newest tree) q
+cells_step t s tree keeps ready q out = by (has_path (footprint t) q) refl
+  where
+    by : (b : Bool) → has_path (footprint t) q ≡ b
+        → IsSameCell (without_newer s.newest (effect_of_txn tree t).state) (without_newer s.newest tree) q
+    by true at =
+        let r = ready q at out in quiet_step s.newest t.header t.body tree q r.quiet r.later r.absent
+    by false apart =
+        older-same s.newest (effect_of_txn tree t).state tree q
+        ((transactions_keep_to_their_footprints t keeps).state.frame tree q apart)
 
 pub footprint_step : (t : Txn) (s : SavedCells) (tree : State) → KeepsToCells t → session_change t.body ≡ Nothing
-    → AreSaved (footprint t) s → IsSavedFrom s tree (effect_of_txn tree t).state
-footprint_step t s tree keeps same saved = record {
-  cells = cells_step t s tree keeps saved;
+    → IsReadyFor t s tree → IsSavedFrom s tree (effect_of_txn tree t).state
+footprint_step t s tree keeps same ready = record {
+  cells = cells_step t s tree keeps ready;
   sessions = sessions_same s tree (effect_of_txn tree t).state
       (mean-sessions t tree keeps ∙ ap (λ (c : SessionChange). with_timeout_of t.header c tree.sessions) same);
 }
 
 -- Whatever it does to sessions, which are saved.
 pub sessions_step : (t : Txn) (s : SavedCells) (tree : State) → KeepsToCells t → is_some s.sessions ≡ true
-    → AreSaved (footprint t) s → IsSavedFrom s tree (effect_of_txn tree t).state
-sessions_step t s tree keeps some saved = record {
-  cells = cells_step t s tree keeps saved;
+    → IsReadyFor t s tree → IsSavedFrom s tree (effect_of_txn tree t).state
+sessions_step t s tree keeps some ready = record {
+  cells = cells_step t s tree keeps ready;
   sessions = sessions_kept s tree (effect_of_txn tree t).state some;
 }
 
@@ -172,32 +198,95 @@ module _ (h : TxnHeader) (listed : List Bytes) (s : SavedCells) (tree : State)
   pub ended_step : is_some s.sessions ≡ true → IsSavedFrom s tree (of_close_session h listed tree).state
   ended_step some = record {
     cells = λ q out.
-        same_cell_trans
+        older-same s.newest (of_close_session h listed tree).state tree q
+        (same_cell_trans
         ((parts-confined h (delete_operations (sorted_names ended))).state.frame (state_without_session h.client_id tree) q
         (outside (deleted_footprint ended) s saved q out))
-        (without_session q out);
+        (without_session q out));
     sessions = sessions_kept s tree (of_close_session h listed tree).state some;
   }
 
 -- ---- several transactions
 
-cells_each : (ts : List Txn) (s : SavedCells) (tree : State) → AllByRecursion KeepsToCells ts → AreSavedEach ts s
-    → (q : Bytes) → is_saved s q ≡ false → IsSameCell (state_after tree ts) tree q
-cells_each [] s tree keep saved q out = same_cell_refl tree q
-cells_each (t ∷ ts) s tree keep saved q out =
-    same_cell_trans (cells_each ts s (effect_of_txn tree t).state keep.1 saved.1 q out)
-    (cells_step t s tree keep.0 saved.0 q out)
+-- What is ready stays so, while the cells that aren't saved leave the base as it is.
+still_ready : (t : Txn) (s : SavedCells) (start tree : State) → IsReadyFor t s start
+    → ((q : Bytes) → is_saved s q ≡ false → IsSameCell (without_newer s.newest tree) (without_newer s.newest start) q)
+    → IsReadyFor t s tree
+still_ready t s start tree ready same q at out =
+    let r = ready q at out in
+    record {
+      quiet = r.quiet;
+      later = r.later;
+      absent = sym (get-older s.newest tree q) ∙ (same q out).node ∙ get-older s.newest start q ∙ r.absent;
+    }
 
-pub each_step : (ts : List Txn) (s : SavedCells) (tree : State) → AllByRecursion KeepsToCells ts → AreSavedEach ts s
-    → is_some s.sessions ≡ true → IsSavedFrom s tree (state_after tree ts)
-each_step ts s tree keep saved some =
-    record { cells = cells_each ts s tree keep saved; sessions = sessions_kept s tree (state_after tree ts) some }
+cells_each : (ts : List Txn) (s : SavedCells) (start tree : State) → AllByRecursion KeepsToCells ts
+    → IsReadyForEach ts s start
+    → ((q : Bytes) → is_saved s q ≡ false → IsSameCell (without_newer s.newest tree) (without_newer s.newest start) q)
+    → (q : Bytes) → is_saved s q ≡ false
+    → IsSameCell (without_newer s.newest (state_after tree ts)) (without_newer s.newest start) q
+cells_each [] s start tree keep ready same q out = same q out
+cells_each (t ∷ ts) s start tree keep ready same q out =
+    cells_each ts s start (effect_of_txn tree t).state keep.1 ready.1
+    (λ p away. same_cell_trans
+    (cells_step t s tree keep.0 (still_ready t s start tree ready.0 same) p away) (same p away))
+    q out
 
-pub saved_each : (tree : State) (ts : List Txn) (a b : SavedCells) → SavesMore tree a b → AreSavedEach ts a
-    → AreSavedEach ts b
-saved_each tree [] a b more saved = tt
-saved_each tree (t ∷ ts) a b more saved =
-    (λ q at. more.keeps q (saved.0 q at), saved_each tree ts a b more saved.1)
+pub each_step : (ts : List Txn) (s : SavedCells) (tree : State) → AllByRecursion KeepsToCells ts
+    → IsReadyForEach ts s tree → is_some s.sessions ≡ true → IsSavedFrom s tree (state_after tree ts)
+each_step ts s tree keep ready some =
+    record {
+      cells = cells_each ts s tree tree keep ready (λ q out. same_cell_refl (without_newer s.newest tree) q);
+      sessions = sessions_kept s tree (state_after tree ts) some;
+    }
+
+-- ---- more is saved
+
+pub ready_more : (quiet : Bool) (zxid : ℤ) (tree : State) (a b : SavedCells) (q : Bytes) → SavesMore tree a b
+    → IsReady quiet zxid a tree q → IsReady quiet zxid b tree q
+ready_more quiet zxid tree a b q more ready out = by (is_saved a q) refl
+  where
+    by : (v : Bool) → is_saved a q ≡ v → IsReadyAt quiet zxid b tree q
+    by true here = absurd (true≢false (sym (more.keeps q here) ∙ out))
+    by false away =
+        let r = ready away in
+        record {
+          quiet = r.quiet;
+          later = ap (λ z. int_lt z zxid) more.newest ∙ r.later;
+          absent = ap (λ z. unless_newer z (finmap.get tree.nodes q)) more.newest ∙ r.absent;
+        }
+
+pub ready_each : (tree : State) (ts : List Txn) (a b : SavedCells) → SavesMore tree a b → IsReadyForEach ts a tree
+    → IsReadyForEach ts b tree
+ready_each tree [] a b more ready = tt
+ready_each tree (t ∷ ts) a b more ready = (
+  λ q at. ready_more (is_quiet t.body) t.header.zxid tree a b q more (ready.0 q at),
+  ready_each tree ts a b more ready.1,
+)
+
+pub ready_if_saved : (paths : List Bytes) (quiet : Bool) (zxid : ℤ) (s : SavedCells) (tree : State) → AreSaved paths s
+    → AreReady paths quiet zxid s tree
+ready_if_saved paths quiet zxid s tree saved q at out = absurd (true≢false (sym (saved q at) ∙ out))
+
+-- Two paths are ready, or one.
+pub both_ready : (quiet : Bool) (zxid : ℤ) (s : SavedCells) (tree : State) (p r : Bytes) → IsReady quiet zxid s tree p
+    → IsReady quiet zxid s tree r → AreReady (p ∷ r ∷ []) quiet zxid s tree
+both_ready quiet zxid s tree p r first second q at =
+    by (eq_by_cmp path_cmp q p) refl (eq_by_cmp path_cmp q r) refl at
+  where
+    by : (a : Bool) → eq_by_cmp path_cmp q p ≡ a → (b : Bool) → eq_by_cmp path_cmp q r ≡ b → (a || (b || false)) ≡ true
+        → IsReady quiet zxid s tree q
+    by true is b other some = subst (IsReady quiet zxid s tree) (sym (tells_apart exact_bytes q p is)) first
+    by false is true other some = subst (IsReady quiet zxid s tree) (sym (tells_apart exact_bytes q r other)) second
+    by false is false other some = absurd (true≢false (sym some))
+
+pub one_ready : (quiet : Bool) (zxid : ℤ) (s : SavedCells) (tree : State) (p : Bytes) → IsReady quiet zxid s tree p
+    → AreReady (p ∷ []) quiet zxid s tree
+one_ready quiet zxid s tree p first q at = by (eq_by_cmp path_cmp q p) refl at
+  where
+    by : (a : Bool) → eq_by_cmp path_cmp q p ≡ a → (a || false) ≡ true → IsReady quiet zxid s tree q
+    by true is some = subst (IsReady quiet zxid s tree) (sym (tells_apart exact_bytes q p is)) first
+    by false is some = absurd (true≢false (sym some))
 
 -- ---- by what a transaction does to its session
 

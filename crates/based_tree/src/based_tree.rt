@@ -8,6 +8,7 @@ ghost use Rattle.txn_codec.specs.declared.txn.Txn.{Txn as TheTxn};
 ghost use Rattle.data_tree.specs.Meaning.{effect_of_txn, answer_of, state_after, outcomes_of_txns};
 ghost use Rattle.based_tree.specs.Based.{at_base, AppliesTxns};
 
+use crate::newer::newest_zxid;
 use crate::saved::SavedCells;
 use data_tree::{Outcome, Timeouts, Tree};
 use std::alloc::Global;
@@ -64,11 +65,11 @@ fn set_sessions_if(tree: &mut Tree, sessions: Option<Timeouts>)
 }
 
 impl BasedTree {
-    /// The tree is the base. Allocates nothing.
+    /// The tree is the base. Looks at each node, and allocates nothing.
     pub fn new(alloc: Global, tree: Tree) -> BasedTree
         ensures { result ≡ at_base tree }
     {
-        let saved = SavedCells::none(alloc, tree.hash_key());
+        let saved = SavedCells::none(alloc, tree.hash_key(), newest_zxid(&tree));
         BasedTree { tree, saved }
     }
 
@@ -126,17 +127,18 @@ impl BasedTree {
         doer(&mut self.tree, txns)
     }
 
-    /// The tree becomes the base. Allocates nothing.
+    /// The tree becomes the base. Looks at each node, and allocates nothing.
     pub fn rebase(&mut self, alloc: Global)
         ensures { self.new ≡ at_base self.old.tree }
     {
-        self.saved = SavedCells::none(alloc, self.tree.hash_key());
+        self.saved = SavedCells::none(alloc, self.tree.hash_key(), newest_zxid(&self.tree));
     }
 
     /// The tree becomes what the base is. After a refused allocation both are unspecified, and the caller drops them.
     pub fn go_back(&mut self, alloc: Global) -> Result<(), NoMemory>
         ensures { OnOk result (self.new ≡ at_base self.old.base) }
     {
+        self.saved.save_newer(alloc, &self.tree)?;
         let paths = self.saved.ordered_paths(alloc)?;
         self.tree
             .replace_cells(alloc, &paths, &mut self.saved.cells)?;

@@ -1,8 +1,9 @@
 //! A tree that can go back to its base.
 //!
-//! A log starts from a base: the tree without the log's transactions. `BasedTree` keeps no copy of it, but the cells at
-//! the paths that transactions have touched since, as they were at the base. So it takes memory for what has changed,
-//! going back takes time for that alone, and taking the tree as the new base takes none.
+//! A log starts from a base: the tree without the log's transactions. `BasedTree` keeps no copy of it, but the base's
+//! cells that have changed since. Which these are, the Stats tell: the zxids in a node that was created or changed come
+//! after all those of the base. So a new node takes no memory here, and only the first change of a node of the base
+//! copies it. To go back, or to take the tree as the new base, it looks at each node once.
 //!
 //! ```text
 //! let mut based = BasedTree::new(alloc, tree);
@@ -15,6 +16,7 @@
 #![tactic(auto)]
 
 mod based_tree;
+mod newer;
 mod saved;
 
 pub use based_tree::BasedTree;

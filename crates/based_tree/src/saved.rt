@@ -1,20 +1,22 @@
 //! The cells of a base where a tree may differ from it.
 
-ghost use Rattle.std.specs.Prelude.{◌≡◌, true, is_some, IfOk, OnOk, None};
+ghost use Rattle.std.specs.Prelude.{◌≡◌, true, is_some, IsTrue, IfOk, OnOk, None};
 ghost use Rattle.std.specs.List.{AllByRecursion};
 ghost use Rattle.std.specs.FinSet as set;
 ghost use Rattle.paths_and_acls.specs.Paths.{parent_of};
 ghost use Rattle.txn_codec.specs.Row.{footprint_of_operation};
-ghost use Rattle.data_tree.specs.Footprint.{footprint, KeepsToCells};
+ghost use Rattle.data_tree.specs.Cells.{CopiesCell};
+ghost use Rattle.data_tree.specs.Footprint.{KeepsToCells};
 ghost use Rattle.data_tree.specs.Meaning.{effect_of_txn, state_after, ended_paths};
-ghost use Rattle.based_tree.specs.Inner.{base_of, is_saved, SavesMore, AreSaved, AreSavedEach, IsSavedFrom, deleted_footprint, ended_footprint, listed_in};
+ghost use Rattle.based_tree.specs.Inner.{base_of, is_saved, without_newer, SavesMore, AreSaved, IsReady, AreReady, IsReadyFor, IsReadyForEach, HasNoOtherNewer, IsSavedFrom, is_sessions, is_quiet_operation, deleted_footprint, ended_footprint, listed_in};
 
+use crate::newer::{has_newer, is_newer};
 use data_tree::{Cells, Timeouts, Tree};
 use ephemerals::TextSet;
 use pairs::{HashKey, HashedTexts, TextKey};
 use paths_and_acls::{Path, parent_of};
 use std::alloc::Global;
-use txn_codec::{Body, Operation, SessionChange, Txn, TxnHeader};
+use txn_codec::{Body, Operation, Owner, SessionChange, Txn, TxnHeader};
 use values::{NoMemory, Str};
 
 /// What a base has where a tree may differ from it.
@@ -26,6 +28,8 @@ pub struct SavedCells {
     pub(crate) cells: Cells,
     // The sessions of the base; none while the tree has the same.
     pub(crate) sessions: Option<Timeouts>,
+    // No node of the base is newer than this transaction. So the tree's newer nodes aren't those of the base.
+    pub(crate) newest: i64,
 }
 
 // The paths of the session's ephemeral nodes, and those that are listed.
@@ -54,16 +58,28 @@ fn listed_in(body: &Body) -> &[Path]
     }
 }
 
+// Whether a session owns what is created.
+fn is_sessions(owner: Owner) -> bool
+    ensures { result ≡ is_sessions owner }
+{
+    match owner {
+        Owner::Client => true,
+        Owner::Nobody | Owner::Container | Owner::Ttl(_) => false,
+    }
+}
+
 impl SavedCells {
-    /// Nothing is saved: the tree is the base. Allocates nothing.
-    pub(crate) fn none(alloc: Global, key: HashKey) -> SavedCells
+    /// Nothing is saved: the base is the tree, in which no node is newer than this zxid. Allocates nothing.
+    pub(crate) fn none(alloc: Global, key: HashKey, newest: i64) -> SavedCells
         ensures paths { result.paths ≡ set.empty }
         ensures sessions { result.sessions ≡ None }
+        ensures newest { result.newest ≡ newest }
     {
         SavedCells {
             paths: HashedTexts::keyed(alloc, key),
             cells: Cells::none(alloc, key),
             sessions: None,
+            newest,
         }
     }
 
@@ -74,7 +90,21 @@ impl SavedCells {
         TextSet::from_keys(alloc, self.paths.as_slice())
     }
 
-    /// Saves the tree's cell at the path, if none is saved there.
+    // Adds a copy of what the base has at the path, which isn't saved yet.
+    fn copy_cell(&mut self, alloc: Global, tree: &Tree, path: &str) -> Result<(), NoMemory>
+        ensures paths { self.new.paths ≡ self.old.paths }
+        ensures sessions { self.new.sessions ≡ self.old.sessions }
+        ensures newest { self.new.newest ≡ self.old.newest }
+        ensures copied { OnOk result
+            (CopiesCell path.now (without_newer self.old.newest tree.now) self.old.cells self.new.cells) }
+    {
+        if has_newer(self.newest, tree, path) {
+            return self.cells.copy_owners(alloc, tree, path);
+        }
+        self.cells.copy_cell(alloc, tree, path)
+    }
+
+    /// Saves the base's cell at the path, if it isn't saved yet.
     pub(crate) fn save(&mut self, alloc: Global, tree: &Tree, path: &str) -> Result<(), NoMemory>
         ensures more { OnOk result (SavesMore tree.now self.old self.new) }
         ensures here { OnOk result (is_saved self.new path.now ≡ true) }
@@ -83,10 +113,56 @@ impl SavedCells {
             return Ok(());
         }
         self.paths.insert(TextKey::new(alloc, path)?)?;
-        self.cells.copy_cell(alloc, tree, path)
+        self.copy_cell(alloc, tree, path)
     }
 
-    /// Saves the tree's cells at these paths.
+    // Whether a transaction may leave a node at the path, since the base has none there unless it is saved.
+    fn is_ready(&self, tree: &Tree, zxid: i64, path: &str) -> bool
+        ensures { IsTrue result → IsReady true zxid self.now tree.now path.now }
+    {
+        if zxid <= self.newest {
+            return false;
+        }
+        match tree.node(path) {
+            None => true,
+            Some(node) => is_newer(self.newest, node),
+        }
+    }
+
+    // Saves the base's cell at the path, unless a create without a session, or a setData, leaves the base as it is.
+    fn make_ready(
+        &mut self,
+        alloc: Global,
+        tree: &Tree,
+        zxid: i64,
+        path: &str,
+    ) -> Result<(), NoMemory>
+        ensures more { OnOk result (SavesMore tree.now self.old self.new) }
+        ensures here { OnOk result (IsReady true zxid self.new tree.now path.now) }
+    {
+        if self.is_ready(tree, zxid, path) {
+            return Ok(());
+        }
+        self.save(alloc, tree, path)
+    }
+
+    // The same at the path and at its parent.
+    fn make_ready_with_parent(
+        &mut self,
+        alloc: Global,
+        tree: &Tree,
+        zxid: i64,
+        path: &str,
+    ) -> Result<(), NoMemory>
+        ensures more { OnOk result (SavesMore tree.now self.old self.new) }
+        ensures path { OnOk result (IsReady true zxid self.new tree.now path.now) }
+        ensures parent { OnOk result (IsReady true zxid self.new tree.now (parent_of path.now)) }
+    {
+        self.make_ready(alloc, tree, zxid, path)?;
+        self.make_ready(alloc, tree, zxid, parent_of(path))
+    }
+
+    /// Saves the base's cells at these paths.
     pub(crate) fn save_all(
         &mut self,
         alloc: Global,
@@ -102,7 +178,7 @@ impl SavedCells {
         Ok(())
     }
 
-    // Saves the tree's cells at the path and at its parent.
+    // Saves the base's cells at the path and at its parent.
     fn save_with_parent(&mut self, alloc: Global, tree: &Tree, path: &str) -> Result<(), NoMemory>
         ensures more { OnOk result (SavesMore tree.now self.old self.new) }
         ensures path { OnOk result (is_saved self.new path.now ≡ true) }
@@ -112,7 +188,7 @@ impl SavedCells {
         self.save(alloc, tree, parent_of(path))
     }
 
-    /// Saves the tree's cells at each path and at its parent.
+    /// Saves the base's cells at each path and at its parent.
     pub(crate) fn save_with_parents(
         &mut self,
         alloc: Global,
@@ -128,7 +204,20 @@ impl SavedCells {
         Ok(())
     }
 
-    /// Saves what the end of the session touches.
+    /// Saves the base's cells at the paths of all newer nodes.
+    pub(crate) fn save_newer(&mut self, alloc: Global, tree: &Tree) -> Result<(), NoMemory>
+        ensures more { OnOk result (SavesMore tree.now self.old self.new) }
+        ensures all { OnOk result (HasNoOtherNewer self.new tree.now) }
+    {
+        for (path, node) in tree.nodes() {
+            if is_newer(self.newest, node) {
+                self.save(alloc, tree, path.as_str())?;
+            }
+        }
+        Ok(())
+    }
+
+    /// Saves what the end of the session touches of the base.
     pub(crate) fn save_ended(
         &mut self,
         alloc: Global,
@@ -156,17 +245,17 @@ impl SavedCells {
         Ok(())
     }
 
-    /// Saves what the transaction changes in the tree.
+    /// Saves what the transaction changes of the base.
     pub(crate) fn save_for(&mut self, alloc: Global, tree: &Tree, txn: &Txn) -> Result<(), NoMemory>
         ensures base { OnOk result (base_of self.new tree.now ≡ base_of self.old tree.now) }
         ensures step { OnOk result
             (IsSavedFrom self.new tree.now (effect_of_txn tree.now txn.now).state) }
     {
         match txn.body.session_change() {
-            SessionChange::Nothing => self.save_footprint(alloc, tree, txn),
+            SessionChange::Nothing => self.ready_footprint(alloc, tree, txn),
             SessionChange::Begins(_) => {
                 self.save_sessions(tree)?;
-                self.save_footprint(alloc, tree, txn)
+                self.ready_footprint(alloc, tree, txn)
             }
             SessionChange::Ends => {
                 self.save_sessions(tree)?;
@@ -175,50 +264,61 @@ impl SavedCells {
         }
     }
 
-    // Saves the cells that a transaction's only operation touches.
-    fn save_operation(
+    // Makes the cells ready for a transaction's only operation.
+    fn ready_operation(
         &mut self,
         alloc: Global,
         tree: &Tree,
+        zxid: i64,
         operation: &Operation,
     ) -> Result<(), NoMemory>
         ensures more { OnOk result (SavesMore tree.now self.old self.new) }
-        ensures here { OnOk result (AreSaved (footprint_of_operation operation.now) self.new) }
+        ensures here { OnOk result
+            (AreReady (footprint_of_operation operation.now) (is_quiet_operation operation.now) zxid
+            self.new tree.now) }
     {
         match operation {
-            Operation::Create(create) => self.save_with_parent(alloc, tree, create.path.as_str()),
+            Operation::Create(create) => {
+                let path = create.path.as_str();
+                if is_sessions(create.owner) {
+                    return self.save_with_parent(alloc, tree, path);
+                }
+                self.make_ready_with_parent(alloc, tree, zxid, path)
+            }
             Operation::Delete(delete) => self.save_with_parent(alloc, tree, delete.path.as_str()),
-            Operation::SetData(set_data) => self.save(alloc, tree, set_data.path.as_str()),
+            Operation::SetData(set_data) => {
+                self.make_ready(alloc, tree, zxid, set_data.path.as_str())
+            }
             Operation::Check(_) | Operation::Error(_) => Ok(()),
         }
     }
 
-    // Saves the cells at the transaction's footprint.
-    fn save_footprint(&mut self, alloc: Global, tree: &Tree, txn: &Txn) -> Result<(), NoMemory>
+    // Makes the cells ready for the transaction.
+    fn ready_footprint(&mut self, alloc: Global, tree: &Tree, txn: &Txn) -> Result<(), NoMemory>
         ensures more { OnOk result (SavesMore tree.now self.old self.new) }
-        ensures here { OnOk result (AreSaved (footprint txn.now) self.new) }
+        ensures here { OnOk result (IsReadyFor txn.now self.new tree.now) }
     {
         // Most transactions come here, and need no list.
         if let Body::Single(operation) = &txn.body {
-            return self.save_operation(alloc, tree, operation);
+            return self.ready_operation(alloc, tree, txn.header.zxid, operation);
         }
         let mut paths = Vec::new(alloc);
         txn.body.borrow_paths(&mut paths)?;
         self.save_all(alloc, tree, paths.as_slice())
     }
 
-    // Saves the cells at the footprints of these transactions.
-    fn save_footprints(&mut self, alloc: Global, tree: &Tree, txns: &[Txn]) -> Result<(), NoMemory>
+    // Makes the cells ready for each of these transactions.
+    fn ready_footprints(&mut self, alloc: Global, tree: &Tree, txns: &[Txn]) -> Result<(), NoMemory>
         ensures more { OnOk result (SavesMore tree.now self.old self.new) }
-        ensures here { OnOk result (AreSavedEach txns.now self.new) }
+        ensures here { OnOk result (IsReadyForEach txns.now self.new tree.now) }
     {
         for txn in txns {
-            self.save_footprint(alloc, tree, txn)?;
+            self.ready_footprint(alloc, tree, txn)?;
         }
         Ok(())
     }
 
-    /// Saves what the transactions change in the tree, none of which ends a session.
+    /// Saves what the transactions change of the base, none of which ends a session.
     pub(crate) fn save_for_each(
         &mut self,
         alloc: Global,
@@ -230,6 +330,6 @@ impl SavedCells {
             → OnOk result (IsSavedFrom self.new tree.now (state_after tree.now txns.now)) }
     {
         self.save_sessions(tree)?;
-        self.save_footprints(alloc, tree, txns)
+        self.ready_footprints(alloc, tree, txns)
     }
 }

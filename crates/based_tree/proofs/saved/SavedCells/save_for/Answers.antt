@@ -8,17 +8,17 @@ use Rattle.based_tree.proofs.saved.SavedCells.save_for.Goals as goal
 pub returns-in-Nothing-clause-step : goal.returns-in-Nothing-clause-step
 returns-in-Nothing-clause-step c =
     let is = sym c.session_change.ensures ∙ c.in-Nothing.is in
-    on_ok_weaker c.save_footprint.result
-    (λ here. footprint_step c.args.txn.now c.save_footprint.new.self c.args.tree.now (ap is_ending is) is here)
-    c.save_footprint.ensures.here
+    on_ok_weaker c.ready_footprint.result
+    (λ here. footprint_step c.args.txn.now c.ready_footprint.new.self c.args.tree.now (ap is_ending is) is here)
+    c.ready_footprint.ensures.here
 
 pub returns-in_ok-save_sessions-in-Begins-clause-step : goal.returns-in_ok-save_sessions-in-Begins-clause-step
 returns-in_ok-save_sessions-in-Begins-clause-step c =
-    on_ok_both c.save_footprint-in-Begins.result
-    (λ more here. sessions_step c.args.txn.now c.save_footprint-in-Begins.new.self c.args.tree.now
+    on_ok_both c.ready_footprint-in-Begins.result
+    (λ more here. sessions_step c.args.txn.now c.ready_footprint-in-Begins.new.self c.args.tree.now
     (ap is_ending (sym c.session_change.ensures ∙ c.in-Begins.is))
     (ap is_some more.sessions ∙ c.in_ok-save_sessions-in-Begins.ensures.saved) here)
-    c.save_footprint-in-Begins.ensures.more c.save_footprint-in-Begins.ensures.here
+    c.ready_footprint-in-Begins.ensures.more c.ready_footprint-in-Begins.ensures.here
 
 pub returns-in_ok-save_sessions-in-Ends-clause-step : goal.returns-in_ok-save_sessions-in-Ends-clause-step
 returns-in_ok-save_sessions-in-Ends-clause-step c =
