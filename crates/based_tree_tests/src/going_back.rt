@@ -9,7 +9,7 @@ use paths_and_acls::{AclField, Path};
 use settings::Dialect;
 use std::alloc::Global;
 use std::test::Fail;
-use txn_codec::{Body, Create, Operation, Owner, SetData, Txn, TxnHeader};
+use txn_codec::{Body, Create, Delete, Operation, Owner, SetData, Txn, TxnHeader};
 use values::{Blob, Listed, NoMemory};
 
 // A fresh tree: the nodes /, /zookeeper and /zookeeper/quota, no ephemeral node, one child of the root, no node /e, and
@@ -21,6 +21,11 @@ const WITH_NODE: &str = "4 1 2 1 5000";
 
 // Its data is replaced by two bytes.
 const WITH_DATA: &str = "4 1 2 2 5000";
+
+// One more node, which no session owns, with a byte of data, and then with two.
+const WITH_LASTING: &str = "4 0 2 1 -1";
+
+const WITH_LASTING_DATA: &str = "4 0 2 2 -1";
 
 // A transaction of session 7.
 fn txn_of(body: Body) -> Txn {
@@ -48,17 +53,43 @@ fn path_of(alloc: Global, text: &str) -> Result<Path, Fail> {
     Ok(Path::new(alloc, text).ok().ok_or("a path")?)
 }
 
-// It creates the ephemeral node /e with one byte of data.
-fn create(alloc: Global) -> Result<Txn, Fail> {
+// It creates the node /e with one byte of data.
+fn create_owned(alloc: Global, owner: Owner) -> Result<Txn, Fail> {
     let create = Create {
         path: path_of(alloc, "/e")?,
         bytes: Some(Blob::new(alloc, b"a")?),
         acl: AclField::null(),
-        owner: Owner::Client,
+        owner,
         asks_stat: false,
         parent_cversion: -1,
     };
     Ok(txn_of(Body::Single(Operation::Create(create))))
+}
+
+// It creates /e as its ephemeral node.
+fn create(alloc: Global) -> Result<Txn, Fail> {
+    create_owned(alloc, Owner::Client)
+}
+
+// It creates /e as a node of no session.
+fn create_lasting(alloc: Global) -> Result<Txn, Fail> {
+    create_owned(alloc, Owner::Nobody)
+}
+
+// It deletes /e.
+fn delete(alloc: Global) -> Result<Txn, Fail> {
+    let delete = Delete {
+        path: path_of(alloc, "/e")?,
+        of_container: false,
+    };
+    Ok(txn_of(Body::Single(Operation::Delete(delete))))
+}
+
+// The same transaction with another zxid.
+fn at(zxid: i64, txn: Txn) -> Txn {
+    let mut other = txn;
+    other.header.zxid = zxid;
+    other
 }
 
 // It sets the data of /e.
@@ -173,5 +204,51 @@ fn end_of_a_session(rt: HostRuntime) -> Result<(), Fail> {
     let txns = [end(alloc)?];
     assert_eq!(rt; apply_list(alloc, &mut based, &txns)?, 1);
     assert!(rt; shows(alloc, &mut based, FRESH, WITH_NODE)?);
+    Ok(())
+}
+
+// A node that is new takes no place among what is saved, and has gone with the rest.
+#[test]
+fn a_new_node(rt: HostRuntime) -> Result<(), Fail> {
+    let alloc = rt.alloc();
+    let mut based = fresh(alloc)?;
+    based.apply(alloc, &create_lasting(alloc)?)?;
+    based.apply(alloc, &at(2, set_data(alloc)?))?;
+    assert!(rt; shows(alloc, &mut based, WITH_LASTING_DATA, FRESH)?);
+    Ok(())
+}
+
+// A zxid that isn't greater than the base's nodes have doesn't tell a new node.
+#[test]
+fn an_earlier_zxid(rt: HostRuntime) -> Result<(), Fail> {
+    let alloc = rt.alloc();
+    let mut based = fresh(alloc)?;
+    based.apply(alloc, &at(0, create_lasting(alloc)?))?;
+    assert!(rt; shows(alloc, &mut based, WITH_LASTING, FRESH)?);
+    Ok(())
+}
+
+// A node of the base that is deleted, created again and changed is as it was.
+#[test]
+fn created_again(rt: HostRuntime) -> Result<(), Fail> {
+    let alloc = rt.alloc();
+    let mut based = fresh(alloc)?;
+    based.apply(alloc, &create_lasting(alloc)?)?;
+    based.rebase(alloc);
+    based.apply(alloc, &at(2, delete(alloc)?))?;
+    based.apply(alloc, &at(3, create_lasting(alloc)?))?;
+    based.apply(alloc, &at(4, set_data(alloc)?))?;
+    assert!(rt; shows(alloc, &mut based, WITH_LASTING_DATA, WITH_LASTING)?);
+    Ok(())
+}
+
+// A node that is new is deleted again.
+#[test]
+fn deleted_again(rt: HostRuntime) -> Result<(), Fail> {
+    let alloc = rt.alloc();
+    let mut based = fresh(alloc)?;
+    based.apply(alloc, &create_lasting(alloc)?)?;
+    based.apply(alloc, &at(2, delete(alloc)?))?;
+    assert!(rt; shows(alloc, &mut based, FRESH, FRESH)?);
     Ok(())
 }
