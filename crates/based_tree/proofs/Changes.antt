@@ -28,7 +28,7 @@ use Rattle.data_tree.specs.Commuting.{with_timeout_of}
 use Rattle.data_tree.proofs.SameCells.{same_cell_trans, same_cell_refl}
 use Rattle.data_tree.proofs.Commute.{transactions_keep_to_their_footprints, parts-confined, mean-sessions}
 use Rattle.based_tree.specs.declared.saved.SavedCells.{SavedCells}
-use Rattle.based_tree.specs.Inner.{sessions_of, is_saved, unless_newer, without_newer, SavesMore, AreSaved, IsReadyAt, IsReady, AreReady, IsReadyFor, IsReadyForEach, is_quiet, deleted_footprint, ended_footprint, listed_in, IsSavedFrom}
+use Rattle.based_tree.specs.Inner.{sessions_of, is_saved, unless_newer, without_newer, SavesMore, AreSaved, IsReadyAt, IsCellReady, AreCellsReady, IsReadyFor, IsReadyForEach, is_quiet, deleted_footprint, ended_footprint, listed_in, IsSavedFrom}
 use Rattle.based_tree.proofs.LaterNodes.{get-older, older-same, stays, pairs-stay}
 use Rattle.based_tree.proofs.Bases.{nothing_more}
 
@@ -243,7 +243,7 @@ each_step ts s tree keep ready some =
 -- ---- more is saved
 
 pub ready_more : (quiet : Bool) (zxid : ℤ) (tree : State) (a b : SavedCells) (q : Bytes) → SavesMore tree a b
-    → IsReady quiet zxid a tree q → IsReady quiet zxid b tree q
+    → IsCellReady quiet zxid a tree q → IsCellReady quiet zxid b tree q
 ready_more quiet zxid tree a b q more ready out = by (is_saved a q) refl
   where
     by : (v : Bool) → is_saved a q ≡ v → IsReadyAt quiet zxid b tree q
@@ -265,27 +265,27 @@ ready_each tree (t ∷ ts) a b more ready = (
 )
 
 pub ready_if_saved : (paths : List Bytes) (quiet : Bool) (zxid : ℤ) (s : SavedCells) (tree : State) → AreSaved paths s
-    → AreReady paths quiet zxid s tree
+    → AreCellsReady paths quiet zxid s tree
 ready_if_saved paths quiet zxid s tree saved q at out = absurd (true≢false (sym (saved q at) ∙ out))
 
 -- Two paths are ready, or one.
-pub both_ready : (quiet : Bool) (zxid : ℤ) (s : SavedCells) (tree : State) (p r : Bytes) → IsReady quiet zxid s tree p
-    → IsReady quiet zxid s tree r → AreReady (p ∷ r ∷ []) quiet zxid s tree
+pub both_ready : (quiet : Bool) (zxid : ℤ) (s : SavedCells) (tree : State) (p r : Bytes) → IsCellReady quiet zxid s tree p
+    → IsCellReady quiet zxid s tree r → AreCellsReady (p ∷ r ∷ []) quiet zxid s tree
 both_ready quiet zxid s tree p r first second q at =
     by (eq_by_cmp path_cmp q p) refl (eq_by_cmp path_cmp q r) refl at
   where
     by : (a : Bool) → eq_by_cmp path_cmp q p ≡ a → (b : Bool) → eq_by_cmp path_cmp q r ≡ b → (a || (b || false)) ≡ true
-        → IsReady quiet zxid s tree q
-    by true is b other some = subst (IsReady quiet zxid s tree) (sym (tells_apart exact_bytes q p is)) first
-    by false is true other some = subst (IsReady quiet zxid s tree) (sym (tells_apart exact_bytes q r other)) second
+        → IsCellReady quiet zxid s tree q
+    by true is b other some = subst (IsCellReady quiet zxid s tree) (sym (tells_apart exact_bytes q p is)) first
+    by false is true other some = subst (IsCellReady quiet zxid s tree) (sym (tells_apart exact_bytes q r other)) second
     by false is false other some = absurd (true≢false (sym some))
 
-pub one_ready : (quiet : Bool) (zxid : ℤ) (s : SavedCells) (tree : State) (p : Bytes) → IsReady quiet zxid s tree p
-    → AreReady (p ∷ []) quiet zxid s tree
+pub one_ready : (quiet : Bool) (zxid : ℤ) (s : SavedCells) (tree : State) (p : Bytes) → IsCellReady quiet zxid s tree p
+    → AreCellsReady (p ∷ []) quiet zxid s tree
 one_ready quiet zxid s tree p first q at = by (eq_by_cmp path_cmp q p) refl at
   where
-    by : (a : Bool) → eq_by_cmp path_cmp q p ≡ a → (a || false) ≡ true → IsReady quiet zxid s tree q
-    by true is some = subst (IsReady quiet zxid s tree) (sym (tells_apart exact_bytes q p is)) first
+    by : (a : Bool) → eq_by_cmp path_cmp q p ≡ a → (a || false) ≡ true → IsCellReady quiet zxid s tree q
+    by true is some = subst (IsCellReady quiet zxid s tree) (sym (tells_apart exact_bytes q p is)) first
     by false is some = absurd (true≢false (sym some))
 
 -- ---- by what a transaction does to its session

@@ -105,15 +105,15 @@ pub record IsReadyAt (is : Bool) (zxid : ℤ) (saved : SavedCells) (tree : State
   pub absent : unless_newer saved.newest (finmap.get tree.nodes path) ≡ None
 
 -- A transaction with this zxid may change the cell: it is saved, or the base stays all the same.
-abbrev pub IsReady : Bool → ℤ → SavedCells → State → Bytes → Type 0
-IsReady quiet zxid saved tree path = is_saved saved path ≡ false → IsReadyAt quiet zxid saved tree path
+abbrev pub IsCellReady : Bool → ℤ → SavedCells → State → Bytes → Type 0
+IsCellReady quiet zxid saved tree path = is_saved saved path ≡ false → IsReadyAt quiet zxid saved tree path
 
-abbrev pub AreReady : List Bytes → Bool → ℤ → SavedCells → State → Type 0
-AreReady paths quiet zxid saved tree =
-    (path : Bytes) → has_path paths path ≡ true → IsReady quiet zxid saved tree path
+abbrev pub AreCellsReady : List Bytes → Bool → ℤ → SavedCells → State → Type 0
+AreCellsReady paths quiet zxid saved tree =
+    (path : Bytes) → has_path paths path ≡ true → IsCellReady quiet zxid saved tree path
 
 abbrev pub IsReadyFor : Txn → SavedCells → State → Type 0
-IsReadyFor t saved tree = AreReady (footprint t) (is_quiet t.body) t.header.zxid saved tree
+IsReadyFor t saved tree = AreCellsReady (footprint t) (is_quiet t.body) t.header.zxid saved tree
 
 abbrev pub IsReadyForEach : List Txn → SavedCells → State → Type 0
 IsReadyForEach [] saved tree = Unit {0}

@@ -8,7 +8,7 @@ ghost use Rattle.txn_codec.specs.Row.{footprint_of_operation};
 ghost use Rattle.data_tree.specs.Cells.{CopiesCell};
 ghost use Rattle.data_tree.specs.Footprint.{KeepsToCells};
 ghost use Rattle.data_tree.specs.Meaning.{effect_of_txn, state_after, ended_paths};
-ghost use Rattle.based_tree.specs.Inner.{base_of, is_saved, without_newer, SavesMore, AreSaved, IsReady, AreReady, IsReadyFor, IsReadyForEach, HasNoOtherNewer, IsSavedFrom, is_sessions, is_quiet_operation, deleted_footprint, ended_footprint, listed_in};
+ghost use Rattle.based_tree.specs.Inner.{base_of, is_saved, without_newer, SavesMore, AreSaved, IsCellReady, AreCellsReady, IsReadyFor, IsReadyForEach, HasNoOtherNewer, IsSavedFrom, is_sessions, is_quiet_operation, deleted_footprint, ended_footprint, listed_in};
 
 use crate::newer::{has_newer, is_newer};
 use data_tree::{Cells, Timeouts, Tree};
@@ -118,7 +118,7 @@ impl SavedCells {
 
     // Whether a transaction may leave a node at the path, since the base has none there unless it is saved.
     fn is_ready(&self, tree: &Tree, zxid: i64, path: &str) -> bool
-        ensures { IsTrue result → IsReady true zxid self.now tree.now path.now }
+        ensures { IsTrue result → IsCellReady true zxid self.now tree.now path.now }
     {
         if zxid <= self.newest {
             return false;
@@ -138,7 +138,7 @@ impl SavedCells {
         path: &str,
     ) -> Result<(), NoMemory>
         ensures more { OnOk result (SavesMore tree.now self.old self.new) }
-        ensures here { OnOk result (IsReady true zxid self.new tree.now path.now) }
+        ensures here { OnOk result (IsCellReady true zxid self.new tree.now path.now) }
     {
         if self.is_ready(tree, zxid, path) {
             return Ok(());
@@ -155,8 +155,8 @@ impl SavedCells {
         path: &str,
     ) -> Result<(), NoMemory>
         ensures more { OnOk result (SavesMore tree.now self.old self.new) }
-        ensures path { OnOk result (IsReady true zxid self.new tree.now path.now) }
-        ensures parent { OnOk result (IsReady true zxid self.new tree.now (parent_of path.now)) }
+        ensures path { OnOk result (IsCellReady true zxid self.new tree.now path.now) }
+        ensures parent { OnOk result (IsCellReady true zxid self.new tree.now (parent_of path.now)) }
     {
         self.make_ready(alloc, tree, zxid, path)?;
         self.make_ready(alloc, tree, zxid, parent_of(path))
@@ -274,7 +274,7 @@ impl SavedCells {
     ) -> Result<(), NoMemory>
         ensures more { OnOk result (SavesMore tree.now self.old self.new) }
         ensures here { OnOk result
-            (AreReady (footprint_of_operation operation.now) (is_quiet_operation operation.now) zxid
+            (AreCellsReady (footprint_of_operation operation.now) (is_quiet_operation operation.now) zxid
             self.new tree.now) }
     {
         match operation {
