@@ -28,11 +28,11 @@ const WITH_LASTING: &str = "4 0 2 1 -1";
 const WITH_LASTING_DATA: &str = "4 0 2 2 -1";
 
 // A transaction of session 7.
-fn txn_of(body: Body) -> Txn {
+fn txn_of(zxid: i64, body: Body) -> Txn {
     let header = TxnHeader {
         client_id: 7,
         cxid: 1,
-        zxid: 1,
+        zxid,
         time: 1000,
         rules: Dialect::Zk34,
     };
@@ -41,12 +41,12 @@ fn txn_of(body: Body) -> Txn {
 
 // The session begins.
 fn begin() -> Txn {
-    txn_of(Body::CreateSession(5000))
+    txn_of(1, Body::CreateSession(5000))
 }
 
 // It ends.
 fn end(alloc: Global) -> Result<Txn, Fail> {
-    Ok(txn_of(Body::CloseSession(Listed::from_vec(Vec::new(alloc)))))
+    Ok(txn_of(1, Body::CloseSession(Listed::from_vec(Vec::new(alloc)))))
 }
 
 fn path_of(alloc: Global, text: &str) -> Result<Path, Fail> {
@@ -54,7 +54,7 @@ fn path_of(alloc: Global, text: &str) -> Result<Path, Fail> {
 }
 
 // It creates the node /e with one byte of data.
-fn create_owned(alloc: Global, owner: Owner) -> Result<Txn, Fail> {
+fn create_owned(alloc: Global, zxid: i64, owner: Owner) -> Result<Txn, Fail> {
     let create = Create {
         path: path_of(alloc, "/e")?,
         bytes: Some(Blob::new(alloc, b"a")?),
@@ -63,44 +63,37 @@ fn create_owned(alloc: Global, owner: Owner) -> Result<Txn, Fail> {
         asks_stat: false,
         parent_cversion: -1,
     };
-    Ok(txn_of(Body::Single(Operation::Create(create))))
+    Ok(txn_of(zxid, Body::Single(Operation::Create(create))))
 }
 
 // It creates /e as its ephemeral node.
 fn create(alloc: Global) -> Result<Txn, Fail> {
-    create_owned(alloc, Owner::Client)
+    create_owned(alloc, 1, Owner::Client)
 }
 
 // It creates /e as a node of no session.
-fn create_lasting(alloc: Global) -> Result<Txn, Fail> {
-    create_owned(alloc, Owner::Nobody)
+fn create_lasting(alloc: Global, zxid: i64) -> Result<Txn, Fail> {
+    create_owned(alloc, zxid, Owner::Nobody)
 }
 
 // It deletes /e.
-fn delete(alloc: Global) -> Result<Txn, Fail> {
+fn delete(alloc: Global, zxid: i64) -> Result<Txn, Fail> {
     let delete = Delete {
         path: path_of(alloc, "/e")?,
         of_container: false,
     };
-    Ok(txn_of(Body::Single(Operation::Delete(delete))))
-}
-
-// The same transaction with another zxid.
-fn at(zxid: i64, txn: Txn) -> Txn {
-    let mut other = txn;
-    other.header.zxid = zxid;
-    other
+    Ok(txn_of(zxid, Body::Single(Operation::Delete(delete))))
 }
 
 // It sets the data of /e.
-fn set_data(alloc: Global) -> Result<Txn, Fail> {
+fn set_data(alloc: Global, zxid: i64) -> Result<Txn, Fail> {
     let set_data = SetData {
         path: path_of(alloc, "/e")?,
         bytes: Some(Blob::new(alloc, b"bc")?),
         version: 1,
         is_reconfig: false,
     };
-    Ok(txn_of(Body::Single(Operation::SetData(set_data))))
+    Ok(txn_of(zxid, Body::Single(Operation::SetData(set_data))))
 }
 
 // How many nodes there are, how many ephemeral nodes, how many children of the root, how many bytes of data /e has, and
@@ -126,6 +119,34 @@ fn add_node(alloc: Global, based: &mut BasedTree) -> Result<(), Fail> {
     based.apply(alloc, &begin())?;
     based.apply(alloc, &create(alloc)?)?;
     Ok(())
+}
+
+fn apply(alloc: Global, based: &mut BasedTree, txn: &Txn) -> Result<(), Fail> {
+    based.apply(alloc, txn)?;
+    Ok(())
+}
+
+// /e is created as a node of no session.
+fn add_lasting(alloc: Global, based: &mut BasedTree, zxid: i64) -> Result<(), Fail> {
+    apply(alloc, based, &create_lasting(alloc, zxid)?)
+}
+
+// It is created, and then gets new data.
+fn add_and_set(alloc: Global, based: &mut BasedTree, zxid: i64) -> Result<(), Fail> {
+    add_lasting(alloc, based, zxid)?;
+    apply(alloc, based, &set_data(alloc, zxid.wrapping_add(1))?)
+}
+
+// It is deleted, created and set.
+fn replace(alloc: Global, based: &mut BasedTree) -> Result<(), Fail> {
+    apply(alloc, based, &delete(alloc, 2)?)?;
+    add_and_set(alloc, based, 3)
+}
+
+// It is created and deleted.
+fn add_and_delete(alloc: Global, based: &mut BasedTree) -> Result<(), Fail> {
+    add_lasting(alloc, based, 1)?;
+    apply(alloc, based, &delete(alloc, 2)?)
 }
 
 // Whether the tree shows this, and this once it has gone back.
@@ -169,7 +190,7 @@ fn nothing_applied(rt: HostRuntime) -> Result<(), Fail> {
 fn one_by_one(rt: HostRuntime) -> Result<(), Fail> {
     let mut based = fresh(rt.alloc())?;
     add_node(rt.alloc(), &mut based)?;
-    based.apply(rt.alloc(), &set_data(rt.alloc())?)?;
+    based.apply(rt.alloc(), &set_data(rt.alloc(), 1)?)?;
     assert!(rt; shows(rt.alloc(), &mut based, WITH_DATA, FRESH)?);
     Ok(())
 }
@@ -179,7 +200,7 @@ fn tree_as_base(rt: HostRuntime) -> Result<(), Fail> {
     let mut based = fresh(rt.alloc())?;
     add_node(rt.alloc(), &mut based)?;
     based.rebase(rt.alloc());
-    based.apply(rt.alloc(), &set_data(rt.alloc())?)?;
+    based.apply(rt.alloc(), &set_data(rt.alloc(), 1)?)?;
     assert!(rt; shows(rt.alloc(), &mut based, WITH_DATA, WITH_NODE)?);
     Ok(())
 }
@@ -212,8 +233,7 @@ fn end_of_a_session(rt: HostRuntime) -> Result<(), Fail> {
 fn a_new_node(rt: HostRuntime) -> Result<(), Fail> {
     let alloc = rt.alloc();
     let mut based = fresh(alloc)?;
-    based.apply(alloc, &create_lasting(alloc)?)?;
-    based.apply(alloc, &at(2, set_data(alloc)?))?;
+    add_and_set(alloc, &mut based, 1)?;
     assert!(rt; shows(alloc, &mut based, WITH_LASTING_DATA, FRESH)?);
     Ok(())
 }
@@ -223,7 +243,7 @@ fn a_new_node(rt: HostRuntime) -> Result<(), Fail> {
 fn an_earlier_zxid(rt: HostRuntime) -> Result<(), Fail> {
     let alloc = rt.alloc();
     let mut based = fresh(alloc)?;
-    based.apply(alloc, &at(0, create_lasting(alloc)?))?;
+    add_lasting(alloc, &mut based, 0)?;
     assert!(rt; shows(alloc, &mut based, WITH_LASTING, FRESH)?);
     Ok(())
 }
@@ -233,11 +253,9 @@ fn an_earlier_zxid(rt: HostRuntime) -> Result<(), Fail> {
 fn created_again(rt: HostRuntime) -> Result<(), Fail> {
     let alloc = rt.alloc();
     let mut based = fresh(alloc)?;
-    based.apply(alloc, &create_lasting(alloc)?)?;
+    add_lasting(alloc, &mut based, 1)?;
     based.rebase(alloc);
-    based.apply(alloc, &at(2, delete(alloc)?))?;
-    based.apply(alloc, &at(3, create_lasting(alloc)?))?;
-    based.apply(alloc, &at(4, set_data(alloc)?))?;
+    replace(alloc, &mut based)?;
     assert!(rt; shows(alloc, &mut based, WITH_LASTING_DATA, WITH_LASTING)?);
     Ok(())
 }
@@ -247,8 +265,7 @@ fn created_again(rt: HostRuntime) -> Result<(), Fail> {
 fn deleted_again(rt: HostRuntime) -> Result<(), Fail> {
     let alloc = rt.alloc();
     let mut based = fresh(alloc)?;
-    based.apply(alloc, &create_lasting(alloc)?)?;
-    based.apply(alloc, &at(2, delete(alloc)?))?;
+    add_and_delete(alloc, &mut based)?;
     assert!(rt; shows(alloc, &mut based, FRESH, FRESH)?);
     Ok(())
 }
