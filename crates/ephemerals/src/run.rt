@@ -25,11 +25,11 @@ impl Model for Run {
 }
 
 impl Run {
-    /// One text.
+    /// One text, and no room for more, since many parents have one child.
     pub fn of(alloc: Global, text: Text) -> Result<Run, NoMemory>
         ensures { IfOk result (λ run. run ≡ text ∷ []) }
     {
-        let mut texts = Vec::new(alloc);
+        let mut texts = Vec::with_capacity(alloc, 1)?;
         texts.push(text)?;
         Ok(Run { texts })
     }

@@ -86,6 +86,9 @@ fn put_last(runs: &mut Vec<Run>, alloc: Global, text: Text) -> Result<(), NoMemo
         }
     }
     let run = Run::of(alloc, text)?;
+    if count == 0 {
+        runs.reserve_exact(1)?;
+    }
     Ok(runs.push(run)?)
 }
 
