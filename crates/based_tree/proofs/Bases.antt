@@ -17,7 +17,7 @@ use Rattle.data_tree.proofs.SameCells.{same_state, same_cell_sym, same_cell_tran
 use Rattle.data_tree.proofs.MovedCells.{taken_cells_move, cells_come_to_empty_cells}
 use Rattle.based_tree.specs.declared.saved.SavedCells.{SavedCells}
 use Rattle.based_tree.specs.Based.{BasedTree, at_base}
-use Rattle.based_tree.specs.Inner.{sessions_of, is_one_newer, unless_newer, has_newer, without_newer, HasNoNewer, HasNoOtherNewer, base_of, is_saved, SavesMore, IsSavedFrom}
+use Rattle.based_tree.specs.Inner.{sessions_of, is_one_newer, unless_newer, has_newer, without_newer, HasNoNewer, base_of, is_saved, SavesMore, IsSavedFrom}
 use Rattle.based_tree.proofs.LaterNodes.{get-older, unless-not, unless-newer}
 
 -- ---- the cells of the base
@@ -181,26 +181,7 @@ pub based-none : (s : SavedCells) (tree : State) → s.paths ≡ set.empty → s
 based-none s tree none sessions older =
     ap (λ base. record { base = base; tree = tree }) (base-none s tree none sessions older)
 
--- ---- all newer nodes are at saved paths
-
-pub base-whole : (s : SavedCells) (tree : State) → HasNoOtherNewer s tree
-    → base_of s tree ≡ record (with_cells (cells_at s.paths s.cells) (without_cells s.paths tree)) {
-      sessions = sessions_of s tree;
-    }
-base-whole s tree older = same_state _ _ refl (λ q. each q (is_saved s q) refl)
-  where
-    whole : State
-    whole = with_cells (cells_at s.paths s.cells) (without_cells s.paths tree)
-
-    each : (q : Bytes) (b : Bool) → is_saved s q ≡ b
-        → IsSameCell (base_of s tree) (record whole { sessions = sessions_of s tree }) q
-    each q true here =
-        let e = same_cell_trans (base-saved s tree q here) (same_cell_sym (put-saved s tree q here)) in
-        record { node = e.node; owners = e.owners }
-    each q false out =
-        let e = same_cell_trans (base-unsaved s tree q out)
-        (same_cell_trans (cell-older s.newest tree q (older q out)) (same_cell_sym (put-unsaved s tree q out))) in
-        record { node = e.node; owners = e.owners }
+-- ---- a step
 
 -- The tree takes a step that was saved before.
 pub based-step : (old new : SavedCells) (tree after : State) → base_of new tree ≡ base_of old tree

@@ -116,7 +116,7 @@ cells_step t s tree keeps ready q out = by (has_path (footprint t) q) refl
     by : (b : Bool) → has_path (footprint t) q ≡ b
         → IsSameCell (without_newer s.newest (effect_of_txn tree t).state) (without_newer s.newest tree) q
     by true at =
-        let r = ready q at out in quiet_step s.newest t.header t.body tree q r.quiet r.later r.absent
+        let r = ready q at out in quiet_step s.newest t.header t.body tree q r.quietly r.later r.absent
     by false apart =
         older-same s.newest (effect_of_txn tree t).state tree q
         ((transactions_keep_to_their_footprints t keeps).state.frame tree q apart)
@@ -215,7 +215,7 @@ still_ready : (t : Txn) (s : SavedCells) (start tree : State) → IsReadyFor t s
 still_ready t s start tree ready same q at out =
     let r = ready q at out in
     record {
-      quiet = r.quiet;
+      quietly = r.quietly;
       later = r.later;
       absent = sym (get-older s.newest tree q) ∙ (same q out).node ∙ get-older s.newest start q ∙ r.absent;
     }
@@ -251,7 +251,7 @@ ready_more quiet zxid tree a b q more ready out = by (is_saved a q) refl
     by false away =
         let r = ready away in
         record {
-          quiet = r.quiet;
+          quietly = r.quietly;
           later = ap (λ z. int_lt z zxid) more.newest ∙ r.later;
           absent = ap (λ z. unless_newer z (finmap.get tree.nodes q)) more.newest ∙ r.absent;
         }

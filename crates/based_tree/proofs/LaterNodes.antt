@@ -27,7 +27,7 @@ use Rattle.data_tree.specs.State.{State, Nodes}
 use Rattle.data_tree.specs.Meaning.{after_changes, effect_of, create_under, create_taken, create_new, with_children, mended_list, gained_pair, set_data_at}
 use Rattle.data_tree.specs.Meaning.Change.{Put, Own}
 use Rattle.data_tree.specs.Footprint.{IsSameCell}
-use Rattle.based_tree.specs.Inner.{is_newer, unless_newer, is_one_newer, without_newer, is_sessions, is_quiet_operation}
+use Rattle.based_tree.specs.Inner.{is_newer, unless_newer, is_one_newer, without_newer, is_ephemeral_owner, is_quiet_operation}
 
 -- ---- a node that isn't newer
 
@@ -213,7 +213,7 @@ mended_pairs : (rules : Dialect) (c : Create) (s : State) → (after_changes s (
 mended_pairs Zk34 c s = refl
 mended_pairs Zk38 c s = refl
 
-gained_none : (h : TxnHeader) (owner : Owner) (path : Bytes) (s : State) → not (is_sessions owner) ≡ true
+gained_none : (h : TxnHeader) (owner : Owner) (path : Bytes) (s : State) → not (is_ephemeral_owner owner) ≡ true
     → (after_changes s (gained_pair (owner_of h owner) path)).pairs ≡ s.pairs
 gained_none h Client path s quiet = absurd (true≢false (sym quiet))
 gained_none h Nobody path s quiet = refl
@@ -234,7 +234,7 @@ taken_pairs h c parent s =
     by true = mended_pairs h.rules c (record s { nodes = finmap.insert s.nodes (parent_of c.path) raised })
     by false = mended_pairs h.rules c s
 
-create_pairs : (h : TxnHeader) (c : Create) (s : State) → not (is_sessions c.owner) ≡ true → (o : Option Node)
+create_pairs : (h : TxnHeader) (c : Create) (s : State) → not (is_ephemeral_owner c.owner) ≡ true → (o : Option Node)
     → (after_changes s (create_under h c o).changes).pairs ≡ s.pairs
 create_pairs h c s quiet None = refl
 create_pairs h c s quiet (Some parent) = by (set.contains parent.children (name_of c.path))

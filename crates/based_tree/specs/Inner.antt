@@ -15,7 +15,7 @@ use Rattle.txn_codec.specs.Row.{footprint_of_parts}
 use Rattle.node_map.specs.declared.node.Node.{Node}
 use Rattle.data_tree.specs.State.{State, SessionTimeouts}
 use Rattle.data_tree.specs.Meaning.{delete_operations, ended_paths}
-use Rattle.data_tree.specs.Cells.{cells_at, without_cells, with_cells}
+use Rattle.data_tree.specs.Cells.{cells_at, without_cells, with_cells, without_node}
 use Rattle.data_tree.specs.Footprint.{has_path, IsSameCell, footprint}
 use Rattle.based_tree.specs.declared.saved.SavedCells.{SavedCells}
 
@@ -49,6 +49,15 @@ without_newer zxid s = record s {
   nodes = finmap.retain_keys s.nodes (λ (path : Bytes). is_some (unless_newer zxid (finmap.get s.nodes path)));
 }
 
+-- The paths of all newer nodes, and no other.
+abbrev pub AreNewerPaths : ℤ → State → List Bytes → Type 0
+AreNewerPaths zxid s paths = (path : Bytes) → has_path paths path ≡ has_newer zxid s path
+
+-- The state without the nodes at these paths; the sessions that list the paths stay.
+abbrev pub without_nodes_at : List Bytes → State → State
+without_nodes_at [] s = s
+without_nodes_at (path ∷ paths) s = without_nodes_at paths (without_node path s)
+
 -- ---- the base
 
 -- The base: the cells and the sessions that were saved, and elsewhere the tree without the nodes that are newer.
@@ -71,21 +80,17 @@ pub record SavesMore (tree : State) (old new : SavedCells) : Type 0 where
 abbrev pub AreSaved : List Bytes → SavedCells → Type 0
 AreSaved paths saved = (path : Bytes) → has_path paths path ≡ true → is_saved saved path ≡ true
 
--- Every newer node of the tree is at a saved path.
-abbrev pub HasNoOtherNewer : SavedCells → State → Type 0
-HasNoOtherNewer saved tree = (path : Bytes) → is_saved saved path ≡ false → has_newer saved.newest tree path ≡ false
-
 -- ---- what is ready for a transaction
 
-abbrev pub is_sessions : Owner → Bool
-is_sessions Client = true
-is_sessions Nobody = false
-is_sessions Container = false
-is_sessions (Ttl milliseconds) = false
+abbrev pub is_ephemeral_owner : Owner → Bool
+is_ephemeral_owner Client = true
+is_ephemeral_owner Nobody = false
+is_ephemeral_owner Container = false
+is_ephemeral_owner (Ttl milliseconds) = false
 
 -- It changes nodes alone, and makes each of them newer.
 abbrev pub is_quiet_operation : Operation → Bool
-is_quiet_operation (op.Create c) = not (is_sessions c.owner)
+is_quiet_operation (op.Create c) = not (is_ephemeral_owner c.owner)
 is_quiet_operation (op.SetData b) = true
 is_quiet_operation (op.Delete d) = false
 is_quiet_operation (op.Check b) = false
@@ -99,8 +104,8 @@ is_quiet (body.CreateSession timeout) = false
 is_quiet (body.CloseSession listed) = false
 
 -- The base has no node at a path that isn't saved, and what a later transaction leaves there is newer.
-pub record IsReadyAt (is : Bool) (zxid : ℤ) (saved : SavedCells) (tree : State) (path : Bytes) : Type 0 where
-  pub quiet : is ≡ true
+pub record IsReadyAt (quiet : Bool) (zxid : ℤ) (saved : SavedCells) (tree : State) (path : Bytes) : Type 0 where
+  pub quietly : quiet ≡ true
   pub later : int_lt saved.newest zxid ≡ true
   pub absent : unless_newer saved.newest (finmap.get tree.nodes path) ≡ None
 

@@ -8,7 +8,7 @@ ghost use Rattle.txn_codec.specs.declared.txn.Txn.{Txn as TheTxn};
 ghost use Rattle.data_tree.specs.Meaning.{effect_of_txn, answer_of, state_after, outcomes_of_txns};
 ghost use Rattle.based_tree.specs.Based.{at_base, AppliesTxns};
 
-use crate::newer::newest_zxid;
+use crate::newer::{newest_zxid, remove_newer};
 use crate::saved::SavedCells;
 use data_tree::{Outcome, Timeouts, Tree};
 use std::alloc::Global;
@@ -138,7 +138,7 @@ impl BasedTree {
     pub fn go_back(&mut self, alloc: Global) -> Result<(), NoMemory>
         ensures { OnOk result (self.new ≡ at_base self.old.base) }
     {
-        self.saved.save_newer(alloc, &self.tree)?;
+        remove_newer(alloc, self.saved.newest, &mut self.tree)?;
         let paths = self.saved.ordered_paths(alloc)?;
         self.tree
             .replace_cells(alloc, &paths, &mut self.saved.cells)?;

@@ -2,8 +2,9 @@
 //!
 //! A log starts from a base: the tree without the log's transactions. `BasedTree` keeps no copy of it, but the base's
 //! cells that have changed since. Which these are, the Stats tell: the zxids in a node that was created or changed come
-//! after all those of the base. So a new node takes no memory here, and only the first change of a node of the base
-//! copies it. To go back, or to take the tree as the new base, it looks at each node once.
+//! after all those of the base. So only the first change of a node of the base copies it. A node that a single create
+//! makes takes no memory here; where a session owns it, or the create is one of a multi, its path is kept. To go back,
+//! or to take the tree as the new base, it looks at each node once.
 //!
 //! ```text
 //! let mut based = BasedTree::new(alloc, tree);

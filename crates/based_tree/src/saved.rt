@@ -8,7 +8,7 @@ ghost use Rattle.txn_codec.specs.Row.{footprint_of_operation};
 ghost use Rattle.data_tree.specs.Cells.{CopiesCell};
 ghost use Rattle.data_tree.specs.Footprint.{KeepsToCells};
 ghost use Rattle.data_tree.specs.Meaning.{effect_of_txn, state_after, ended_paths};
-ghost use Rattle.based_tree.specs.Inner.{base_of, is_saved, without_newer, SavesMore, AreSaved, IsCellReady, AreCellsReady, IsReadyFor, IsReadyForEach, HasNoOtherNewer, IsSavedFrom, is_sessions, is_quiet_operation, deleted_footprint, ended_footprint, listed_in};
+ghost use Rattle.based_tree.specs.Inner.{base_of, is_saved, without_newer, SavesMore, AreSaved, IsCellReady, AreCellsReady, IsReadyFor, IsReadyForEach, IsSavedFrom, is_ephemeral_owner, is_quiet_operation, deleted_footprint, ended_footprint, listed_in};
 
 use crate::newer::{has_newer, is_newer};
 use data_tree::{Cells, Timeouts, Tree};
@@ -19,10 +19,10 @@ use std::alloc::Global;
 use txn_codec::{Body, Operation, Owner, SessionChange, Txn, TxnHeader};
 use values::{NoMemory, Str};
 
-/// What a base has where a tree may differ from it.
+/// What a base has where a tree may differ from it, but for the tree's newer nodes.
 #[derive(Drop)]
 pub struct SavedCells {
-    // The paths at which it may.
+    // The paths at which cells are saved.
     pub(crate) paths: HashedTexts,
     // The cells of the base at these paths.
     pub(crate) cells: Cells,
@@ -59,8 +59,8 @@ fn listed_in(body: &Body) -> &[Path]
 }
 
 // Whether a session owns what is created.
-fn is_sessions(owner: Owner) -> bool
-    ensures { result ≡ is_sessions owner }
+fn is_ephemeral_owner(owner: Owner) -> bool
+    ensures { result ≡ is_ephemeral_owner owner }
 {
     match owner {
         Owner::Client => true,
@@ -204,19 +204,6 @@ impl SavedCells {
         Ok(())
     }
 
-    /// Saves the base's cells at the paths of all newer nodes.
-    pub(crate) fn save_newer(&mut self, alloc: Global, tree: &Tree) -> Result<(), NoMemory>
-        ensures more { OnOk result (SavesMore tree.now self.old self.new) }
-        ensures all { OnOk result (HasNoOtherNewer self.new tree.now) }
-    {
-        for (path, node) in tree.nodes() {
-            if is_newer(self.newest, node) {
-                self.save(alloc, tree, path.as_str())?;
-            }
-        }
-        Ok(())
-    }
-
     /// Saves what the end of the session touches of the base.
     pub(crate) fn save_ended(
         &mut self,
@@ -280,7 +267,7 @@ impl SavedCells {
         match operation {
             Operation::Create(create) => {
                 let path = create.path.as_str();
-                if is_sessions(create.owner) {
+                if is_ephemeral_owner(create.owner) {
                     return self.save_with_parent(alloc, tree, path);
                 }
                 self.make_ready_with_parent(alloc, tree, zxid, path)

@@ -16,8 +16,8 @@ use values::{Blob, Listed, NoMemory};
 // no session 7.
 const FRESH: &str = "3 0 1 -1 -1";
 
-// One more node, which session 7 owns and which has a byte of data. It is a child of the root.
-const WITH_NODE: &str = "4 1 2 1 5000";
+/// One more node, which session 7 owns and which has a byte of data. It is a child of the root.
+pub const WITH_NODE: &str = "4 1 2 1 5000";
 
 // Its data is replaced by two bytes.
 const WITH_DATA: &str = "4 1 2 2 5000";
@@ -39,8 +39,8 @@ fn txn_of(zxid: i64, body: Body) -> Txn {
     Txn { header, body }
 }
 
-// The session begins.
-fn begin() -> Txn {
+/// The session begins.
+pub fn begin() -> Txn {
     txn_of(1, Body::CreateSession(5000))
 }
 
@@ -66,8 +66,8 @@ fn create_owned(alloc: Global, zxid: i64, owner: Owner) -> Result<Txn, Fail> {
     Ok(txn_of(zxid, Body::Single(Operation::Create(create))))
 }
 
-// It creates /e as its ephemeral node.
-fn create(alloc: Global) -> Result<Txn, Fail> {
+/// It creates /e as its ephemeral node.
+pub fn create(alloc: Global) -> Result<Txn, Fail> {
     create_owned(alloc, 1, Owner::Client)
 }
 
@@ -96,9 +96,9 @@ fn set_data(alloc: Global, zxid: i64) -> Result<Txn, Fail> {
     Ok(txn_of(zxid, Body::Single(Operation::SetData(set_data))))
 }
 
-// How many nodes there are, how many ephemeral nodes, how many children of the root, how many bytes of data /e has, and
-// the timeout of session 7. What isn't there is -1.
-fn shown(alloc: Global, tree: &Tree) -> Result<String, Fail> {
+/// How many nodes there are, how many ephemeral nodes, how many children of the root, how many bytes of data /e has, and
+/// the timeout of session 7. What isn't there is -1.
+pub fn shown(alloc: Global, tree: &Tree) -> Result<String, Fail> {
     let children = tree.stat("/").map(|stat| stat.num_children).unwrap_or(-1);
     let bytes = tree.stat("/e").map(|stat| stat.data_length).unwrap_or(-1);
     let timeout = tree.sessions().get(7).unwrap_or(-1);

@@ -3,4 +3,6 @@
 #![tactic(auto)]
 
 #[cfg(test)]
+mod copied_cells;
+#[cfg(test)]
 mod going_back;

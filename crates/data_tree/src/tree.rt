@@ -573,6 +573,14 @@ impl Tree {
         self.ephemerals.copy_path(alloc, path, &from.ephemerals)
     }
 
+    /// Removes the node at the path, if there is one. The name that its parent lists stays, and so do the sessions that
+    /// list the path.
+    pub fn remove_node(&mut self, path: &str)
+        ensures { self.new ≡ without_node path.now self.old }
+    {
+        self.nodes.remove(path);
+    }
+
     /// Replaces the timeouts of all sessions.
     pub fn set_sessions(&mut self, sessions: Timeouts)
         ensures { self.new ≡ record self.old { sessions = sessions } }

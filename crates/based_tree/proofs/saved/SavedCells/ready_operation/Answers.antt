@@ -3,12 +3,12 @@ use Rattle.std.proofs.lemmas.Result.{on_ok_weaker}
 use Rattle.paths_and_acls.specs.Paths.{parent_of}
 use Rattle.txn_codec.specs.Row.{footprint_of_operation}
 use Rattle.txn_codec.specs.declared.txn.Operation.{Operation}
-use Rattle.based_tree.specs.Inner.{AreCellsReady, is_sessions, is_quiet_operation}
+use Rattle.based_tree.specs.Inner.{AreCellsReady, is_ephemeral_owner, is_quiet_operation}
 use Rattle.based_tree.proofs.Changes.{one_ready, both_ready, both-saved, ready_if_saved, on_ok_both}
 use Rattle.based_tree.proofs.saved.SavedCells.ready_operation.Goals as goal
 
-pub returns-then-is_sessions-clause-here : goal.returns-then-is_sessions-clause-here
-returns-then-is_sessions-clause-here c =
+pub returns-then-is_ephemeral_owner-clause-here : goal.returns-then-is_ephemeral_owner-clause-here
+returns-then-is_ephemeral_owner-clause-here c =
     let path = c.as_str-path.result.now in
     let after = c.save_with_parent.new.self in
     let tree = c.args.tree.now in
@@ -21,13 +21,13 @@ returns-then-is_sessions-clause-here c =
     tree (both-saved tree path (parent_of path) after here parent))))
     c.save_with_parent.ensures.path c.save_with_parent.ensures.parent
 
-pub returns-else-is_sessions-clause-here : goal.returns-else-is_sessions-clause-here
-returns-else-is_sessions-clause-here c =
+pub returns-else-is_ephemeral_owner-clause-here : goal.returns-else-is_ephemeral_owner-clause-here
+returns-else-is_ephemeral_owner-clause-here c =
     let path = c.as_str-path.result.now in
     let after = c.make_ready_with_parent.new.self in
     let tree = c.args.tree.now in
-    let quiet : not (is_sessions c.in-Create.create.owner) ≡ true =
-    ap not (sym c.is_sessions.ensures ∙ c.if-is_sessions.false) in
+    let quiet : not (is_ephemeral_owner c.in-Create.create.owner) ≡ true =
+    ap not (sym c.is_ephemeral_owner.ensures ∙ c.if-is_ephemeral_owner.false) in
     let same : to_z w64 (of_z w64 c.args.zxid) ≡ c.args.zxid = search rules in
     on_ok_both c.make_ready_with_parent.result
     (λ here parent. subst (λ o. AreCellsReady (footprint_of_operation o) (is_quiet_operation o) c.args.zxid after tree)
