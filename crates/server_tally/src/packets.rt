@@ -30,7 +30,12 @@ fn rest_of(head: [u8; HEAD]) -> usize {
 
 fn is_notice(head: [u8; HEAD]) -> bool {
     let [_, _, _, _, a, b, c, d] = head;
-    [a, b, c, d] == [0xff; 4]
+    u32::from_be_bytes([a, b, c, d]) == u32::MAX
+}
+
+// The bytes after the first ones.
+fn after(bytes: &[u8], first: usize) -> &[u8] {
+    bytes.get(first..).unwrap_or(&[])
 }
 
 impl PacketCount {
@@ -42,6 +47,13 @@ impl PacketCount {
         }
     }
 
+    // Takes what is left of the packet off the bytes.
+    fn skip<'a>(&mut self, bytes: &'a [u8]) -> &'a [u8] {
+        let skipped = self.left.min(bytes.len());
+        self.left = self.left.saturating_sub(skipped);
+        after(bytes, skipped)
+    }
+
     // Adds a byte of a head. Returns whether it is whole.
     fn add(&mut self, byte: u8) -> bool {
         if let Some(place) = self.head.get_mut(self.have) {
@@ -49,6 +61,24 @@ impl PacketCount {
         }
         self.have = self.have.saturating_add(1);
         self.have >= HEAD
+    }
+
+    // Takes a whole head off the bytes, if they have one, and else a byte of it. Returns whether it is whole.
+    fn take_head(&mut self, bytes: &mut &[u8]) -> bool {
+        if self.have == 0 {
+            if let Some(head) = bytes.first_chunk::<HEAD>() {
+                self.head = *head;
+                *bytes = after(bytes, HEAD);
+                return true;
+            }
+        }
+        match bytes.split_first() {
+            None => false,
+            Some((byte, rest)) => {
+                *bytes = rest;
+                self.add(*byte)
+            }
+        }
     }
 
     // Counts the packet whose head is whole.
@@ -67,17 +97,14 @@ impl PacketCount {
             packets: 0,
             notices: 0,
         };
-        let mut at: usize = 0;
+        let mut rest = bytes;
         // Each step takes a byte of a head at least.
         for _ in 0..bytes.len() {
-            let skipped = self.left.min(bytes.len().saturating_sub(at));
-            self.left = self.left.saturating_sub(skipped);
-            at = at.saturating_add(skipped);
-            let Some(byte) = bytes.get(at).copied() else {
+            rest = self.skip(rest);
+            if rest.is_empty() {
                 break;
-            };
-            at = at.saturating_add(1);
-            if self.add(byte) {
+            }
+            if self.take_head(&mut rest) {
                 self.end_head(&mut found);
             }
         }
