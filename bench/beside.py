@@ -20,7 +20,7 @@ servers that leave writes undone, and the file says how often. Measured are
 - informs: one client makes 200,000 setDatas at the leader, 500 under way, and reads the last of them at the observer
   until that shows it. Counted are the setDatas a second until then; how long after the leader's last answer that was;
   and the setDatas a second that the leader answered, which no observer can be faster than. So the same is done with
-  100,000 setDatas while the observer's process stands still, and the backlog is counted from when it goes on;
+  50,000 setDatas while the observer's process stands still, and the backlog is counted from when it goes on;
 - writes: setDatas a second through the observer, with 100 under way;
 - memory: the resident set of an observer that has followed the leader from an empty tree to one of so many nodes of 100
   bytes (`followed`, where both observers run), and of one that is started beside such a tree and reads no old files
@@ -66,7 +66,7 @@ CLIENTS, DEPTH = (1, 2, 4, 8, 16, 32), 100
 # How many clients read before an observer is measured, and how many times as long the leader is written to beforehand.
 WARM_CLIENTS, LEADER_WARM = 8, 3
 # A leader gives up an observer that stands still for ten seconds, so the backlog has to be made within less.
-WRITES, BACKLOG, LEADER_DEPTH = 200_000, 100_000, 500
+WRITES, BACKLOG, LEADER_DEPTH = 200_000, 50_000, 500
 NODES, LARGE = (0, 10_000, 50_000, 100_000), 1_000_000
 # MiB: what bin/zkEnv.sh of ZooKeeper gives a server.
 HEAP = 1000

@@ -53,6 +53,8 @@ def all_loads():
     return {
         "nothing": image(0, 0),
         "half": image(PARENTS // 2),
+        "only children": image(PARENTS * CHILDREN // 2, 1),
+        "half as many": image(PARENTS * CHILDREN // 4, 1),
         "image": image(PARENTS),
         "checkpoint": image(PARENTS, checkpoints=1),
         "tenth": image(PARENTS // 10, piece=WHOLE),
@@ -73,12 +75,14 @@ def figures(of):
 
     nodes = PARENTS * (1 + CHILDREN)
     due = (of["image"].memory - of["half"].memory) / (nodes / 2)
+    alone = (of["only children"].memory - of["half as many"].memory) / (PARENTS * CHILDREN / 2)
     return [
         (f"seconds an image of {nodes:,} nodes", took("image"), 5),
         ("2n nodes against n", took("image") / took("half"), TWICE),
         (f"pieces of {SHORT:,} bytes against one piece", took("short pieces") / took("tenth"), PIECES),
         (f"a part of {LONG:,} bytes against half as many, by {TINY}", took("twice as long") / took("long node"), TWICE),
         ("bytes a node", due, 550),
+        ("bytes a node, if half of them have one child each", alone, 550),
         (f"seconds a checkpoint of {nodes:,} nodes", took("checkpoint", "image"), None),
         ("bytes a node more that it takes", (of["checkpoint"].memory - of["image"].memory) / nodes, None),
         (f"TRUNC over {CREATED * (1 + LOGGED):,}, against doing them", took("undone", "log") / took("log", "no log"), 1.5),
