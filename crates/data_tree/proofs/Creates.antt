@@ -1,5 +1,5 @@
 -- A create of a name that is taken, and one that is refused.
-use Rattle.std.proofs.Common.{◌≡◌, List, [], ◌∷◌, Bool, true, false, Option, Some, None, refl, ap, ◌∙◌, if◌then◌else◌, int_lt}
+use Rattle.std.proofs.Common.{◌≡◌, pos, List, [], ◌∷◌, Bool, true, false, Option, Some, None, refl, ap, ◌∙◌, if◌then◌else◌, int_lt}
 use Rattle.std.specs.FinMap as finmap
 use Rattle.std.specs.FinSet as set
 use Rattle.ephemerals.specs.Orders.{Bytes}
@@ -19,7 +19,9 @@ use Rattle.data_tree.specs.Meaning.{Change, after_changes, mended_list, create_n
 use Rattle.data_tree.specs.Meaning.Change.{Put}
 use Rattle.data_tree.specs.Inner.Doing.{IsEffectDone}
 use Rattle.data_tree.specs.Inner.Mending.{with_mended}
+use Rattle.std.specs.Ordering.{int_eq}
 use Rattle.data_tree.specs.declared.outcome.Trigger.{Trigger}
+use Rattle.data_tree.specs.declared.outcome.Trigger.TheVariants.{Created, ChildrenChanged}
 use Rattle.jute.specs.declared.stat.StatPersisted.{StatPersisted}
 use Rattle.node_map.specs.declared.added_child.AddedChild.TheVariants.{Taken, Added}
 use Rattle.data_tree.proofs.Lists.{nothing_more}
@@ -120,3 +122,18 @@ undone_child m path name h c stat adopted = by (finmap.get m path) refl adopted
         → update_node (update_node m path (with_added_child h c name)) path (without_added_child name stat) ≡ m
     by None e a = cc
     by (Some parent) e a = with_name parent (set.contains parent.children name) e refl a
+
+-- A create fires at its path and at the parent, unless it fails.
+pub create_fires : (h : TxnHeader) (c : Create) (o : Option Node)
+    → (create_under h c o).triggers
+    ≡ (if int_eq (create_under h c o).err (pos 0) then Created c.path ∷ ChildrenChanged (parent_of c.path) ∷ []
+    else [])
+create_fires h c None = refl
+create_fires h c (Some parent) = by (set.contains parent.children (name_of c.path))
+  where
+    by : (b : Bool)
+        → (if b then create_taken h c parent else create_new h c parent).triggers
+        ≡ (if int_eq (if b then create_taken h c parent else create_new h c parent).err (pos 0) then
+        Created c.path ∷ ChildrenChanged (parent_of c.path) ∷ [] else [])
+    by true = refl
+    by false = refl

@@ -1,7 +1,7 @@
 -- The state that a delete leaves.
-use Rattle.std.proofs.Common.{◌≡◌, List, [], ◌++◌, Bool, true, false, cond, Option, Some, None, is_some, refl, sym, ap, ◌∙◌}
+use Rattle.std.proofs.Common.{◌≡◌, pos, if◌then◌else◌, List, [], ◌∷◌, ◌++◌, Bool, true, false, cond, Option, Some, None, is_some, refl, sym, ap, ◌∙◌}
 use mathlib.Core.Bool.{true≢false}
-use Rattle.std.specs.Ordering.{eq_by_cmp}
+use Rattle.std.specs.Ordering.{eq_by_cmp, int_eq}
 use Rattle.std.proofs.lemmas.Map.Lookups.{exact_bytes}
 use Rattle.std.proofs.lemmas.Map.Views.{tells_apart}
 use Rattle.std.specs.FinMap as finmap
@@ -20,6 +20,7 @@ use Rattle.data_tree.specs.Meaning.{Effect, after_changes, delete_missing, delet
 use Rattle.data_tree.specs.Inner.Doing.{IsEffectDone}
 use Rattle.data_tree.specs.Inner.Mending.{with_missing}
 use Rattle.data_tree.specs.declared.outcome.Trigger.{Trigger}
+use Rattle.data_tree.specs.declared.outcome.Trigger.TheVariants.{Deleted, ChildrenChanged}
 use Rattle.ephemerals.proofs.Totals.{path_total}
 use Rattle.data_tree.proofs.Lists.{nothing_more}
 use Rattle.data_tree.proofs.UndonePairs.{after_changes-lost_pair}
@@ -133,3 +134,20 @@ deleted-is s h path node n p found some nodes pairs =
           sessions = s.sessions;
         } in t)
         node.stat.ephemeral_owner path)
+
+-- A delete fires at its path and at the parent, unless it fails.
+pub delete_fires : (h : TxnHeader) (path : Bytes) (node parent : Option Node)
+    → (delete_at h path node parent).triggers
+    ≡ (if int_eq (delete_at h path node parent).err (pos 0) then Deleted path ∷ ChildrenChanged (parent_of path) ∷ []
+    else [])
+delete_fires h path None parent = by h.rules parent
+  where
+    by : (rules : Dialect) (parent : Option Node)
+        → (delete_missing rules h path parent).triggers
+        ≡ (if int_eq (delete_missing rules h path parent).err (pos 0) then
+        Deleted path ∷ ChildrenChanged (parent_of path) ∷ [] else [])
+    by Zk34 parent = refl
+    by Zk38 None = refl
+    by Zk38 (Some parent) = refl
+delete_fires h path (Some node) None = refl
+delete_fires h path (Some node) (Some parent) = refl

@@ -1,6 +1,7 @@
 //! The outcome of a transaction.
 
-ghost use Rattle.std.specs.Prelude.{◌≡◌, ◌∷◌, ◌++◌, [], length, OnOk};
+ghost use Rattle.std.specs.Prelude.{◌≡◌, ◌∷◌, ◌++◌, [], pos, if◌then◌else◌, length, OnOk};
+ghost use Rattle.std.specs.Ordering.{int_eq};
 
 use jute::Stat;
 use std::alloc::Global;
@@ -20,14 +21,15 @@ pub enum Trigger {
     ChildrenChanged(Text),
 }
 
-// Where the triggers of a transaction are: the one of most, or a block of memory.
+// Where the triggers of a transaction are: the one or two of most, or a block of memory.
 #[derive(Debug, Drop)]
 enum StoredTriggers {
     One([Trigger; 1]),
+    Two([Trigger; 2]),
     Listed(Vec<Trigger>),
 }
 
-/// The triggers of a transaction, in order; its model is the list of them. One alone takes no block of memory.
+/// The triggers of a transaction, in order; its model is the list of them. Neither one nor two take a block of memory.
 #[derive(Debug)]
 pub struct Triggers {
     stored: StoredTriggers,
@@ -53,6 +55,15 @@ impl Triggers {
         }
     }
 
+    /// Two triggers.
+    pub(crate) fn two(first: Trigger, second: Trigger) -> Triggers
+        ensures { result ≡ first ∷ second ∷ [] }
+    {
+        Triggers {
+            stored: StoredTriggers::Two([first, second]),
+        }
+    }
+
     /// The vector's triggers.
     pub fn from_vec(triggers: Vec<Trigger>) -> Triggers
         ensures { result ≡ triggers.items }
@@ -67,6 +78,7 @@ impl Triggers {
     {
         match &self.stored {
             StoredTriggers::One(trigger) => trigger.as_slice(),
+            StoredTriggers::Two(triggers) => triggers.as_slice(),
             StoredTriggers::Listed(triggers) => triggers.as_slice(),
         }
     }
@@ -124,6 +136,26 @@ impl Outcome {
             },
             triggers,
         }
+    }
+
+    /// The outcome of a create or a delete that isn't a part of a multi. It fires at the path and at its parent, unless
+    /// it failed.
+    pub(crate) fn of_create_or_delete(
+        alloc: Global,
+        err: i32,
+        at_path: Trigger,
+        at_parent: Trigger,
+    ) -> Outcome
+        ensures { result ≡
+            record {
+              results = record { err = err; parts = [] };
+              triggers = if int_eq err (pos 0) then at_path ∷ at_parent ∷ [] else [];
+            } }
+    {
+        if err != 0 {
+            return Outcome::without_parts(alloc, err, Triggers::from_vec(Vec::new(alloc)));
+        }
+        Outcome::without_parts(alloc, err, Triggers::two(at_path, at_parent))
     }
 }
 

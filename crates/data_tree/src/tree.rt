@@ -21,7 +21,7 @@ ghost use Rattle.data_tree.specs.Meaning.{of_operation, of_set_acl, of_create_se
 ghost use Rattle.data_tree.specs.Cells.{cells_at, without_cells, with_cells, HasPartOfCells, CopiesCell, without_node};
 ghost use Rattle.data_tree.specs.Refused.{IsAfterFront};
 ghost use Rattle.data_tree.specs.Refused.{IsPartlyDone, IsLeftByRefused};
-ghost use Rattle.data_tree.specs.Inner.Doing.{DoesEffect};
+ghost use Rattle.data_tree.specs.Inner.Doing.{DoesEffect, DoesChange, IsChangeDone};
 ghost use Rattle.ephemerals.specs.Orders.{Bytes, path_cmp, sorted_names};
 
 use crate::multi::{failed_outcome, first_error};
@@ -224,31 +224,24 @@ impl Tree {
         }
     }
 
-    fn create(
+    // Changes the nodes as a create does.
+    fn create_node(
         &mut self,
         alloc: Global,
         header: &TxnHeader,
         create: &Create,
-        triggers: &mut Vec<Trigger>,
     ) -> Result<i32, NoMemory>
-        ensures { DoesEffect (of_operation header.now (Operation.Create create.now) self.old) result
-            self.old self.new triggers.old.items triggers.new.items }
+        ensures { DoesChange (of_operation header.now (Operation.Create create.now) self.old) result
+            self.old self.new }
     {
-        let parent = create.path.parent();
-        let before = triggers.len();
-        let created = Trigger::Created(Text::new(alloc, create.path.as_str())?);
-        fire_with_parent(triggers, alloc, created, parent)?;
         let node = Node::created(alloc, header, create)?;
+        let parent = create.path.parent();
         match self
             .nodes
             .add_child(alloc, parent, create.path.name(), header, create)?
         {
-            AddedChild::NoParent => {
-                triggers.truncate(before);
-                Ok(NO_NODE)
-            }
+            AddedChild::NoParent => Ok(NO_NODE),
             AddedChild::Taken => {
-                triggers.truncate(before);
                 self.mend(header, create.path.as_str(), node);
                 Ok(NODE_EXISTS)
             }
@@ -260,6 +253,28 @@ impl Tree {
                 }
             },
         }
+    }
+
+    #[tactic(auto, using(crate::proofs::Creates::create_fires))]
+    fn create(
+        &mut self,
+        alloc: Global,
+        header: &TxnHeader,
+        create: &Create,
+        triggers: &mut Vec<Trigger>,
+    ) -> Result<i32, NoMemory>
+        ensures { DoesEffect (of_operation header.now (Operation.Create create.now) self.old) result
+            self.old self.new triggers.old.items triggers.new.items }
+    {
+        let before = triggers.len();
+        let created = Trigger::Created(Text::new(alloc, create.path.as_str())?);
+        fire_with_parent(triggers, alloc, created, create.path.parent())?;
+        let err = self.create_node(alloc, header, create)?;
+        if err != 0 {
+            triggers.truncate(before);
+            return Ok(err);
+        }
+        Ok(0)
     }
 
     // A node that came with an image, but without its access control list, gets that of this one, which a create made.
@@ -282,6 +297,25 @@ impl Tree {
         }
     }
 
+    // Changes the nodes as a delete does.
+    fn delete_node(&mut self, header: &TxnHeader, path: &str) -> i32
+        ensures { IsChangeDone (of_operation header.now (delete_of path.now) self.old) result self.new }
+    {
+        let Some(node) = self.nodes.remove(path) else {
+            self.miss(header, path);
+            return NO_NODE;
+        };
+        if !self
+            .nodes
+            .remove_child(parent_of(path), name_of(path), header)
+        {
+            return NO_NODE;
+        }
+        self.ephemerals.remove(node.stat.ephemeral_owner, path);
+        0
+    }
+
+    #[tactic(auto, using(crate::proofs::Deletes::delete_fires))]
     fn delete(
         &mut self,
         alloc: Global,
@@ -295,19 +329,11 @@ impl Tree {
         let before = triggers.len();
         let deleted = Trigger::Deleted(Text::new(alloc, path)?);
         fire_with_parent(triggers, alloc, deleted, parent_of(path))?;
-        let Some(node) = self.nodes.remove(path) else {
+        let err = self.delete_node(header, path);
+        if err != 0 {
             triggers.truncate(before);
-            self.miss(header, path);
-            return Ok(NO_NODE);
-        };
-        if !self
-            .nodes
-            .remove_child(parent_of(path), name_of(path), header)
-        {
-            triggers.truncate(before);
-            return Ok(NO_NODE);
+            return Ok(err);
         }
-        self.ephemerals.remove(node.stat.ephemeral_owner, path);
         Ok(0)
     }
 
@@ -469,6 +495,46 @@ impl Tree {
         Ok(Outcome::without_parts(alloc, 0, Triggers::one(changed)))
     }
 
+    // Applies a create that isn't a part of a multi. A refused allocation leaves the tree as it was.
+    #[tactic(auto, using(crate::proofs::Creates::create_fires))]
+    fn apply_create(
+        &mut self,
+        alloc: Global,
+        header: &TxnHeader,
+        create: &Create,
+    ) -> Result<Outcome, NoMemory>
+        ensures state { OnOk result
+            (self.new ≡ (of_operation header.now (Operation.Create create.now) self.old).state) }
+        ensures answer { IfOk result (λ o.
+            o ≡ answer_of (of_operation header.now (Operation.Create create.now) self.old)) }
+        ensures err { OnErr result (self.new ≡ self.old) }
+    {
+        let created = Trigger::Created(Text::new(alloc, create.path.as_str())?);
+        let changed = Trigger::ChildrenChanged(Text::new(alloc, create.path.parent())?);
+        let err = self.create_node(alloc, header, create)?;
+        Ok(Outcome::of_create_or_delete(alloc, err, created, changed))
+    }
+
+    // Applies a delete that isn't a part of a multi. A refused allocation leaves the tree as it was.
+    #[tactic(auto, using(crate::proofs::Deletes::delete_fires))]
+    fn apply_delete(
+        &mut self,
+        alloc: Global,
+        header: &TxnHeader,
+        path: &str,
+    ) -> Result<Outcome, NoMemory>
+        ensures state { OnOk result
+            (self.new ≡ (of_operation header.now (delete_of path.now) self.old).state) }
+        ensures answer { IfOk result (λ o.
+            o ≡ answer_of (of_operation header.now (delete_of path.now) self.old)) }
+        ensures err { OnErr result (self.new ≡ self.old) }
+    {
+        let deleted = Trigger::Deleted(Text::new(alloc, path)?);
+        let changed = Trigger::ChildrenChanged(Text::new(alloc, parent_of(path))?);
+        let err = self.delete_node(header, path);
+        Ok(Outcome::of_create_or_delete(alloc, err, deleted, changed))
+    }
+
     /// Applies a transaction and returns its outcome.
     ///
     /// A refused allocation leaves a prefix of a multi's parts applied; after a closeSession it leaves the tree
@@ -482,6 +548,12 @@ impl Tree {
         let err = match &txn.body {
             Body::Single(Operation::SetData(body)) => {
                 return self.apply_set_data(alloc, &txn.header, body);
+            }
+            Body::Single(Operation::Create(body)) => {
+                return self.apply_create(alloc, &txn.header, body);
+            }
+            Body::Single(Operation::Delete(body)) => {
+                return self.apply_delete(alloc, &txn.header, body.path.as_str());
             }
             Body::Single(operation) => self.operate(alloc, &txn.header, operation, &mut triggers)?,
             Body::SetAcl(body) => self.set_acl(body)?,

@@ -15,3 +15,13 @@ pub record IsEffectDone (meant : TxnEffect) (error : ℤ) (new : State) (before 
 abbrev pub DoesEffect : TxnEffect → Result ℤ NoMemory → State → State → List Trigger → List Trigger → Type 0
 DoesEffect meant (Ok error) old new before after = IsEffectDone meant error new before after
 DoesEffect meant (Err e) old new before after = new ≡ old
+
+-- The change without its triggers: the error is returned, and the state is left.
+pub record IsChangeDone (meant : TxnEffect) (error : ℤ) (new : State) : Type 0 where
+  pub state : new ≡ meant.state
+  pub err : error ≡ meant.err
+
+-- It was changed; or an allocation was refused, and the state is as it was.
+abbrev pub DoesChange : TxnEffect → Result ℤ NoMemory → State → State → Type 0
+DoesChange meant (Ok error) old new = IsChangeDone meant error new
+DoesChange meant (Err e) old new = new ≡ old
