@@ -9,6 +9,7 @@ ghost use Rattle.std.specs.Map.{keys_of};
 ghost use Rattle.std.specs.Map.Iter.{ShowsInOrder, deref_pair};
 ghost use Rattle.std.specs.Ordering.{eq_by_cmp};
 ghost use Rattle.node_map.specs.declared.node.Node.{Node as TheNode};
+ghost use Rattle.paths_and_acls.specs.Paths.{parent_of};
 ghost use Rattle.node_map.specs.Agreement.{has_node};
 ghost use Rattle.node_map.specs.Stats.{stat_of, children_of};
 ghost use Rattle.data_tree.specs.Making.{with_placed_node};
@@ -230,12 +231,13 @@ impl Tree {
         alloc: Global,
         header: &TxnHeader,
         create: &Create,
+        parent: &str,
     ) -> Result<i32, NoMemory>
+        requires { parent.now ≡ parent_of create.now.path }
         ensures { DoesChange (of_operation header.now (Operation.Create create.now) self.old) result
             self.old self.new }
     {
         let node = Node::created(alloc, header, create)?;
-        let parent = create.path.parent();
         match self
             .nodes
             .add_child(alloc, parent, create.path.name(), header, create)?
@@ -267,9 +269,10 @@ impl Tree {
             self.old self.new triggers.old.items triggers.new.items }
     {
         let before = triggers.len();
+        let parent = create.path.parent();
         let created = Trigger::Created(Text::new(alloc, create.path.as_str())?);
-        fire_with_parent(triggers, alloc, created, create.path.parent())?;
-        let err = self.create_node(alloc, header, create)?;
+        fire_with_parent(triggers, alloc, created, parent)?;
+        let err = self.create_node(alloc, header, create, parent)?;
         if err != 0 {
             triggers.truncate(before);
             return Ok(err);
@@ -298,17 +301,15 @@ impl Tree {
     }
 
     // Changes the nodes as a delete does.
-    fn delete_node(&mut self, header: &TxnHeader, path: &str) -> i32
+    fn delete_node(&mut self, header: &TxnHeader, path: &str, parent: &str) -> i32
+        requires { parent.now ≡ parent_of path.now }
         ensures { IsChangeDone (of_operation header.now (delete_of path.now) self.old) result self.new }
     {
         let Some(node) = self.nodes.remove(path) else {
             self.miss(header, path);
             return NO_NODE;
         };
-        if !self
-            .nodes
-            .remove_child(parent_of(path), name_of(path), header)
-        {
+        if !self.nodes.remove_child(parent, name_of(path), header) {
             return NO_NODE;
         }
         self.ephemerals.remove(node.stat.ephemeral_owner, path);
@@ -327,9 +328,10 @@ impl Tree {
             self.old self.new triggers.old.items triggers.new.items }
     {
         let before = triggers.len();
+        let parent = parent_of(path);
         let deleted = Trigger::Deleted(Text::new(alloc, path)?);
-        fire_with_parent(triggers, alloc, deleted, parent_of(path))?;
-        let err = self.delete_node(header, path);
+        fire_with_parent(triggers, alloc, deleted, parent)?;
+        let err = self.delete_node(header, path, parent);
         if err != 0 {
             triggers.truncate(before);
             return Ok(err);
@@ -509,9 +511,10 @@ impl Tree {
             o ≡ answer_of (of_operation header.now (Operation.Create create.now) self.old)) }
         ensures err { OnErr result (self.new ≡ self.old) }
     {
+        let parent = create.path.parent();
         let created = Trigger::Created(Text::new(alloc, create.path.as_str())?);
-        let changed = Trigger::ChildrenChanged(Text::new(alloc, create.path.parent())?);
-        let err = self.create_node(alloc, header, create)?;
+        let changed = Trigger::ChildrenChanged(Text::new(alloc, parent)?);
+        let err = self.create_node(alloc, header, create, parent)?;
         Ok(Outcome::of_create_or_delete(alloc, err, created, changed))
     }
 
@@ -529,9 +532,10 @@ impl Tree {
             o ≡ answer_of (of_operation header.now (delete_of path.now) self.old)) }
         ensures err { OnErr result (self.new ≡ self.old) }
     {
+        let parent = parent_of(path);
         let deleted = Trigger::Deleted(Text::new(alloc, path)?);
-        let changed = Trigger::ChildrenChanged(Text::new(alloc, parent_of(path))?);
-        let err = self.delete_node(header, path);
+        let changed = Trigger::ChildrenChanged(Text::new(alloc, parent)?);
+        let err = self.delete_node(header, path, parent);
         Ok(Outcome::of_create_or_delete(alloc, err, deleted, changed))
     }
 

@@ -18,7 +18,7 @@ use Rattle.data_tree.proofs.tree.Tree.create_node.Goals as goal
 
 pub returns-in-Taken : goal.returns-in-Taken
 returns-in-Taken c =
-    let parent : c.parent-parent.result.now ≡ parent_of c.args.create.now.path = c.parent-parent.ensures in
+    let parent : c.args.parent.now ≡ parent_of c.args.create.now.path = c.requires in
     let name : c.name.result.now ≡ name_of c.args.create.now.path = c.name.ensures in
     let before : State =
     record { nodes = c.self.inside.nodes; pairs = c.self.inside.ephemerals; sessions = c.self.inside.timeouts } in
@@ -50,8 +50,8 @@ returns-in-Err c =
     let nodes : c.undo_add_child.new.self ≡ c.self.inside.nodes =
     c.undo_add_child.ensures
     ∙ (λ i. update_node ((ap (λ (s : State). s.nodes) kept ∙ c.in_ok-add_child.ensures.state) i)
-    c.parent-parent.result.now (without_added_child ((c.name-in-Err.ensures ∙ sym name) i) c.in-Added.stat))
-    ∙ undone_child c.self.inside.nodes c.parent-parent.result.now c.name.result.now c.args.header.now
+    c.args.parent.now (without_added_child ((c.name-in-Err.ensures ∙ sym name) i) c.in-Added.stat))
+    ∙ undone_child c.self.inside.nodes c.args.parent.now c.name.result.now c.args.header.now
     c.args.create.now c.in-Added.stat
     (sym c.in-Added.is ∙ c.in_ok-add_child.ensures.outcome) in
     (λ i. record { nodes = nodes i; pairs = (kept i).pairs; sessions = (kept i).sessions }) ∙ c.self.view_is

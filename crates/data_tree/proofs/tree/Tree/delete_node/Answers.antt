@@ -43,9 +43,9 @@ returns c =
     deleted-is before c.args.header.now c.args.path.now c.in-Some.node c.remove_child.new.self c.remove-2.new.self
     c.in-Some.ensures.value
     (c.if-not-remove_child.ensures.found
-    ∙ (λ i. is_some (finmap.get (c.in-Some.ensures.removed i) (c.parent_of.ensures i))))
+    ∙ (λ i. is_some (finmap.get (c.in-Some.ensures.removed i) (c.requires i))))
     (c.if-not-remove_child.ensures.state
-    ∙ (λ i. update_node (c.in-Some.ensures.removed i) (c.parent_of.ensures i)
+    ∙ (λ i. update_node (c.in-Some.ensures.removed i) (c.requires i)
     (without_child (c.name_of.ensures i) c.args.header.now)))
     (c.remove-2.ensures
     ∙ (λ i. without_pair c.self.inside.ephemerals (to_z-of_z w64 c.in-Some.node.stat.ephemeral_owner fits i)
